@@ -1,0 +1,14 @@
+-- What an entry leaves in the slices that it was lent (document 01, after the table of refusals): an accepted call writes only its rows
+-- and leaves work slices zero; a refusal changes no slice.
+-- Assumes nothing: these are definitions.
+use mathlib.Core.List.{List, _++_}
+use Prim.Native.Nat.{ℕ}
+use lib.ListN.{length, drop, replicate}
+
+-- the rows stand at the front of the slice, and the rest is as it was
+abbrev pub laid : {A : Type 0} → List A → List A → List A
+laid rows old = rows ++ drop (length rows) old
+
+-- a work slice of the same length, all zero
+abbrev pub cleared : List ℕ → List ℕ
+cleared old = replicate (length old) 0
