@@ -1,0 +1,8 @@
+-- Laws of the definitions, for the proofs of this crate and of those above it.
+pub mod Search
+pub mod Signed
+pub mod Fields
+pub mod Chain
+pub mod Accepts
+pub mod Ordering
+pub mod Table

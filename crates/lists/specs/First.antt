@@ -1,0 +1,21 @@
+-- The first place at which a test holds, and a test that holds at each place of a run.
+-- Assumes nothing: these are definitions.
+use Prim.Native.Nat.{ℕ, zero, suc}
+use mathlib.Core.Bool.{Bool, true, false, cond, _&&_}
+use Rattle.lists.specs.declared.Found.{Found}
+use Rattle.lists.specs.declared.Found.the-variants.{At, Nothing}
+
+-- the first of the n places k, k + 1, .. at which `test` holds
+unfoldable pub firstFrom : (ℕ → Bool) → ℕ → ℕ → Found
+firstFrom test k zero = Nothing
+firstFrom test k (suc n) = cond (test k) (At k) (firstFrom test (suc k) n)
+
+-- `test` holds at each of the n places k, k + 1, ..
+unfoldable pub allFrom : (ℕ → Bool) → ℕ → ℕ → Bool
+allFrom test k zero = true
+allFrom test k (suc n) = test k && allFrom test (suc k) n
+
+-- a search found a place
+abbrev pub isFound : Found → Bool
+isFound (At k) = true
+isFound Nothing = false

@@ -1,0 +1,24 @@
+// Numbers of a list. No signed number crosses a call: functions take a list and a place.
+ghost use mathlib.Core.Path.{_≡_};
+ghost use Prim.Native.Nat.{_<_};
+ghost use lib.ListN.{length};
+ghost use lib.Dec.{T};
+ghost use lib.Signed.{ltZ, nonNeg};
+ghost use Rattle.lists.specs.Signed.{at};
+ghost use Rattle.lists.specs.Records.{naturalAt};
+
+// Whether list[i] < list[j].
+pub fn number_less(list: &[i64], i: usize, j: usize) -> bool
+    requires { ⌜ (i < length (now list)) × (j < length (now list)) ⌝ }
+    ensures { λ r. ⌜ r ≡ ltZ (at (now (list .entry)) i) (at (now (list .entry)) j) ⌝ }
+{
+    list[i] < list[j]
+}
+
+// list[i], which is not negative: an id or a code.
+pub fn natural_at(list: &[i64], i: usize) -> u64
+    requires { ⌜ (i < length (now list)) × T (nonNeg (at (now list) i)) ⌝ }
+    ensures { λ r. ⌜ r ≡ naturalAt (now (list .entry)) i ⌝ }
+{
+    list[i] as u64
+}
