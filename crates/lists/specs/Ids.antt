@@ -51,3 +51,7 @@ pub record IdTable (cs : List ℤ) (keys : List ℕ) : Type 0 where
   pub holds : (k : ℕ) → k < componentCount cs → member (pair (component cs k .id) k) keys ≡ true
   pub place : (i : ℕ) → i < length keys → getD keys i 0 % span < componentCount cs
   pub id : (i : ℕ) → i < length keys → component cs (getD keys i 0 % span) .id ≡ getD keys i 0 / span
+
+-- the keys are the table of ids of some components
+abbrev pub IsIdTable : List ℕ → Type 0
+IsIdTable keys = (cs : List ℤ) × IdTable cs keys
