@@ -4,5 +4,6 @@ pub mod Signed
 pub mod Fields
 pub mod Chain
 pub mod Accepts
+pub mod Small
 pub mod Ordering
 pub mod Table
