@@ -1,13 +1,11 @@
 -- Ids: the list place of an id, ids used twice (refusal 5), and endpoints of port connections (refusal 7).
 -- Assumes nothing: these are definitions.
-use Prim.Native.Nat.{ℕ, _+_, _*_, _/_, _%_, _≤_, _<_}
-use mathlib.Core.Path.{_≡_}
-use mathlib.Core.Bool.{Bool, true, not, _&&_}
-use mathlib.Core.List.{List}
-use lib.ListN.{length, getD}
+use Prim.Native.Nat.{ℕ, zero, suc, _≤_}
+use mathlib.Core.Bool.{Bool, not, _&&_}
+use mathlib.Core.List.{List, [], _∷_, _++_}
 use lib.Dec.{eqb}
 use lib.IntN.{ℤ}
-use Rattle.tables.specs.Order.{Ascending, member}
+use Rattle.tables.specs.Order.{Sorted}
 use Rattle.tables.specs.Pairs.{pair, span}
 use Rattle.lists.specs.Records.{component, portConnection, componentCount, portCount}
 use Rattle.lists.specs.First.{firstFrom, isFound}
@@ -43,11 +41,21 @@ endMissing cs ps k =
 unfoldable pub firstEndMissing : List ℤ → List ℤ → Found
 firstEndMissing cs ps = firstFrom (endMissing cs ps) 0 (portCount ps)
 
--- The table of ids: for each component the pair of its id and its list place, rising.
+-- ---- the table of ids
+
+-- a component's key: the pair of its id and its list place
+abbrev pub idKey : List ℤ → ℕ → ℕ
+idKey cs k = pair (component cs k .id) k
+
+-- the keys of the places below n
+unfoldable pub keysBelow : List ℤ → ℕ → List ℕ
+keysBelow cs zero = []
+keysBelow cs (suc n) = keysBelow cs n ++ (idKey cs n ∷ [])
+
+abbrev pub idKeys : List ℤ → List ℕ
+idKeys cs = keysBelow cs (componentCount cs)
+
+-- the keys of all components, rising
 pub record IdTable (cs : List ℤ) (keys : List ℕ) : Type 0 where
   pub few : componentCount cs ≤ span
-  pub long : length keys ≡ componentCount cs
-  pub rising : Ascending keys
-  pub holds : (k : ℕ) → k < componentCount cs → member (pair (component cs k .id) k) keys ≡ true
-  pub place : (i : ℕ) → i < length keys → getD keys i 0 % span < componentCount cs
-  pub id : (i : ℕ) → i < length keys → component cs (getD keys i 0 % span) .id ≡ getD keys i 0 / span
+  pub sorted : Sorted (idKeys cs) keys
