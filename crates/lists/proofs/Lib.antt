@@ -7,3 +7,4 @@ pub mod Accepts
 pub mod Small
 pub mod Ordering
 pub mod Table
+pub mod Members

@@ -1,15 +1,18 @@
--- Ids: the list place of an id, ids used twice (refusal 5), and endpoints of port connections (refusal 7).
+-- Ids: the list place of an id, ids used twice (refusal 5), endpoints of port connections (refusal 7), the table of ids, and members.
 -- Assumes nothing: these are definitions.
-use Prim.Native.Nat.{ℕ, zero, suc, _≤_}
+use Prim.Native.Nat.{ℕ, zero, suc, _≤_, _<_}
+use mathlib.Core.Path.{_≡_}
 use mathlib.Core.Bool.{Bool, not, _&&_}
 use mathlib.Core.List.{List, [], _∷_, _++_}
-use lib.Dec.{eqb}
+use lib.Dec.{eqb, ltb}
 use lib.IntN.{ℤ}
 use Rattle.tables.specs.Order.{Sorted}
 use Rattle.tables.specs.Pairs.{pair, span}
+use Rattle.sets.specs.Members.{countBelow}
 use Rattle.lists.specs.Records.{component, portConnection, componentCount, portCount}
 use Rattle.lists.specs.First.{firstFrom, isFound}
 use Rattle.lists.specs.declared.Found.{Found}
+use Rattle.lists.specs.declared.Found.the-variants.{Nothing}
 
 -- the first place below n whose component has the id
 unfoldable pub placeBelow : List ℤ → ℕ → ℕ → Found
@@ -59,3 +62,24 @@ idKeys cs = keysBelow cs (componentCount cs)
 pub record IdTable (cs : List ℤ) (keys : List ℕ) : Type 0 where
   pub few : componentCount cs ≤ span
   pub sorted : Sorted (idKeys cs) keys
+
+-- ---- members of a set of components: member k stands for the component with the k-th smallest id, k from 0
+
+-- how many components have an id below `id`
+unfoldable pub smallerIds : List ℤ → ℕ → ℕ
+smallerIds cs id = countBelow (λ k. ltb (component cs k .id) id) (componentCount cs)
+
+-- the member that stands for component k
+abbrev pub memberOf : List ℤ → ℕ → ℕ
+memberOf cs k = smallerIds cs (component cs k .id)
+
+-- r is the list place of the component that member k stands for, where no id is used twice
+pub record MemberPlace (cs : List ℤ) (k r : ℕ) : Type 0 where
+  pub below : r < componentCount cs
+  pub member : firstRepeated cs ≡ Nothing → memberOf cs r ≡ k
+
+-- r is its id
+pub record MemberId (cs : List ℤ) (k r : ℕ) : Type 0 where
+  pub place : ℕ
+  pub stands : MemberPlace cs k place
+  pub id : r ≡ component cs place .id
