@@ -5,5 +5,7 @@ pub mod Fields
 pub mod Chain
 pub mod Accepts
 pub mod Accepted
+pub mod Small
 pub mod Ordering
 pub mod Table
+pub mod Members

@@ -8,6 +8,7 @@ use mathlib.Core.List.{List}
 use lib.ListN.{length}
 use Rattle.lists.specs.Limits.{componentLimit}
 use Rattle.lists.specs.Records.{componentCount, connectionCount}
+use Rattle.lists.proofs.Table.{table-long}
 use Rattle.circuit.specs.Topology.{netKinds, fragmentKinds, joinsOf}
 use Rattle.circuit.specs.Settled.{settledJoins, Ends}
 use Rattle.circuit.proofs.Settling.{joins-settled, ends-settled}
@@ -53,7 +54,7 @@ ends c =
     let ps = s .args .connections .now in
     let first = ends-settled cs ps 0 (sources c) (omega (arith, s .pre .0 .few, sources-long (c .before .before .before))) (c .before .before .before .settle .ensures cs t) in
     let second = ends-settled cs ps 1 (sinks c) (omega (arith, s .pre .0 .few, sinks-long c)) (c .settle2 .ensures cs t) in
-    rw (t .long) (first, second)
+    rw (table-long t) (first, second)
 
 groups-requires : tie.Need-groups-requires
 groups-requires c κs =
@@ -86,16 +87,16 @@ returns : tie.Need-returns
 returns c cs t =
     let settled = first-call c .before .before .before .before .before in
     let ps = start settled .args .connections .now in
-    let few : componentCount cs ≤ componentLimit = omega (arith, t .long, start settled .pre .1 .1 .0) in
+    let few : componentCount cs ≤ componentLimit = omega (arith, table-long t, start settled .pre .1 .1 .0) in
     let same : (top : ℕ) → settledJoins ps (sources settled) (sinks settled) top (connectionCount ps) ≡ joinsOf cs ps top =
     λ top. joins-settled cs ps (sources settled) (sinks settled) top few (settled .before .before .before .settle .ensures cs t) (settled .settle2 .ensures cs t) (connectionCount ps) (omega arith) in
     let nets = first-call c .groups .ensures in
     let fragments = c .before .before .groups2 .ensures in
     record {
-      nets-laid = rw (same netKinds, t .long) at (nets .numbers);
-      fragments-laid = rw (same fragmentKinds, t .long) at (fragments .numbers);
-      net-count = rw (same netKinds, t .long) at (nets .count);
-      fragment-count = rw (same fragmentKinds, t .long) at (fragments .count);
+      nets-laid = rw (same netKinds, table-long t) at (nets .numbers);
+      fragments-laid = rw (same fragmentKinds, table-long t) at (fragments .numbers);
+      net-count = rw (same netKinds, table-long t) at (nets .count);
+      fragment-count = rw (same fragmentKinds, table-long t) at (fragments .count);
     }
 
 pub group-spec : {M : Type 1} → statement M
