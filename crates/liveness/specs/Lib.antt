@@ -1,0 +1,6 @@
+-- What the contracts cite. To be read in this order.
+pub mod Signals
+pub mod Keys
+pub mod Sources
+pub mod Regions
+pub mod Drive

@@ -1,0 +1,2 @@
+// Regions, sources, drive and verdicts of a scene.
+mod signals;
