@@ -1,6 +1,7 @@
 -- What the contracts cite. To be read in this order.
 pub mod Signals
 pub mod Keys
+pub mod Flags
 pub mod Sources
 pub mod Regions
 pub mod Drive
