@@ -2,6 +2,7 @@
 pub mod Signals
 pub mod Keys
 pub mod Flags
+pub mod Seen
 pub mod Sources
 pub mod Regions
 pub mod Drive

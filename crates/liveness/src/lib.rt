@@ -1,4 +1,5 @@
 // Regions, sources, drive and verdicts of a scene.
 mod flags;
+mod inferred;
 mod signals;
 mod sources;
