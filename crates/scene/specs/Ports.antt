@@ -122,20 +122,22 @@ pistonPorts facing = four Input RedstoneSignal ++ (port Output facing Mechanical
 abbrev pub solidPorts : ℕ → List Port
 solidPorts conducts = cond (eqb conducts 1) (four Bidirectional WeakPower ++ upDown Bidirectional WeakPower) []
 
--- By kind; any number that is no kind has no port. A facing of none is North, a support of none is Down.
-unfoldable pub portsFor : ℕ → ℕ → ℕ → ℕ → List Port
-portsFor kind facing support conducts =
+-- each kind's, in the order of the kinds. A facing of none is North, a support of none is Down.
+abbrev pub portsByKind : ℕ → ℕ → ℕ → List (List Port)
+portsByKind facing support conducts =
     let repeater = repeaterPorts (faceOr North facing) in
     let solid = solidPorts conducts in
-    getD
-    (wirePorts                                              -- RedstoneWire
+    wirePorts                                               -- RedstoneWire
     ∷ repeater ∷ repeater                                   -- Repeater, Comparator
     ∷ torchPorts (faceOr Down support)                      -- RedstoneTorch
     ∷ leverPorts ∷ leverPorts ∷ leverPorts ∷ leverPorts     -- Lever, Button, PressurePlate, RedstoneBlock
     ∷ pistonPorts (faceOr North facing)                     -- Piston
     ∷ solid ∷ solid ∷ solid                                 -- Solid, Transparent, RedstoneLamp
-    ∷ [] ∷ [])                                              -- Air
-    kind []
+    ∷ [] ∷ []                                               -- Air
+
+-- a number that is no kind has no port
+unfoldable pub portsFor : ℕ → ℕ → ℕ → ℕ → List Port
+portsFor kind facing support conducts = getD (portsByKind facing support conducts) kind []
 
 abbrev pub portsOf : Component → List Port
 portsOf c = portsFor (c .kind) (c .facing) (c .support) (c .conducts)

@@ -187,8 +187,9 @@ pub fn port_count(kind: u64, facing: u64, support: u64, conducts: u64) -> usize
             5 | 6 => 7,
             _ => 5,
         },
-        3 | 8 => 5,
+        3 => 5,
         4 | 5 | 6 | 7 => 4,
+        8 => 5,
         9 | 10 | 11 => if conducts == 1 { 6 } else { 0 },
         _ => 0,
     }

@@ -1,25 +1,22 @@
+-- `scene::ports::face_or` meets its contract.
+-- Assumes nothing.
 use borrow.Author.Needs.{needs}
+use mathlib.Core.Path.{_≡_, sym, ap, _∙_}
+use Prim.Native.Nat.{ℕ}
 use native.Mathlib.Omega.{arith}
+use Rattle.scene.specs.Ports.{faceOr}
+use Rattle.scene.proofs.Faces.{faceOr-named, faceOr-zero, faceOr-above}
 use Rattle.scene.proofs.ports.face_or.Statement.{statement}
 use Rattle.scene.proofs.ports.face_or.Tie as tie
-use Rattle.scene.proofs.ports.face_or.Reads as reads
-use Rattle.scene.proofs.ports.face_or.Lts as lts
 
--- src/ports.rt:136:18
-cast-result : tie.Need-cast-result
-cast-result c = search needs
-
--- src/ports.rt:132:1
 returns : tie.Need-returns
-returns c = search needs
+returns c = sym (faceOr-named _ _ (omega arith) (omega arith))
 
--- src/ports.rt:132:1
 returns-2 : tie.Need-returns-2
-returns-2 c = search needs
+returns-2 c = let e : c .before .args .face ≡ 0 = omega arith in rw e (sym (faceOr-zero _))
 
--- src/ports.rt:132:1
 returns-3 : tie.Need-returns-3
-returns-3 c = search needs
+returns-3 c = sym (faceOr-above _ _ (omega arith))
 
 pub face-or-spec : {M : Type 1} → statement M
-face-or-spec = tie.close (tie.spec cast-result returns returns-2 returns-3)
+face-or-spec = tie.close (tie.spec (λ c. search needs) returns returns-2 returns-3)

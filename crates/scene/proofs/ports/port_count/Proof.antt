@@ -1,56 +1,58 @@
-use borrow.Author.Needs.{needs}
+-- `scene::ports::port_count` meets its contract: each arm's count is that of its kinds.
+-- Assumes nothing.
+use mathlib.Core.Path.{_≡_, refl, sym}
 use native.Mathlib.Omega.{arith}
+use borrow.Author.Tests.{ne-eqb}
+use Rattle.scene.specs.Ports.{opposite, neither, repeaterPorts, portsFor}
+use Rattle.scene.proofs.Faces.{faceOr-above, repeater-five, repeater-seven, repeater-kind, lever-kind, solid-kind, no-kind}
 use Rattle.scene.proofs.ports.port_count.Statement.{statement}
 use Rattle.scene.proofs.ports.port_count.Tie as tie
-use Rattle.scene.proofs.ports.port_count.Reads as reads
-use Rattle.scene.proofs.ports.port_count.Lts as lts
 
--- src/ports.rt:181:1
-returns : tie.Need-returns
-returns c = search needs
+wire : tie.Need-returns
+unfolding portsFor
+wire c = rw (c .match .keys1)
 
--- src/ports.rt:181:1
-returns-2 : tie.Need-returns-2
-returns-2 c = search needs
+torch : tie.Need-returns-2
+unfolding portsFor
+torch c = rw (c .match .keys2)
 
--- src/ports.rt:181:1
-returns-3 : tie.Need-returns-3
-returns-3 c = search needs
+piston : tie.Need-returns-3
+unfolding portsFor
+piston c = rw (c .match .keys3)
 
--- src/ports.rt:181:1
-returns-4 : tie.Need-returns-4
-returns-4 c = search needs
+upright : tie.Need-returns-4
+upright c = let a = c .before .before .before .before .args in rw (repeater-kind (a .kind) (a .facing) (a .support) (a .conducts) (omega arith) (omega arith)) (sym (repeater-seven (a .facing) (omega arith) (omega arith)))
 
--- src/ports.rt:181:1
-returns-5 : tie.Need-returns-5
-returns-5 c = search needs
+level : tie.Need-returns-5
+level c = let a = c .before .before .before .args in rw (repeater-kind (a .kind) (a .facing) (a .support) (a .conducts) (omega arith) (omega arith)) (sym (repeater-five (a .facing) (omega arith)))
 
--- src/ports.rt:181:1
-returns-6 : tie.Need-returns-6
-returns-6 c = search needs
+unfaced : tie.Need-returns-6
+unfolding opposite neither repeaterPorts
+unfaced c = let a = c .before .before .before .before .args in rw (repeater-kind (a .kind) (a .facing) (a .support) (a .conducts) (omega arith) (omega arith), faceOr-above 1 (a .facing) (omega arith))
 
--- src/ports.rt:181:1
-returns-7 : tie.Need-returns-7
-returns-7 c = search needs
+lever : tie.Need-returns-7
+lever c = let a = c .before .before .before .args in rw (lever-kind (a .kind) (a .facing) (a .support) (a .conducts) (omega arith) (omega arith))
 
--- src/ports.rt:181:1
-returns-8 : tie.Need-returns-8
-returns-8 c = search needs
+conducting : tie.Need-returns-8
+conducting c = let a = c .before .before .before .before .before .args in rw (solid-kind (a .kind) (a .facing) (a .support) (a .conducts) (omega arith) (omega arith), c .if6 .taken)
 
--- src/ports.rt:181:1
-returns-9 : tie.Need-returns-9
-returns-9 c = search needs
+closed : tie.Need-returns-9
+closed c = let a = c .before .before .before .before .before .args in rw (solid-kind (a .kind) (a .facing) (a .support) (a .conducts) (omega arith) (omega arith), ne-eqb _ 1 (c .if6 .left))
+
+none : tie.Need-returns-10
+none c = let a = c .before .before .before .before .args in rw (no-kind (a .kind) (a .facing) (a .support) (a .conducts) (omega arith))
 
 pub port-count-spec : {M : Type 1} → statement M
 port-count-spec =
     tie.close
     (tie.spec
-    returns
-    returns-2
-    returns-3
-    returns-4
-    returns-5
-    returns-6
-    returns-7
-    returns-8
-    returns-9)
+    wire
+    torch
+    piston
+    upright
+    level
+    unfaced
+    lever
+    conducting
+    closed
+    none)

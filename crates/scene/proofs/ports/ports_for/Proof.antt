@@ -1,79 +1,56 @@
+-- `scene::ports::ports_for` meets its contract: each arm's rows are those of its kinds.
+-- Assumes nothing.
 use borrow.Author.Needs.{needs}
+use mathlib.Core.Path.{_≡_, ap, sym, _∙_}
 use native.Mathlib.Omega.{arith}
+use borrow.Author.Tests.{ne-eqb}
+use Rattle.scene.specs.Ports.{portsFor}
+use Rattle.scene.specs.Rows.{rowsOf}
+use Rattle.scene.proofs.Faces.{repeater-kind, lever-kind, solid-kind, no-kind}
 use Rattle.scene.proofs.ports.ports_for.Statement.{statement}
 use Rattle.scene.proofs.ports.ports_for.Tie as tie
-use Rattle.scene.proofs.ports.ports_for.Reads as reads
-use Rattle.scene.proofs.ports.ports_for.Lts as lts
-use Rattle.scene.proofs.ports.face_or.Reads as face-or-reads
-use Rattle.scene.proofs.ports.repeater_ports.Reads as repeater-ports-reads
-use Rattle.scene.proofs.ports.with_face.Reads as with-face-reads
 
--- src/ports.rt:172:34
-face-or-requires : tie.Need-face-or-requires
-face-or-requires c κs = search needs
+wire : tie.Need-returns
+unfolding portsFor
+wire c = rw (c .match .keys1)
 
--- src/ports.rt:172:14
-with-face-requires : tie.Need-with-face-requires
-with-face-requires c κs = search needs
+torch : tie.Need-returns-2
+unfolding portsFor
+torch c = rw (c .before .before .match .keys2, c .with-face .ensures, c .before .face-or .ensures)
 
--- src/ports.rt:174:35
-face-or-requires-2 : tie.Need-face-or-requires-2
-face-or-requires-2 c κs = search needs
+piston : tie.Need-returns-3
+unfolding portsFor
+piston c = rw (c .before .before .match .keys3, c .with-face2 .ensures, c .before .face-or2 .ensures)
 
--- src/ports.rt:174:14
-with-face-requires-2 : tie.Need-with-face-requires-2
-with-face-requires-2 c κs = search needs
+repeater : tie.Need-returns-4
+repeater c = let a = c .before .before .before .args in rw (repeater-kind (a .kind) (a .facing) (a .support) (a .conducts) (omega arith) (omega arith)) (c .repeater-ports .ensures)
 
--- src/ports.rt:171:18
-repeater-ports-requires : tie.Need-repeater-ports-requires
-repeater-ports-requires c κs = search needs
+lever : tie.Need-returns-5
+lever c = let a = c .before .before .before .args in rw (lever-kind (a .kind) (a .facing) (a .support) (a .conducts) (omega arith) (omega arith))
 
--- src/ports.rt:166:1
-returns : tie.Need-returns
-returns c = search needs
+conducting : tie.Need-returns-6
+conducting c = let a = c .before .before .before .before .before .args in rw (solid-kind (a .kind) (a .facing) (a .support) (a .conducts) (omega arith) (omega arith), c .if4 .taken)
 
--- src/ports.rt:166:1
-returns-2 : tie.Need-returns-2
-returns-2 c = search needs
+closed : tie.Need-returns-7
+closed c = let a = c .before .before .before .before .before .args in rw (solid-kind (a .kind) (a .facing) (a .support) (a .conducts) (omega arith) (omega arith), ne-eqb _ 1 (c .if4 .left))
 
--- src/ports.rt:166:1
-returns-3 : tie.Need-returns-3
-returns-3 c = search needs
-
--- src/ports.rt:166:1
-returns-4 : tie.Need-returns-4
-returns-4 c = search needs
-
--- src/ports.rt:166:1
-returns-5 : tie.Need-returns-5
-returns-5 c = search needs
-
--- src/ports.rt:166:1
-returns-6 : tie.Need-returns-6
-returns-6 c = search needs
-
--- src/ports.rt:166:1
-returns-7 : tie.Need-returns-7
-returns-7 c = search needs
-
--- src/ports.rt:166:1
-returns-8 : tie.Need-returns-8
-returns-8 c = search needs
+none : tie.Need-returns-8
+none c = let a = c .before .before .before .before .args in rw (no-kind (a .kind) (a .facing) (a .support) (a .conducts) (omega arith))
 
 pub ports-for-spec : {M : Type 1} → statement M
 ports-for-spec =
     tie.close
     (tie.spec
-    face-or-requires
-    with-face-requires
-    face-or-requires-2
-    with-face-requires-2
-    repeater-ports-requires
-    returns
-    returns-2
-    returns-3
-    returns-4
-    returns-5
-    returns-6
-    returns-7
-    returns-8)
+    (λ c κs. search needs)
+    (λ c κs. search needs)
+    (λ c κs. search needs)
+    (λ c κs. search needs)
+    (λ c κs. search needs)
+    wire
+    torch
+    piston
+    repeater
+    lever
+    conducting
+    closed
+    none)

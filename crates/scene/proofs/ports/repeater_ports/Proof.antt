@@ -1,102 +1,57 @@
+-- `scene::ports::repeater_ports` meets its contract: each arm's rows are those of its facing.
+-- Assumes nothing.
 use borrow.Author.Needs.{needs}
-use native.Mathlib.Omega.{arith}
+use mathlib.Core.Path.{_≡_}
+use Rattle.scene.specs.Ports.{opposite, faceOr, neither, repeaterPorts}
+use Rattle.scene.proofs.Faces.{north-faced}
 use Rattle.scene.proofs.ports.repeater_ports.Statement.{statement}
 use Rattle.scene.proofs.ports.repeater_ports.Tie as tie
-use Rattle.scene.proofs.ports.repeater_ports.Reads as reads
-use Rattle.scene.proofs.ports.repeater_ports.Lts as lts
-use Rattle.scene.proofs.ports.with_face.Reads as with-face-reads
 
--- src/ports.rt:156:24
-with-face-requires : tie.Need-with-face-requires
-with-face-requires c κs = search needs
+east : tie.Need-returns
+unfolding opposite faceOr neither repeaterPorts
+east c = rw (c .before .before .match .keys1, c .with-face2 .ensures, c .before .with-face .ensures)
 
--- src/ports.rt:156:14
-with-face-requires-2 : tie.Need-with-face-requires-2
-with-face-requires-2 c κs = search needs
+south : tie.Need-returns-2
+unfolding opposite faceOr neither repeaterPorts
+south c = rw (c .before .before .match .keys2, c .with-face4 .ensures, c .before .with-face3 .ensures)
 
--- src/ports.rt:157:24
-with-face-requires-3 : tie.Need-with-face-requires-3
-with-face-requires-3 c κs = search needs
+west : tie.Need-returns-3
+unfolding opposite faceOr neither repeaterPorts
+west c = rw (c .before .before .match .keys3, c .with-face6 .ensures, c .before .with-face5 .ensures)
 
--- src/ports.rt:157:14
-with-face-requires-4 : tie.Need-with-face-requires-4
-with-face-requires-4 c κs = search needs
+up : tie.Need-returns-4
+unfolding opposite faceOr neither repeaterPorts
+up c = rw (c .before .before .match .keys4, c .with-face8 .ensures, c .before .with-face7 .ensures)
 
--- src/ports.rt:158:24
-with-face-requires-5 : tie.Need-with-face-requires-5
-with-face-requires-5 c κs = search needs
+down : tie.Need-returns-5
+unfolding opposite faceOr neither repeaterPorts
+down c = rw (c .before .before .match .keys5, c .with-face10 .ensures, c .before .with-face9 .ensures)
 
--- src/ports.rt:158:14
-with-face-requires-6 : tie.Need-with-face-requires-6
-with-face-requires-6 c κs = search needs
-
--- src/ports.rt:159:24
-with-face-requires-7 : tie.Need-with-face-requires-7
-with-face-requires-7 c κs = search needs
-
--- src/ports.rt:159:14
-with-face-requires-8 : tie.Need-with-face-requires-8
-with-face-requires-8 c κs = search needs
-
--- src/ports.rt:160:24
-with-face-requires-9 : tie.Need-with-face-requires-9
-with-face-requires-9 c κs = search needs
-
--- src/ports.rt:160:14
-with-face-requires-10 : tie.Need-with-face-requires-10
-with-face-requires-10 c κs = search needs
-
--- src/ports.rt:161:24
-with-face-requires-11 : tie.Need-with-face-requires-11
-with-face-requires-11 c κs = search needs
-
--- src/ports.rt:161:14
-with-face-requires-12 : tie.Need-with-face-requires-12
-with-face-requires-12 c κs = search needs
-
--- src/ports.rt:152:1
-returns : tie.Need-returns
-returns c = search needs
-
--- src/ports.rt:152:1
-returns-2 : tie.Need-returns-2
-returns-2 c = search needs
-
--- src/ports.rt:152:1
-returns-3 : tie.Need-returns-3
-returns-3 c = search needs
-
--- src/ports.rt:152:1
-returns-4 : tie.Need-returns-4
-returns-4 c = search needs
-
--- src/ports.rt:152:1
-returns-5 : tie.Need-returns-5
-returns-5 c = search needs
-
--- src/ports.rt:152:1
-returns-6 : tie.Need-returns-6
-returns-6 c = search needs
+north : tie.Need-returns-6
+unfolding opposite neither repeaterPorts
+north c =
+    let r = c .before .before .match .rest in
+    rw (north-faced _ (r .0 .0 .0 .0 .1) (r .0 .0 .0 .1) (r .0 .0 .1) (r .0 .1) (r .1), c .with-face12 .ensures, c .before .with-face11 .ensures)
 
 pub repeater-ports-spec : {M : Type 1} → statement M
 repeater-ports-spec =
     tie.close
     (tie.spec
-    with-face-requires
-    with-face-requires-2
-    with-face-requires-3
-    with-face-requires-4
-    with-face-requires-5
-    with-face-requires-6
-    with-face-requires-7
-    with-face-requires-8
-    with-face-requires-9
-    with-face-requires-10
-    with-face-requires-11
-    with-face-requires-12
-    returns
-    returns-2
-    returns-3
-    returns-4
-    returns-5
-    returns-6)
+    (λ c κs. search needs)
+    (λ c κs. search needs)
+    (λ c κs. search needs)
+    (λ c κs. search needs)
+    (λ c κs. search needs)
+    (λ c κs. search needs)
+    (λ c κs. search needs)
+    (λ c κs. search needs)
+    (λ c κs. search needs)
+    (λ c κs. search needs)
+    (λ c κs. search needs)
+    (λ c κs. search needs)
+    east
+    south
+    west
+    up
+    down
+    north)

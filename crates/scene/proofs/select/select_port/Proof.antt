@@ -1,57 +1,64 @@
+-- `scene::select::select_port` meets its contract: what is left to search below the count has the answer.
+-- Assumes nothing.
 use borrow.Author.Needs.{needs}
+use mathlib.Core.Path.{_≡_, sym, ap, _∙_}
+use mathlib.Core.Bool.{Bool}
+use mathlib.Core.List.{List}
+use Prim.Native.Nat.{ℕ, _-_, _<_}
 use native.Mathlib.Omega.{arith}
+use lib.ListN.{length}
+use Rattle.lists.specs.First.{firstFrom}
+use Rattle.lists.proofs.Search.{first-here, first-later, first-none}
+use Rattle.scene.specs.Rows.{portsIn}
+use Rattle.scene.specs.Select.{serves, portAt, selectPort}
+use Rattle.scene.proofs.Places.{ports-long, port-at}
 use Rattle.scene.proofs.select.select_port.Statement.{statement}
 use Rattle.scene.proofs.select.select_port.Tie as tie
-use Rattle.scene.proofs.select.select_port.Reads as reads
-use Rattle.scene.proofs.select.select_port.Lts as lts
-use Rattle.scene.proofs.select.least.Reads as least-reads
-use Rattle.scene.proofs.select.port_serves.Reads as port-serves-reads
+
+-- port k serves
+abbrev test : List (List ℕ) → ℕ → ℕ → Bool → ℕ → ℕ → Bool
+test ports count face outgoing kind k = serves (portAt (portsIn ports count) k) face outgoing kind
 
 abbrev Inv-loop : tie.InvT-loop
-Inv-loop count face outgoing kind ports end i₀ i = ?
+Inv-loop count face outgoing kind ports end i₀ i =
+    firstFrom (test ports count face outgoing kind) i (end - i) ≡ selectPort (portsIn ports count) face outgoing kind
 
 abbrev μ-loop : tie.MeasureT-loop
-μ-loop count face outgoing kind ports end i₀ i = ?
+μ-loop count face outgoing kind ports end i₀ i = end - i
 
--- src/select.rt:64:9
-least-requires : tie.Need-least-requires Inv-loop μ-loop
-least-requires c κs = search needs
+long : (s : tie.Start Inv-loop μ-loop) → length (s .args .t1) ≡ 7
+long s = search needs
 
--- src/select.rt:66:5
 loop-holds : tie.Need-loop-holds Inv-loop μ-loop
-loop-holds c = search needs
+unfolding selectPort
+loop-holds c =
+    let s = c .before in
+    let e : c .least .result - 0 ≡ length (portsIn (s .args .t1) (s .args .count)) = omega (arith, ports-long (s .args .t1) (s .args .count), long s, c .least .ensures) in
+    rw e
 
--- src/select.rt:67:24
-mul-port-serves : tie.Need-mul-port-serves Inv-loop μ-loop
-mul-port-serves c = search needs
+-- what the call says of the port at i
+tested : (c : tie.After-port-serves Inv-loop μ-loop)
+    → let l = c .before .before .before in
+    let s = l .before .before in
+    c .port-serves .result ≡ test (s .args .t1) (s .args .count) (s .args .face) (s .args .outgoing) (s .args .kind) (l .loop .i)
+tested c =
+    let l = c .before .before .before in
+    let s = l .before .before in
+    let below : l .loop .i < s .args .count = omega (arith, l .before .least .ensures, c .before .before .loop-test .taken) in
+    cc (c .port-serves .ensures, port-at (s .args .t1) (s .args .count) (l .loop .i) below)
 
--- src/select.rt:67:24
-array-copy-out-port-serves : tie.Need-array-copy-out-port-serves Inv-loop μ-loop
-array-copy-out-port-serves c = search needs
-
--- src/select.rt:67:12
-port-serves-requires : tie.Need-port-serves-requires Inv-loop μ-loop
-port-serves-requires c κs = search needs
-
--- src/select.rt:68:13
 returns : tie.Need-returns Inv-loop μ-loop
-returns c = search needs
+returns c =
+    let b = c .before in
+    sym (first-here _ _ _ (b .before .before .loop-test .taken) (sym (tested b) ∙ c .if1 .taken)) ∙ b .before .before .before .loop .inv
 
--- src/select.rt:70:9
-add-i : tie.Need-add-i Inv-loop μ-loop
-add-i c = search needs
-
--- src/select.rt:66:5
-loop-less : tie.Need-loop-less Inv-loop μ-loop
-loop-less c = search needs
-
--- src/select.rt:66:5
 loop-again : tie.Need-loop-again Inv-loop μ-loop
-loop-again c = search needs
+loop-again c =
+    let b = c .before in
+    sym (first-later _ _ _ (b .before .before .loop-test .taken) (sym (tested b) ∙ c .if1 .left)) ∙ b .before .before .before .loop .inv
 
--- src/select.rt:55:1
 returns-2 : tie.Need-returns-2 Inv-loop μ-loop
-returns-2 c = search needs
+returns-2 c = sym (first-none _ _ _ (c .loop-test .left)) ∙ c .before .loop .inv
 
 pub select-port-spec : {M : Type 1} → statement M
 select-port-spec =
@@ -59,13 +66,13 @@ select-port-spec =
     (tie.spec
     Inv-loop
     μ-loop
-    least-requires
+    (λ c κs. search needs)
     loop-holds
-    mul-port-serves
-    array-copy-out-port-serves
-    port-serves-requires
+    (λ c. search needs)
+    (λ c. search needs)
+    (λ c κs. search needs)
     returns
-    add-i
-    loop-less
+    (λ c. search needs)
+    (λ c. omega arith)
     loop-again
     returns-2)

@@ -1,25 +1,20 @@
+-- `scene::select::transfer_of` meets its contract.
+-- Assumes nothing.
 use borrow.Author.Needs.{needs}
-use native.Mathlib.Omega.{arith}
+use mathlib.Core.Path.{refl, sym}
+use mathlib.Core.List.{[], _∷_}
+use lib.ListN.{List·getD-eq-default}
+use Rattle.scene.specs.Select.{transferOf}
 use Rattle.scene.proofs.select.transfer_of.Statement.{statement}
 use Rattle.scene.proofs.select.transfer_of.Tie as tie
-use Rattle.scene.proofs.select.transfer_of.Reads as reads
-use Rattle.scene.proofs.select.transfer_of.Lts as lts
 
--- src/select.rt:82:9
-mul-result : tie.Need-mul-result
-mul-result c = search needs
-
--- src/select.rt:82:9
-array-read-result : tie.Need-array-read-result
-array-read-result c = search needs
-
--- src/select.rt:78:1
 returns : tie.Need-returns
-returns c = search needs
+unfolding transferOf
+returns c = refl
 
--- src/select.rt:78:1
 returns-2 : tie.Need-returns-2
-returns-2 c = search needs
+unfolding transferOf
+returns-2 c = sym (List·getD-eq-default (0 ∷ 0 ∷ 0 ∷ 2 ∷ 3 ∷ 4 ∷ 4 ∷ 1 ∷ 5 ∷ 6 ∷ []) 0 {n = c .before .args .kind} (c .if1 .left))
 
 pub transfer-of-spec : {M : Type 1} → statement M
-transfer-of-spec = tie.close (tie.spec mul-result array-read-result returns returns-2)
+transfer-of-spec = tie.close (tie.spec (λ c. search needs) (λ c. search needs) returns returns-2)

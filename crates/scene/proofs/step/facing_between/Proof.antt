@@ -1,38 +1,29 @@
+-- `scene::step::facing_between` meets its contract.
+-- Assumes nothing.
 use borrow.Author.Needs.{needs}
-use native.Mathlib.Omega.{arith}
+use mathlib.Core.Path.{_≡_, sym, _∙_}
+use mir.Syntax.{w64}
+use mir.Facts.{toZ-ofZ}
+use Rattle.scene.specs.Step.{faceOf, shiftBetween}
+use Rattle.scene.proofs.Steps.{facing-by-shifts}
 use Rattle.scene.proofs.step.facing_between.Statement.{statement}
 use Rattle.scene.proofs.step.facing_between.Tie as tie
-use Rattle.scene.proofs.step.facing_between.Reads as reads
-use Rattle.scene.proofs.step.facing_between.Lts as lts
-use Rattle.scene.proofs.step.face_of.Reads as face-of-reads
-use Rattle.scene.proofs.step.shift_between.Reads as shift-between-reads
 
--- src/step.rt:82:9
-shift-between-requires : tie.Need-shift-between-requires
-shift-between-requires c κs = search needs
-
--- src/step.rt:83:9
-shift-between-requires-2 : tie.Need-shift-between-requires-2
-shift-between-requires-2 c κs = search needs
-
--- src/step.rt:84:9
-shift-between-requires-3 : tie.Need-shift-between-requires-3
-shift-between-requires-3 c κs = search needs
-
--- src/step.rt:81:5
-face-of-requires : tie.Need-face-of-requires
-face-of-requires c κs = search needs
-
--- src/step.rt:78:1
 returns : tie.Need-returns
-returns c = search needs
+returns c =
+    let s = c .before .before .before .before in
+    let a = s .args in
+    let f = s .fits in
+    let e : c .face-of .result ≡ faceOf (shiftBetween (a .x) (a .to-x)) (shiftBetween (a .y) (a .to-y)) (shiftBetween (a .z) (a .to-z)) =
+    cc (toZ-ofZ {w = w64} (f .x), toZ-ofZ {w = w64} (f .y), toZ-ofZ {w = w64} (f .z), toZ-ofZ {w = w64} (f .to-x), toZ-ofZ {w = w64} (f .to-y), toZ-ofZ {w = w64} (f .to-z)) in
+    e ∙ sym (facing-by-shifts (a .x) (a .y) (a .z) (a .to-x) (a .to-y) (a .to-z))
 
 pub facing-between-spec : {M : Type 1} → statement M
 facing-between-spec =
     tie.close
     (tie.spec
-    shift-between-requires
-    shift-between-requires-2
-    shift-between-requires-3
-    face-of-requires
+    (λ c κs. search needs)
+    (λ c κs. search needs)
+    (λ c κs. search needs)
+    (λ c κs. search needs)
     returns)

@@ -1,38 +1,39 @@
-use borrow.Author.Needs.{needs}
+-- `scene::step::opposite_face` meets its contract.
+-- Assumes nothing.
 use native.Mathlib.Omega.{arith}
+use Rattle.scene.specs.Ports.{opposite}
+use Rattle.scene.proofs.Faces.{opposite-none}
 use Rattle.scene.proofs.step.opposite_face.Statement.{statement}
 use Rattle.scene.proofs.step.opposite_face.Tie as tie
-use Rattle.scene.proofs.step.opposite_face.Reads as reads
-use Rattle.scene.proofs.step.opposite_face.Lts as lts
 
--- src/step.rt:89:1
-returns : tie.Need-returns
-returns c = search needs
+north : tie.Need-returns
+unfolding opposite
+north c = rw (c .match .keys1)
 
--- src/step.rt:89:1
-returns-2 : tie.Need-returns-2
-returns-2 c = search needs
+east : tie.Need-returns-2
+unfolding opposite
+east c = rw (c .match .keys2)
 
--- src/step.rt:89:1
-returns-3 : tie.Need-returns-3
-returns-3 c = search needs
+south : tie.Need-returns-3
+unfolding opposite
+south c = rw (c .match .keys3)
 
--- src/step.rt:89:1
-returns-4 : tie.Need-returns-4
-returns-4 c = search needs
+west : tie.Need-returns-4
+unfolding opposite
+west c = rw (c .match .keys4)
 
--- src/step.rt:89:1
-returns-5 : tie.Need-returns-5
-returns-5 c = search needs
+up : tie.Need-returns-5
+unfolding opposite
+up c = rw (c .match .keys5)
 
--- src/step.rt:89:1
-returns-6 : tie.Need-returns-6
-returns-6 c = search needs
+down : tie.Need-returns-6
+unfolding opposite
+down c = rw (c .match .keys6)
 
--- src/step.rt:89:1
-returns-7 : tie.Need-returns-7
-returns-7 c = search needs
+none : tie.Need-returns-7
+none c =
+    let r = c .match .rest in
+    opposite-none (c .before .args .face) (r .0 .0 .0 .0 .0 .1) (r .0 .0 .0 .0 .1) (r .0 .0 .0 .1) (r .0 .0 .1) (r .0 .1) (r .1)
 
 pub opposite-face-spec : {M : Type 1} → statement M
-opposite-face-spec =
-    tie.close (tie.spec returns returns-2 returns-3 returns-4 returns-5 returns-6 returns-7)
+opposite-face-spec = tie.close (tie.spec north east south west up down none)

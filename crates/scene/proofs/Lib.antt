@@ -1,0 +1,4 @@
+-- Laws of the definitions, for the proofs of this crate and of those above it.
+pub mod Faces
+pub mod Steps
+pub mod Places
