@@ -2,3 +2,7 @@
 pub mod Faces
 pub mod Steps
 pub mod Places
+pub mod Transfers
+pub mod Sound
+pub mod Links
+pub mod Writes

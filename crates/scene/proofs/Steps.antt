@@ -3,6 +3,7 @@
 --     diff-fits              the difference of two coordinates fits
 --     range-abs              the size of a coordinate
 --     facing-by-shifts       the face of a step, an axis at a time
+--     facing-same            the same of equal numbers
 -- Assumes nothing.
 use mathlib.Core.Path.{_≡_, refl, sym, ap, _∙_}
 use mathlib.Core.Bool.{Bool, true, false, cond, _&&_}
@@ -95,3 +96,7 @@ unfolding facingBetween shiftBetween
 facing-by-shifts x y z x′ y′ z′ =
     by-axis (isCoordinate x) (isCoordinate y) (isCoordinate z) (isCoordinate x′) (isCoordinate y′) (isCoordinate z′)
     (shift (x′ -ℤ x)) (shift (y′ -ℤ y)) (shift (z′ -ℤ z))
+
+pub facing-same : {x y z x′ y′ z′ a b c a′ b′ c′ : ℤ} → x ≡ a → y ≡ b → z ≡ c → x′ ≡ a′ → y′ ≡ b′ → z′ ≡ c′
+    → facingBetween x y z x′ y′ z′ ≡ facingBetween a b c a′ b′ c′
+facing-same p q r p′ q′ r′ = cc

@@ -13,14 +13,14 @@ use Rattle.lists.specs.declared.Refusal.{Refusal}
 use Rattle.lists.specs.declared.Checked.{Checked}
 use Rattle.lists.specs.declared.Checked.the-variants as checked
 use Rattle.scene.specs.Kept.{keptRows, keptCount}
-use Rattle.scene.specs.declared.kept.Selected.{Selected}
-use Rattle.scene.specs.declared.kept.Selected.the-variants.{Kept, Refused}
+use Rattle.scene.specs.declared.connections.Selected.{Selected}
+use Rattle.scene.specs.declared.connections.Selected.the-variants.{Kept, Refused}
 
 -- ---- what the code writes on the way
 
 -- the row stands at a place of the slice, and the rest is as it was
 pub record Put (row : List ℤ) (at : ℕ) (out out′ : List ℤ) : Type 0 where
-  pub wrote : out′ ≡ take at out ++ (row ++ drop (at + length row) out)
+  pub wrote : out′ ≡ take at out ++ row ++ drop (at + length row) out
 
 -- the rows stand after those before, and there are r then
 pub record Filled (rows : List ℤ) (before : ℕ) (out out′ : List ℤ) (r : ℕ) : Type 0 where

@@ -15,8 +15,8 @@ use Rattle.lists.specs.declared.Found.the-variants.{At, Nothing}
 use Rattle.scene.specs.Ports.{NoFace, opposite, portsOf}
 use Rattle.scene.specs.Step.{stepFace}
 use Rattle.scene.specs.Select.{selectPort, transferOf}
-use Rattle.scene.specs.declared.kept.Link.{Link}
-use Rattle.scene.specs.declared.kept.Link.the-variants.{Ports, Dropped}
+use Rattle.scene.specs.declared.connections.Link.{Link}
+use Rattle.scene.specs.declared.connections.Link.the-variants.{Ports, Dropped}
 
 -- a port at each end
 abbrev pub bothPorts : Found → Found → Link
