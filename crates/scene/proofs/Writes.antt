@@ -8,10 +8,10 @@
 use mathlib.Core.Path.{_≡_, refl, sym, ap, _∙_}
 use mathlib.Core.List.{List, [], _∷_, _++_, map, append-nil, map-append}
 use Prim.Native.Nat.{ℕ, _+_, _*_, _≤_, _<_}
-use native.Mathlib.Nat.{add-zero, zero-add}
+use native.Mathlib.Nat.{add-zero}
 use native.Mathlib.Numerals.{add-one, add-two, add-three, add-four}
 use native.Mathlib.Omega.{arith}
-use lib.ListN.{length, take, drop, set, length-append, take-append-drop}
+use lib.ListN.{length, take, drop, set, length-append, length-map, take-append-drop}
 use lib.Seq.{sets, sets-eq, take-append-seam, drop-append-add, drop-drop}
 use lib.IntN.{ℤ, pos, natAbs}
 use lib.Dec.{T}
@@ -22,8 +22,8 @@ use mir.Facts.{toZ-ofZ}
 use Rattle.lists.specs.Limits.{portWidth}
 use Rattle.lists.specs.Records.{Connection, connection, connectionCount}
 use Rattle.lists.specs.Slices.{laid}
-use Rattle.scene.specs.Kept.{linkOf, rowBy, keptRow, rowsBelow, keptRows}
-use Rattle.scene.specs.Answer.{Put, Filled}
+use Rattle.scene.specs.Kept.{linkOf, rowBy, keptRow, rowsBelow}
+use Rattle.scene.specs.Answer.{Put, Filled, AllKept}
 use Rattle.scene.specs.declared.connections.Link.{Link}
 use Rattle.scene.specs.declared.connections.Link.the-variants.{Ports, Dropped}
 
@@ -82,7 +82,10 @@ one-laid cs ps old out out′ count k r h same i f =
       within = omega arith;
     }
 
-pub all-laid : (cs ps old out : List ℤ) (count k : ℕ) → connectionCount ps ≤ k → Laid cs ps old out count k → Filled (map pos (keptRows cs ps)) 0 old out count
+pub all-laid : (cs ps old out : List ℤ) (count k : ℕ) → connectionCount ps ≤ k → Laid cs ps old out count k → AllKept cs ps old out count
 all-laid cs ps old out count k h i =
     let e : connectionCount ps ≡ k = omega (arith, i .within) in
-    rw e (record { put = record { wrote = rw zero-add (i .rows) }; count = omega (arith, i .full) })
+    record {
+      rows = rw e (i .rows);
+      count = rw e (omega (arith, i .full, length-map (rowsBelow cs ps k) pos));
+    }

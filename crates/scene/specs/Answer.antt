@@ -27,6 +27,11 @@ pub record Filled (rows : List ℤ) (before : ℕ) (out out′ : List ℤ) (r : 
   pub put : Put rows (before * portWidth) out out′
   pub count : r * portWidth ≡ before * portWidth + length rows
 
+-- all that is kept stands at the front, and r says how many rows these are
+pub record AllKept (cs ps out out′ : List ℤ) (r : ℕ) : Type 0 where
+  pub rows : out′ ≡ laid (map pos (keptRows cs ps)) out
+  pub count : r ≡ keptCount cs ps
+
 -- ---- what the entry answers
 
 -- number, list, item

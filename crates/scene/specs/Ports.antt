@@ -127,13 +127,13 @@ abbrev pub portsByKind : ℕ → ℕ → ℕ → List (List Port)
 portsByKind facing support conducts =
     let repeater = repeaterPorts (faceOr North facing) in
     let solid = solidPorts conducts in
-    wirePorts                                               -- RedstoneWire
-    ∷ repeater ∷ repeater                                   -- Repeater, Comparator
-    ∷ torchPorts (faceOr Down support)                      -- RedstoneTorch
-    ∷ leverPorts ∷ leverPorts ∷ leverPorts ∷ leverPorts     -- Lever, Button, PressurePlate, RedstoneBlock
-    ∷ pistonPorts (faceOr North facing)                     -- Piston
-    ∷ solid ∷ solid ∷ solid                                 -- Solid, Transparent, RedstoneLamp
-    ∷ [] ∷ []                                               -- Air
+    wirePorts  -- RedstoneWire
+    ∷ repeater ∷ repeater  -- Repeater, Comparator
+    ∷ torchPorts (faceOr Down support)  -- RedstoneTorch
+    ∷ leverPorts ∷ leverPorts ∷ leverPorts ∷ leverPorts  -- Lever, Button, PressurePlate, RedstoneBlock
+    ∷ pistonPorts (faceOr North facing)  -- Piston
+    ∷ solid ∷ solid ∷ solid  -- Solid, Transparent, RedstoneLamp
+    ∷ [] ∷ []  -- Air
 
 -- a number that is no kind has no port
 unfoldable pub portsFor : ℕ → ℕ → ℕ → ℕ → List Port

@@ -29,8 +29,8 @@ ghost use Rattle.scene.specs.Ports.{portsOf};
 ghost use Rattle.scene.specs.Rows.{portPlaces};
 ghost use Rattle.scene.specs.Step.{stepFace};
 ghost use Rattle.scene.specs.Select.{selectPort};
-ghost use Rattle.scene.specs.Kept.{portsBetween, linkOf, rowBy, keptRow, keptRows};
-ghost use Rattle.scene.specs.Answer.{Put, Filled, Answered};
+ghost use Rattle.scene.specs.Kept.{portsBetween, linkOf, rowBy, keptRow};
+ghost use Rattle.scene.specs.Answer.{Put, Filled, AllKept, Answered};
 
 // The ports that a connection takes at its ends, or none.
 pub enum Link {
@@ -176,7 +176,7 @@ fn keep_all(components: &[i64], keys: &[u64], connections: &[i64], out: &mut [i6
     requires { ⌜ IdTable (now components) (now keys) ⌝ }
     requires { ⌜ Connections (now connections) ⌝ }
     requires { ⌜ connectionCount (now connections) * portWidth ≤ length (now out) ⌝ }
-    ensures { λ r. ⌜ Filled (map pos (keptRows (now (components .entry)) (now (connections .entry)))) 0 (now (out .entry)) (now (out .exit)) r ⌝ }
+    ensures { λ r. ⌜ AllKept (now (components .entry)) (now (connections .entry)) (now (out .entry)) (now (out .exit)) r ⌝ }
 {
     let connection_count = connections.len() / CONNECTION;
     let mut count: usize = 0;

@@ -12,26 +12,39 @@ pub const PORTS: usize = 7;
 // ---- roles
 
 pub const INPUT: u8 = 0;
+
 pub const OUTPUT: u8 = 1;
+
 pub const BIDIRECTIONAL: u8 = 2;
+
 pub const CONTROL: u8 = 3;
+
 pub const SUPPORT: u8 = 4;
 
 // ---- channels
 
 pub const REDSTONE_SIGNAL: u8 = 0;
+
 pub const WEAK_POWER: u8 = 1;
+
 pub const STRONG_POWER: u8 = 2;
+
 pub const MECHANICAL: u8 = 3;
+
 pub const STRUCTURAL: u8 = 4;
 
 // ---- faces
 
 pub const NORTH: u8 = 1;
+
 pub const EAST: u8 = 2;
+
 pub const SOUTH: u8 = 3;
+
 pub const WEST: u8 = 4;
+
 pub const UP: u8 = 5;
+
 pub const DOWN: u8 = 6;
 
 // The face that a component decides.

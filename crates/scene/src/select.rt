@@ -14,6 +14,7 @@ ghost use Rattle.scene.specs.Select.{fits, serves, selectPort, transferO
 // ---- kinds of connection
 
 pub const CONTROL_KIND: u64 = 8;
+
 pub const SUPPORT_KIND: u64 = 9;
 
 fn wide(x: u8) -> u64
