@@ -6,3 +6,5 @@ pub mod Transfers
 pub mod Sound
 pub mod Links
 pub mod Writes
+pub mod KeptEnds
+pub mod KeptWithin

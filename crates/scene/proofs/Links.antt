@@ -4,26 +4,25 @@
 --     Linked, linked                    both ends are components, their ports are below seven, and the kind is not Support
 -- Assumes nothing.
 use mathlib.Core.Path.{_≡_, refl, sym, ap, _∙_}
-use mathlib.Core.Bool.{Bool, true, false, cond, _&&_}
+use mathlib.Core.Bool.{Bool, true, false, cond}
 use mathlib.Core.List.{List}
-use Prim.Native.Nat.{ℕ, _≤_, _<_}
+use Prim.Native.Nat.{ℕ, _<_}
 use native.Mathlib.Omega.{arith}
 use lib.Dec.{eqb}
 use lib.ListN.{length}
 use lib.IntN.{ℤ}
-use borrow.Author.Tests.{eqb-true, eqb-false, eq-eqb, ne-eqb}
+use borrow.Author.Tests.{eqb-true, ne-eqb}
 use Rattle.lists.specs.First.{isFound}
 use Rattle.lists.specs.Records.{Component, Connection, component, componentCount}
 use Rattle.lists.specs.Ids.{placeBelow, placeOf, hasComponent}
 use Rattle.lists.specs.declared.Found.{Found}
 use Rattle.lists.specs.declared.Found.the-variants.{At, Nothing}
-use Rattle.lists.proofs.Search.{FoundAt, found-at, both}
-use Rattle.scene.specs.Ports.{NoFace, Down, Structural, opposite, Port, portsOf}
+use Rattle.lists.proofs.Search.{found-at, both}
+use Rattle.scene.specs.Ports.{NoFace, Down, Structural, opposite, portsOf}
 use Rattle.scene.specs.Rows.{portPlaces}
 use Rattle.scene.specs.Step.{stepFace}
 use Rattle.scene.specs.Select.{supportKind, fits, serves, portAt, selectPort}
 use Rattle.scene.specs.Kept.{bothPorts, portsBetween, linkBetween, linkOf}
-use Rattle.scene.specs.declared.connections.Link.{Link}
 use Rattle.scene.specs.declared.connections.Link.the-variants.{Ports, Dropped}
 use Rattle.scene.proofs.Sound.{ports-few, structural-down}
 

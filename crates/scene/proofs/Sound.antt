@@ -1,7 +1,7 @@
 -- What holds of every component's ports: there are at most seven, and Structural ones face Down only.
 -- Assumes nothing.
-use mathlib.Core.Path.{_≡_, refl, sym, _∙_}
-use mathlib.Core.Bool.{Bool, true, false, not, cond, _&&_, _||_}
+use mathlib.Core.Path.{_≡_, refl}
+use mathlib.Core.Bool.{Bool, true, false, not, _&&_, _||_}
 use mathlib.Core.List.{List, [], _∷_}
 use Prim.Native.Nat.{ℕ, zero, suc, _≤_, _<_}
 use native.Mathlib.Nat.{le-of-suc-le-suc, not-suc-le-zero}
@@ -10,7 +10,7 @@ use lib.Dec.{leb, ltb, eqb}
 use lib.ListN.{length, getD}
 use borrow.Author.Tests.{leb-true, ltb-true, ltb-false, eqb-true, eq-eqb}
 use Rattle.lists.specs.First.{allFrom}
-use Rattle.lists.proofs.Search.{both, all-at, never}
+use Rattle.lists.proofs.Search.{both, all-at}
 use Rattle.scene.specs.Ports.{Port, opposite, faceOr, neither, North, Down, Structural, repeaterPorts, solidPorts, portsByKind, portsFor}
 use Rattle.scene.specs.Rows.{portPlaces}
 use Rattle.scene.specs.Select.{portAt}

@@ -19,7 +19,7 @@ use mir.Facts.{toZ-ofZ}
 use Rattle.lists.specs.Signed.{inRange}
 use Rattle.lists.proofs.Search.{both}
 use Rattle.scene.specs.Ports.{NoFace}
-use Rattle.scene.specs.Step.{shift, levelFace, faceOf, isCoordinate, isPosition, shiftBetween, facingBetween}
+use Rattle.scene.specs.Step.{shift, levelFace, faceOf, isCoordinate, shiftBetween, facingBetween}
 use Rattle.scene.specs.declared.step.Shift.{Shift}
 use Rattle.scene.specs.declared.step.Shift.the-variants.{Back, Same, Ahead, Far}
 

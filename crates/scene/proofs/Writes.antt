@@ -5,14 +5,14 @@
 --     put-more                     one more row after those that are laid
 --     Laid                         the rows kept of the connections below k, none at first, one connection more, and all
 -- Assumes nothing.
-use mathlib.Core.Path.{_≡_, refl, sym, ap, _∙_}
+use mathlib.Core.Path.{_≡_, refl, sym, _∙_}
 use mathlib.Core.List.{List, [], _∷_, _++_, map, append-nil, map-append}
 use Prim.Native.Nat.{ℕ, _+_, _*_, _≤_, _<_}
 use native.Mathlib.Nat.{add-zero}
 use native.Mathlib.Numerals.{add-one, add-two, add-three, add-four}
 use native.Mathlib.Omega.{arith}
-use lib.ListN.{length, take, drop, set, length-append, length-map, take-append-drop}
-use lib.Seq.{sets, sets-eq, take-append-seam, drop-append-add, drop-drop}
+use lib.ListN.{length, set, length-append, length-map, take-append-drop}
+use lib.Seq.{sets-eq, take-append-seam, drop-append-add, drop-drop}
 use lib.IntN.{ℤ, pos, natAbs}
 use lib.Dec.{T}
 use lib.Signed.{nonNeg, pos-natAbs}

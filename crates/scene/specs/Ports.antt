@@ -1,7 +1,7 @@
 -- The ports of a component (document 01, "scene.rs: ports"). Role and channel are coded in the Rust's order, the face as in "The scene taken in".
 -- Assumes nothing: these are definitions.
 use Prim.Native.Nat.{ℕ}
-use mathlib.Core.Bool.{Bool, cond, _&&_, _||_}
+use mathlib.Core.Bool.{cond, _&&_, _||_}
 use mathlib.Core.List.{List, [], _∷_, _++_}
 use lib.Dec.{eqb, leb}
 use lib.ListN.{getD}

@@ -21,7 +21,7 @@ ghost use Prim.Native.Nat.{_+_, _*_, _≤_, _<_};
 ghost use mathlib.Core.List.{map};
 ghost use lib.ListN.{length};
 ghost use lib.IntN.{pos};
-ghost use Rattle.lists.specs.Limits.{componentLimit, portWidth};
+ghost use Rattle.lists.specs.Limits.{portWidth};
 ghost use Rattle.lists.specs.Records.{component, connection, componentCount, connectionCount};
 ghost use Rattle.lists.specs.Within.{Components, Connections};
 ghost use Rattle.lists.specs.Ids.{IdTable};

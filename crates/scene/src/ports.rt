@@ -1,9 +1,8 @@
 // The ports of a component, as rows of role, face and channel. Unused places are 0, which would read as an Input: `port_count` says how many there are.
 ghost use mathlib.Core.Path.{_≡_};
-ghost use Prim.Native.Nat.{_≤_, _<_};
-ghost use mathlib.Core.List.{[]};
-ghost use lib.ListN.{length, getD, set};
-ghost use Rattle.scene.specs.Ports.{faceOr, opposite, repeaterPorts, portsFor, North};
+ghost use Prim.Native.Nat.{_<_};
+ghost use lib.ListN.{length};
+ghost use Rattle.scene.specs.Ports.{North, faceOr, repeaterPorts, portsFor};
 ghost use Rattle.scene.specs.Rows.{portPlaces, rowsOf, faced};
 
 // The most ports of a component.

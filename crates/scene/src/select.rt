@@ -7,7 +7,7 @@ use super::ports::PORTS;
 use super::ports::STRUCTURAL;
 use lists::Found;
 ghost use mathlib.Core.Path.{_≡_};
-ghost use Prim.Native.Nat.{_≤_, _<_, min};
+ghost use Prim.Native.Nat.{min};
 ghost use Rattle.scene.specs.Rows.{portOf, portsIn};
 ghost use Rattle.scene.specs.Select.{fits, serves, selectPort, transferOf};
 

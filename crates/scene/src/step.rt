@@ -1,7 +1,6 @@
 // The face of a step from source to sink.
 use lists::FAR;
 ghost use mathlib.Core.Path.{_≡_};
-ghost use Prim.Native.Nat.{_≤_, _<_};
 ghost use Rattle.scene.specs.Ports.{opposite};
 ghost use Rattle.scene.specs.Step.{isCoordinate, shiftBetween, levelFace, faceOf, facingBetween};
 

@@ -1,15 +1,12 @@
 -- `scene::connections::keep` meets its contract: what is kept of the connection is written after the rows before it, or nothing.
 -- Assumes nothing.
 use borrow.Author.Needs.{needs}
-use mathlib.Core.Path.{_≡_, sym, ap, _∙_}
-use mathlib.Core.List.{List, map}
-use Prim.Native.Nat.{_+_, _*_}
+use mathlib.Core.Path.{_≡_, sym, _∙_}
+use Prim.Native.Nat.{_*_}
 use native.Mathlib.Omega.{arith}
-use lib.IntN.{ℤ, pos}
 use Rattle.lists.specs.Records.{connection}
-use Rattle.scene.specs.Kept.{linkOf, rowBy, keptRow}
-use Rattle.scene.specs.declared.connections.Link.{Link}
-use Rattle.scene.specs.declared.connections.Link.the-variants.{Ports, Dropped}
+use Rattle.scene.specs.Kept.{linkOf}
+use Rattle.scene.specs.declared.connections.Link.the-variants.{Ports}
 use Rattle.scene.proofs.Links.{linked}
 use Rattle.scene.proofs.Writes.{put-nothing}
 use Rattle.scene.proofs.connections.keep.Statement.{statement}

@@ -2,13 +2,11 @@
 -- Assumes nothing.
 use borrow.Author.Needs.{needs}
 use mathlib.Core.Path.{_≡_, refl, sym, ap, _∙_}
-use mathlib.Core.Bool.{Bool}
-use mathlib.Core.List.{List, []}
+use mathlib.Core.List.{[]}
 use Prim.Native.Nat.{ℕ, _/_, _≤_}
 use native.Mathlib.Omega.{arith}
 use lib.ListN.{length}
 use lib.Seq.{length-take-le}
-use lib.IntN.{ℤ}
 use borrow.Author.Tests.{leb-true}
 use Rattle.lists.specs.Limits.{componentLimit, connectionLimit, connectionWidth, portWidth}
 use Rattle.lists.specs.Records.{componentCount, connectionCount}
@@ -19,9 +17,6 @@ use Rattle.lists.specs.declared.Checked.the-variants as checked
 use Rattle.lists.proofs.Chain.{both-accept}
 use Rattle.lists.proofs.Fields.{within}
 use Rattle.lists.proofs.Accepts.{Scene, scene-accept, grouping-parts}
-use Rattle.scene.specs.Kept.{keptCount}
-use Rattle.scene.specs.Answer.{answerBy}
-use Rattle.scene.specs.declared.connections.Selected.the-variants.{Kept, Refused}
 use Rattle.scene.proofs.connections.port_connections.Statement.{statement}
 use Rattle.scene.proofs.connections.port_connections.Tie as tie
 

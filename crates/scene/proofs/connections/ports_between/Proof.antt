@@ -4,7 +4,6 @@ use borrow.Author.Needs.{needs}
 use mathlib.Core.Path.{_≡_, sym, ap, _∙_}
 use mathlib.Core.Bool.{true, false}
 use Prim.Native.Nat.{ℕ}
-use lib.IntN.{ℤ}
 use Rattle.lists.specs.Records.{Component, component}
 use Rattle.lists.specs.declared.Found.{Found}
 use Rattle.scene.specs.Ports.{opposite, portsOf}

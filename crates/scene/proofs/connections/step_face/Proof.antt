@@ -1,14 +1,11 @@
 -- `scene::connections::step_face` meets its contract.
 -- Assumes nothing.
 use borrow.Author.Needs.{needs, sfits-of}
-use mathlib.Core.Path.{_≡_, _∙_}
-use Prim.Native.Nat.{_+_, _*_, _≤_}
-use native.Mathlib.Omega.{arith}
-use lib.ListN.{length}
+use mathlib.Core.Path.{_∙_}
+use Prim.Native.Nat.{_+_, _*_}
 use mir.Syntax.{w64}
 use mir.Facts.{toZ-ofZ}
 use Rattle.lists.specs.Signed.{at}
-use Rattle.lists.proofs.Search.{record-within}
 use Rattle.scene.proofs.Steps.{facing-same}
 use Rattle.scene.proofs.connections.step_face.Statement.{statement}
 use Rattle.scene.proofs.connections.step_face.Tie as tie

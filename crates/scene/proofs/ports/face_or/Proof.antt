@@ -1,10 +1,8 @@
 -- `scene::ports::face_or` meets its contract.
 -- Assumes nothing.
 use borrow.Author.Needs.{needs}
-use mathlib.Core.Path.{_≡_, sym, ap, _∙_}
-use Prim.Native.Nat.{ℕ}
+use mathlib.Core.Path.{_≡_, sym}
 use native.Mathlib.Omega.{arith}
-use Rattle.scene.specs.Ports.{faceOr}
 use Rattle.scene.proofs.Faces.{faceOr-named, faceOr-zero, faceOr-above}
 use Rattle.scene.proofs.ports.face_or.Statement.{statement}
 use Rattle.scene.proofs.ports.face_or.Tie as tie

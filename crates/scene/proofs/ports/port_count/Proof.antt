@@ -1,6 +1,6 @@
 -- `scene::ports::port_count` meets its contract: each arm's count is that of its kinds.
 -- Assumes nothing.
-use mathlib.Core.Path.{_≡_, refl, sym}
+use mathlib.Core.Path.{sym}
 use native.Mathlib.Omega.{arith}
 use borrow.Author.Tests.{ne-eqb}
 use Rattle.scene.specs.Ports.{opposite, neither, repeaterPorts, portsFor}

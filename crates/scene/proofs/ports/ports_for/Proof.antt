@@ -1,11 +1,9 @@
 -- `scene::ports::ports_for` meets its contract: each arm's rows are those of its kinds.
 -- Assumes nothing.
 use borrow.Author.Needs.{needs}
-use mathlib.Core.Path.{_≡_, ap, sym, _∙_}
 use native.Mathlib.Omega.{arith}
 use borrow.Author.Tests.{ne-eqb}
 use Rattle.scene.specs.Ports.{portsFor}
-use Rattle.scene.specs.Rows.{rowsOf}
 use Rattle.scene.proofs.Faces.{repeater-kind, lever-kind, solid-kind, no-kind}
 use Rattle.scene.proofs.ports.ports_for.Statement.{statement}
 use Rattle.scene.proofs.ports.ports_for.Tie as tie

@@ -1,7 +1,6 @@
 -- `scene::ports::repeater_ports` meets its contract: each arm's rows are those of its facing.
 -- Assumes nothing.
 use borrow.Author.Needs.{needs}
-use mathlib.Core.Path.{_≡_}
 use Rattle.scene.specs.Ports.{opposite, faceOr, neither, repeaterPorts}
 use Rattle.scene.proofs.Faces.{north-faced}
 use Rattle.scene.proofs.ports.repeater_ports.Statement.{statement}

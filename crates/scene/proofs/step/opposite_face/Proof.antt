@@ -1,6 +1,5 @@
 -- `scene::step::opposite_face` meets its contract.
 -- Assumes nothing.
-use native.Mathlib.Omega.{arith}
 use Rattle.scene.specs.Ports.{opposite}
 use Rattle.scene.proofs.Faces.{opposite-none}
 use Rattle.scene.proofs.step.opposite_face.Statement.{statement}
