@@ -6,3 +6,5 @@ pub mod Seen
 pub mod Sources
 pub mod Regions
 pub mod Drive
+pub mod Verdicts
+pub mod Rows

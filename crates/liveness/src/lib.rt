@@ -3,3 +3,4 @@ mod flags;
 mod inferred;
 mod signals;
 mod sources;
+mod verdicts;
