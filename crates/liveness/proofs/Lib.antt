@@ -3,3 +3,5 @@
 --     Ends       the ends of signal connections are members
 --     Graph      the tables of keys are the graph of `signals`
 pub mod Tabulated
+pub mod Ends
+pub mod Graph

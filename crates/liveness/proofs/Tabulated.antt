@@ -2,13 +2,14 @@
 --     tab-length, tab-at      the list by its places
 --     keys-of                 the keys of all port connections, sorted
 --     member-tab              a value is a member where the function has it at some place
+--     first-cong              a search by a test that is the same
 --     end-range               source and sink are ids
 -- Assumes nothing.
 use mathlib.Core.Path.{_≡_, refl, sym, _∙_}
-use mathlib.Core.Bool.{Bool, true, false}
+use mathlib.Core.Bool.{Bool}
 use mathlib.Core.Logic.{_⊎_, ⊎-elim}
 use mathlib.Core.List.{List, [], _∷_}
-use Prim.Native.Nat.{ℕ, zero, suc, _≤_, _<_}
+use Prim.Native.Nat.{ℕ, zero, suc, _+_, _≤_, _<_}
 use native.Mathlib.Nat.{eq-or-lt-of-le, le-of-suc-le-suc}
 use native.Mathlib.Omega.{arith}
 use lib.ListN.{length, getD, length-append, List·getD-append}
@@ -24,9 +25,15 @@ use Rattle.lists.specs.Ranges.{portLow, portHigh}
 use Rattle.lists.specs.First.{firstFrom, isFound, some, tabulate}
 use Rattle.lists.specs.declared.Found.{Found}
 use Rattle.lists.specs.declared.Found.the-variants.{At, Nothing}
-use Rattle.lists.proofs.Search.{FoundAt, found-at, none-found}
+use Rattle.lists.proofs.Search.{found-at, none-found}
 use Rattle.liveness.specs.Signals.{isSignal}
 use Rattle.liveness.specs.Keys.{signalKey, KeysOf}
+
+pub first-cong : (P Q : ℕ → Bool) (k n : ℕ) → ((j : ℕ) → k ≤ j → j < k + n → P j ≡ Q j) → firstFrom P k n ≡ firstFrom Q k n
+unfolding firstFrom
+first-cong P Q k zero same = refl
+first-cong P Q k (suc n) same =
+    rw (same k (omega arith) (omega arith), first-cong P Q (suc k) n (λ j a b. same j (omega arith) (omega arith)))
 
 module _ (f : ℕ → ℕ) where
   pub tab-length : (n : ℕ) → length (tabulate f n) ≡ n
