@@ -59,8 +59,8 @@ kindAt cs Nothing = 0
 unfoldable pub fedFromOutside : List ℤ → List ℤ → ℕ → Bool
 fedFromOutside cs ps r =
     some (λ k. isSignal ps k
-        && (not (eqb (at (labels cs ps) (sourceMember cs ps k)) (at (labels cs ps) (sinkMember cs ps k)))
-        && (eqb (at (labels cs ps) (sinkMember cs ps k)) r && not (isPassive (kindAt cs (placeOf cs (portConnection ps k .source)))))))
+    && (not (eqb (at (labels cs ps) (sourceMember cs ps k)) (at (labels cs ps) (sinkMember cs ps k)))
+    && (eqb (at (labels cs ps) (sinkMember cs ps k)) r && not (isPassive (kindAt cs (placeOf cs (portConnection ps k .source)))))))
     (portCount ps)
 
 -- how many distinct neighbours a member has in its region, itself counted if connected to itself

@@ -1,7 +1,9 @@
 // The signal edges of a scene as sorted tables of keys: forward, backward, and by the port that they feed.
-use lists::ids::{member_of, SUPPORT};
+use lists::CONNECTIONS;
+use lists::PORT;
+use lists::ids::SUPPORT;
+use lists::ids::member_of;
 use lists::numbers::natural_at;
-use lists::{CONNECTIONS, PORT};
 use tables::SPAN;
 ghost use mathlib.Core.Path.{_≡_};
 ghost use mathlib.Core.List.{List};
@@ -64,7 +66,13 @@ fn signal_key(ports: &[i64], k: usize, first: usize, second: usize, nowhere: usi
 }
 
 // The keys of the signal connections, sorted: pairs of firsts[k] and seconds[k].
-pub(crate) fn signal_keys(ports: &[i64], firsts: &[usize], seconds: &[usize], nowhere: usize, keys: &mut [u64])
+pub(crate) fn signal_keys(
+    ports: &[i64],
+    firsts: &[usize],
+    seconds: &[usize],
+    nowhere: usize,
+    keys: &mut [u64],
+)
     requires { ⌜ PortConnections (now ports) ⌝ }
     requires { ⌜ Sortable (portCount (now ports)) (now firsts) (now seconds) nowhere ⌝ }
     requires { ⌜ length (now keys) ≡ portCount (now ports) ⌝ }
