@@ -1,0 +1,7 @@
+-- Laws of the definitions, for the proofs of this crate and of those above it.
+--     Tabulated  the list of a function's values, and the keys of the port connections
+--     Ends       the ends of signal connections are members
+--     Graph      the tables of keys are the graph of `signals`
+pub mod Tabulated
+pub mod Ends
+pub mod Graph
