@@ -7,8 +7,8 @@ use lib.Dec.{ltb}
 use borrow.Author.Tests.{ltb-true}
 use Rattle.sets.specs.Members.{memberOf}
 use Rattle.lists.specs.Limits.{componentLimit}
-use Rattle.lists.proofs.Search.{both}
-use Rattle.circuit.proofs.Sharing.{or-false, inserted-or, past-or}
+use Rattle.lists.proofs.Search.{both, or-false}
+use Rattle.circuit.proofs.Sharing.{inserted-or, past-or}
 use Rattle.circuit.proofs.insert_if.Statement.{statement}
 use Rattle.circuit.proofs.insert_if.Tie as tie
 
