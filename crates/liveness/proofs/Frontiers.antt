@@ -6,7 +6,7 @@
 -- Assumes nothing.
 use mathlib.Core.Path.{_≡_, refl, sym, ap, _∙_}
 use mathlib.Core.Bool.{Bool, false, _||_}
-use mathlib.Core.List.{List}
+use mathlib.Core.List.{List, [], _∷_}
 use Prim.Native.Nat.{ℕ, zero, suc, _+_, _≤_, _<_}
 use native.Mathlib.Omega.{arith}
 use lib.ListN.{length, replicate, length-set, length-replicate, getD-replicate, List·getD-eq-default}
@@ -41,7 +41,7 @@ kind-within (suc (suc (suc (suc (suc (suc (suc kind))))))) h l = absurd (omega a
 
 pub kind-past : (kind : ℕ) → 8 ≤ kind → sourceKind kind ≡ Nothing
 unfolding sourceKind
-kind-past kind h = List·getD-eq-default _ Nothing h
+kind-past kind h = List·getD-eq-default (Nothing ∷ Nothing ∷ Nothing ∷ At 1 ∷ At 0 ∷ At 0 ∷ At 0 ∷ At 1 ∷ []) Nothing h
 
 pub first-below : (cs : List ℤ) (position : Position) (p : ℕ) → firstAt cs position ≡ At p → p < componentCount cs
 unfolding firstAt

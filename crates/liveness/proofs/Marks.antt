@@ -5,7 +5,7 @@
 --     counted-none, counted-more, counted-most         `Counted`: one index more
 --     set-none, set-in, set-out                        `SetOf`: one flag more
 -- Assumes nothing.
-use mathlib.Core.Path.{_≡_, refl, sym, ap, _∙_}
+use mathlib.Core.Path.{_≡_, sym, ap, _∙_}
 use mathlib.Core.Bool.{Bool, true, false, _&&_, _||_}
 use mathlib.Core.List.{List}
 use mathlib.Core.Logic.{⊎-elim}
@@ -84,7 +84,7 @@ module _ (index : List ℕ) where
           let more = count-suc (λ q. eqb (getD index q 0) j) p in
           ⊎-elim
           (λ (e : i ≡ j). ap (λ (x : ℕ). getD (set counts i (getD counts i 0 + 1)) x 0) (sym e) ∙ getD-set-same counts i (getD counts i 0 + 1) 0 l
-              ∙ ap (λ (x : ℕ). x + 1) (ap (λ (x : ℕ). getD counts x 0) e ∙ before) ∙ sym (more ∙ rw (eq-eqb i j e)))
+          ∙ ap (λ (x : ℕ). x + 1) (ap (λ (x : ℕ). getD counts x 0) e ∙ before) ∙ sym (more ∙ rw (eq-eqb i j e)))
           (λ (n : i ≡ j → ⊥). getD-set-other counts i j (getD counts i 0 + 1) 0 (λ e. n (sym e)) ∙ before ∙ sym (more ∙ rw (ne-eqb i j n) (add-zero _)))
           (same? i j);
     }

@@ -1,7 +1,7 @@
 -- `liveness::sources::first_at` meets its contract: what is left to search has the answer.
 -- Assumes nothing.
 use mathlib.Core.Path.{_≡_, sym, _∙_}
-use Prim.Native.Nat.{_-_, _/_}
+use Prim.Native.Nat.{_-_}
 use native.Mathlib.Nat.{sub-zero}
 use native.Mathlib.Omega.{arith}
 use Rattle.lists.specs.First.{firstFrom}

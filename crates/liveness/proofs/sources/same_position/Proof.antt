@@ -1,6 +1,5 @@
 -- `liveness::sources::same_position` meets its contract: each coordinate is compared.
 -- Assumes nothing.
-use mathlib.Core.Path.{_≡_}
 use Prim.Native.Nat.{_+_, _*_, _≤_}
 use native.Mathlib.Omega.{arith}
 use lib.ListN.{length}

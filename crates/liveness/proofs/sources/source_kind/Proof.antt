@@ -1,7 +1,7 @@
 -- `liveness::sources::source_kind` meets its contract.
 -- Assumes nothing.
 use mathlib.Core.Path.{_≡_, sym}
-use mathlib.Core.Logic.{_⊎_, inl, inr, ⊎-elim}
+use mathlib.Core.Logic.{inl, inr, ⊎-elim}
 use Prim.Native.Nat.{_<_}
 use native.Mathlib.Nat.{eq-or-lt-of-le}
 use Rattle.liveness.specs.Sources.{sourceKind}
