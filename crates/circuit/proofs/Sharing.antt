@@ -14,14 +14,7 @@ use borrow.Author.Tests.{eq-eqb, ne-eqb, ltb-false}
 use Rattle.sets.specs.Members.{memberOf, Inserted}
 use Rattle.tables.specs.Laws.{same?}
 use Rattle.lists.specs.Limits.{componentLimit}
-
-or-true : (t : Bool) → true ≡ (t || true)
-or-true true = refl
-or-true false = refl
-
-pub or-false : (t : Bool) → t ≡ (t || false)
-or-false true = refl
-or-false false = refl
+use Rattle.lists.proofs.Search.{or-true, or-false}
 
 pub inserted-or : (us vs : List ℕ) (net : ℕ) → Inserted us net vs → (k : ℕ) → memberOf vs k ≡ (memberOf us k || eqb net k)
 inserted-or us vs net i k =

@@ -3,18 +3,18 @@
 --     all-fails, all-later, all-done           the same for a test at every place
 --     all-at                                   what holds at every place holds at each
 --     none-found, first-is, found-at           what a search says, and how it is found to say so
---     found-more                               one place more at the end of the run
+--     found-more, some-more                    one place more at the end of the run
 --     record-within                            record k lies within its list
 -- Assumes nothing.
 use mathlib.Core.Path.{_≡_, refl, sym, _∙_, subst}
 use mathlib.Core.Bool.{Bool, true, false, cond, _&&_, _||_}
 use mathlib.Core.Logic.{⊎-elim}
 use Prim.Native.Nat.{ℕ, zero, suc, _+_, _-_, _*_, _/_, _≤_, _<_}
-use native.Mathlib.Nat.{add-zero, suc-mul, mul-le-mul-right, div-mul-le-self, eq-or-lt-of-le}
+use native.Mathlib.Nat.{add-zero, zero-add, suc-mul, mul-le-mul-right, div-mul-le-self, eq-or-lt-of-le}
 use native.Mathlib.Numerals.{add-one}
 use native.Mathlib.Omega.{arith}
 use lib.Dec.{T}
-use Rattle.lists.specs.First.{firstFrom, allFrom, isFound}
+use Rattle.lists.specs.First.{firstFrom, allFrom, isFound, some}
 use Rattle.lists.specs.declared.Found.{Found}
 use Rattle.lists.specs.declared.Found.the-variants.{At, Nothing}
 
@@ -24,6 +24,14 @@ never e = absurd (subst T (sym e) tt)
 pub both : (a b : Bool) → (a && b) ≡ true → (a ≡ true) × (b ≡ true)
 both true b e = (refl, e)
 both false b e = never e
+
+pub or-true : (t : Bool) → true ≡ (t || true)
+or-true true = refl
+or-true false = refl
+
+pub or-false : (t : Bool) → t ≡ (t || false)
+or-false true = refl
+or-false false = refl
 
 -- ---- a place at a time
 
@@ -144,3 +152,6 @@ found-more test k (suc n) = go (test k) refl (found-more test (suc k) n)
         → isFound (cond (test k) (At k) (firstFrom test (suc k) (suc n))) ≡ (isFound (cond (test k) (At k) (firstFrom test (suc k) n)) || test (k + suc n))
     go true e h = rw e
     go false e h = let same : k + suc n ≡ suc k + n = omega arith in rw (e, same) h
+
+pub some-more : (test : ℕ → Bool) (n : ℕ) → some test (n + 1) ≡ (some test n || test n)
+some-more test n = rw add-one (rw zero-add at (found-more test 0 n))

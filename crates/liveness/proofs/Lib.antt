@@ -5,3 +5,6 @@
 pub mod Tabulated
 pub mod Ends
 pub mod Graph
+-- Laws of the definitions, for the proofs of this crate.
+pub mod Marks
+pub mod Frontiers

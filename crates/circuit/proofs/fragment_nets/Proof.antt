@@ -3,9 +3,7 @@
 use borrow.Author.Needs.{needs}
 use mathlib.Core.Path.{_≡_, refl, sym, ap, _∙_}
 use mathlib.Core.Bool.{Bool, true, false, _&&_, _||_}
-use Prim.Native.Nat.{ℕ, _+_, _-_, _≤_, _<_, min}
-use native.Mathlib.Nat.{zero-add}
-use native.Mathlib.Numerals.{add-one}
+use Prim.Native.Nat.{ℕ, _-_, _≤_, _<_, min}
 use native.Mathlib.Omega.{arith}
 use lib.Dec.{eqb, ltb}
 use lib.ListN.{length, getD}
@@ -13,7 +11,7 @@ use borrow.Author.Tests.{ltb-true, ltb-false}
 use Rattle.sets.specs.Members.{memberOf}
 use Rattle.lists.specs.Limits.{componentLimit}
 use Rattle.lists.specs.First.{firstFrom, isFound}
-use Rattle.lists.proofs.Search.{never, both, found-more}
+use Rattle.lists.proofs.Search.{never, both, some-more}
 use Rattle.circuit.specs.Topology.{sharesMember}
 use Rattle.circuit.proofs.fragment_nets.Statement.{statement}
 use Rattle.circuit.proofs.fragment_nets.Tie as tie
@@ -59,8 +57,7 @@ loop-again c =
       omega (arith, inside turn),
       λ net h.
           let test : ℕ → Bool = λ j. eqb (getD (a .fragments .now) j 0) (a .fragment) && eqb (getD (a .nets .now) j 0) net in
-          let more : isFound (firstFrom test 0 (l .v + 1)) ≡ (isFound (firstFrom test 0 (l .v)) || test (l .v)) = rw add-one (rw zero-add at (found-more test 0 (l .v))) in
-          c .insert-if .ensures net h ∙ ap (λ (t : Bool). t || test (l .v)) (l .inv .1 net h) ∙ sym more,
+          c .insert-if .ensures net h ∙ ap (λ (t : Bool). t || test (l .v)) (l .inv .1 net h) ∙ sym (some-more test (l .v)),
     )
 
 returns : tie.Need-returns Inv-loop μ-loop

@@ -1,14 +1,11 @@
 -- `circuit::insert_if` meets its contract.
 -- Assumes nothing.
-use borrow.Author.Needs.{needs}
-use mathlib.Core.Path.{_≡_, _∙_}
-use native.Mathlib.Omega.{arith}
 use lib.Dec.{ltb}
 use borrow.Author.Tests.{ltb-true}
 use Rattle.sets.specs.Members.{memberOf}
 use Rattle.lists.specs.Limits.{componentLimit}
-use Rattle.lists.proofs.Search.{both}
-use Rattle.circuit.proofs.Sharing.{or-false, inserted-or, past-or}
+use Rattle.lists.proofs.Search.{both, or-false}
+use Rattle.circuit.proofs.Sharing.{inserted-or, past-or}
 use Rattle.circuit.proofs.insert_if.Statement.{statement}
 use Rattle.circuit.proofs.insert_if.Tie as tie
 
