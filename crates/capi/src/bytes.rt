@@ -22,7 +22,7 @@ fn word_at(bytes: &[u8], i: usize) -> u64
     let mut k = NUMBER;
     while 0 < k {
         k -= 1;
-        value = value * 256 + bytes[start + k] as u64;
+        value = bytes[start + k] as u64 + 256 * value;
     }
     value
 }

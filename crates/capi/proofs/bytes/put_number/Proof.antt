@@ -1,4 +1,12 @@
+-- `capi::bytes::put_number` meets its contract. The loop's invariant: what stands before `k`, with the bytes that are still to be written,
+-- is the bytes of the number, and from `k` on the slice is as it was. The measure is what is left of the bytes. Assumes nothing.
 use borrow.Author.Needs.{needs}
+use Prim.Native.Nat.{_+_, _-_, _≤_}
+use mathlib.Core.Path.{_≡_, refl}
+use mathlib.Core.List.{_++_}
+use lib.ListN.{length, take, drop, length-set}
+use Rattle.capi.specs.Bytes.{numberBytes, lowBytes}
+use Rattle.capi.proofs.Writing.{low-more, rest-more, low-end, length-low}
 use native.Mathlib.Omega.{arith}
 use Rattle.capi.proofs.bytes.put_number.Statement.{statement}
 use Rattle.capi.proofs.bytes.put_number.Tie as tie
@@ -6,14 +14,15 @@ use Rattle.capi.proofs.bytes.put_number.Reads as reads
 use Rattle.capi.proofs.bytes.put_number.Lts as lts
 
 abbrev Inv-loop : tie.InvT-loop
-Inv-loop out₀ value rest₀ k₀ out rest k = ?
+Inv-loop out₀ value rest₀ k₀ out rest k =
+    (k ≤ numberBytes) × (length out ≡ length out₀) × (drop k out ≡ drop k out₀) × (take k out ++ lowBytes (numberBytes - k) rest ≡ lowBytes numberBytes value)
 
 abbrev μ-loop : tie.MeasureT-loop
-μ-loop out₀ value rest₀ k₀ out rest k = ?
+μ-loop out₀ value rest₀ k₀ out rest k = numberBytes - k
 
 -- src/bytes.rt:61:5
 loop-holds : tie.Need-loop-holds Inv-loop μ-loop
-loop-holds c = search needs
+loop-holds c = (omega arith, refl, refl, refl)
 
 -- src/bytes.rt:62:18
 cast-out : tie.Need-cast-out Inv-loop μ-loop
@@ -33,7 +42,12 @@ loop-less c = search needs
 
 -- src/bytes.rt:61:5
 loop-again : tie.Need-loop-again Inv-loop μ-loop
-loop-again c = search needs
+loop-again c =
+    let l = c .before .loop in
+    let (within, sized, kept, done) = l .inv in
+    let more : numberBytes - l .k ≡ (numberBytes - (l .k + 1)) + 1 = omega arith in
+    let written = low-more (l .out) _ (l .k) (numberBytes - (l .k + 1)) (l .rest) (omega arith) (rw more at done) in
+    (omega arith, simp length-set sized, rest-more (l .out) _ (l .k) _ kept, written)
 
 -- src/bytes.rt:55:1
 same-length : tie.Need-same-length Inv-loop μ-loop
@@ -41,7 +55,12 @@ same-length c = search needs
 
 -- src/bytes.rt:55:1
 returns : tie.Need-returns Inv-loop μ-loop
-returns c = search needs
+returns c =
+    let l = c .before .loop in
+    let (within, sized, kept, done) = l .inv in
+    let all : l .k ≡ numberBytes = omega arith in
+    let value = c .before .before .args .value in
+    low-end numberBytes (l .out) _ (lowBytes numberBytes value) (l .rest) (length-low numberBytes value) (rw all at kept) (rw all at done)
 
 pub put-number-spec : {M : Type 1} → statement M
 put-number-spec =

@@ -1,59 +1,65 @@
+-- `capi::bytes::word_at` meets its contract. The loop's invariant: the value is that of the bytes from `k` on. The measure is `k`.
+-- Assumes nothing.
 use borrow.Author.Needs.{needs}
+use Prim.Native.Nat.{_+_, _*_, _-_, _^_, _≤_, _<_}
+use native.Mathlib.Nat.{add-zero}
 use native.Mathlib.Omega.{arith}
+use mathlib.Core.Path.{_≡_, refl}
+use lib.ListN.{getD, take, drop}
+use Rattle.capi.specs.Bytes.{numberBytes, littleEndian}
+use Rattle.capi.proofs.Reading.{word-turn, word-fits}
 use Rattle.capi.proofs.bytes.word_at.Statement.{statement}
 use Rattle.capi.proofs.bytes.word_at.Tie as tie
-use Rattle.capi.proofs.bytes.word_at.Reads as reads
-use Rattle.capi.proofs.bytes.word_at.Lts as lts
 
 abbrev Inv-loop : tie.InvT-loop
-Inv-loop bytes i start value₀ k₀ value k = ?
+Inv-loop bytes i start value₀ k₀ value k = (k ≤ numberBytes) × (value ≡ littleEndian (take (numberBytes - k) (drop (start + k) bytes)))
 
 abbrev μ-loop : tie.MeasureT-loop
-μ-loop bytes i start value₀ k₀ value k = ?
+μ-loop bytes i start value₀ k₀ value k = k
 
--- src/bytes.rt:20:17
-mul-start : tie.Need-mul-start Inv-loop μ-loop
-mul-start c = search needs
+-- the value after a turn
+turn : (c : tie.After-shared-slice-known Inv-loop μ-loop)
+    → let l = c .before .before .loop in
+    let args = c .before .before .before .args in
+    getD (args .bytes .now) (args .i * numberBytes + (l .k - 1)) 0 + 256 * l .value
+    ≡ littleEndian (take (numberBytes - (l .k - 1)) (drop (args .i * numberBytes + (l .k - 1)) (args .bytes .now)))
+turn c =
+    let l = c .before .before .loop in
+    let args = c .before .before .before .args in
+    word-turn (args .bytes .now) (args .i * numberBytes) (l .k) (l .value) (omega arith) (l .inv .0) (omega arith) (l .inv .1)
 
--- src/bytes.rt:23:5
+turn-fits : (c : tie.After-shared-slice-known Inv-loop μ-loop)
+    → let l = c .before .before .loop in
+    let args = c .before .before .before .args in
+    getD (args .bytes .now) (args .i * numberBytes + (l .k - 1)) 0 + 256 * l .value < 2 ^ 64
+turn-fits c =
+    let l = c .before .before .loop in
+    let args = c .before .before .before .args in
+    rw (turn c)
+    (word-fits (numberBytes - (l .k - 1)) (args .bytes .now) (args .i * numberBytes + (l .k - 1))
+    (λ i. c .shared-slice-known .given i .fits) (omega arith))
+
 loop-holds : tie.Need-loop-holds Inv-loop μ-loop
-loop-holds c = search needs
+unfolding littleEndian
+loop-holds c = (omega arith, refl)
 
--- src/bytes.rt:24:9
-sub-k : tie.Need-sub-k Inv-loop μ-loop
-sub-k c = search needs
-
--- src/bytes.rt:25:17
-mul-value : tie.Need-mul-value Inv-loop μ-loop
-mul-value c = search needs
-
--- src/bytes.rt:25:37
-add-value : tie.Need-add-value Inv-loop μ-loop
-add-value c = search needs
-
--- src/bytes.rt:25:31
-shared-slice-read-value : tie.Need-shared-slice-read-value Inv-loop μ-loop
-shared-slice-read-value c = search needs
-
--- src/bytes.rt:25:31
 cast-value : tie.Need-cast-value Inv-loop μ-loop
-cast-value c = search needs
+cast-value c = omega (arith, turn-fits c)
 
--- src/bytes.rt:25:17
+mul-value : tie.Need-mul-value Inv-loop μ-loop
+mul-value c = omega (arith, turn-fits c)
+
 add-value-2 : tie.Need-add-value-2 Inv-loop μ-loop
-add-value-2 c = search needs
+add-value-2 c = record { fits = turn-fits c }
 
--- src/bytes.rt:23:5
-loop-less : tie.Need-loop-less Inv-loop μ-loop
-loop-less c = search needs
-
--- src/bytes.rt:23:5
 loop-again : tie.Need-loop-again Inv-loop μ-loop
-loop-again c = search needs
+loop-again c = (omega arith, turn c)
 
--- src/bytes.rt:16:1
 returns : tie.Need-returns Inv-loop μ-loop
-returns c = search needs
+returns c =
+    let l = c .before .loop in
+    let none : l .k ≡ 0 = omega arith in
+    rw (none, add-zero) at (l .inv .1)
 
 pub word-at-spec : {M : Type 1} → statement M
 word-at-spec =
@@ -61,14 +67,14 @@ word-at-spec =
     (tie.spec
     Inv-loop
     μ-loop
-    mul-start
+    (λ c. search needs)
     loop-holds
-    sub-k
-    mul-value
-    add-value
-    shared-slice-read-value
+    (λ c. search needs)
+    (λ c. search needs)
+    (λ c. search needs)
     cast-value
+    mul-value
     add-value-2
-    loop-less
+    (λ c. search needs)
     loop-again
     returns)
