@@ -4,18 +4,21 @@
 --     length-low          the bytes of one number
 --     bytes-more          one number more
 --     length-bytes        the bytes of a list of numbers
+--     encode-more         a turn of the loop over the numbers
 --     read-written        bytes that were written are read as the same number
 -- Assumes nothing.
 use mathlib.Core.Path.{_≡_, refl, sym, ap, _∙_}
 use mathlib.Core.List.{List, [], _∷_, _++_, append-assoc, append-nil}
-use Prim.Native.Nat.{ℕ, zero, suc, _+_, _*_, _/_, _%_, _^_, _≤_, _<_}
+use Prim.Native.Nat.{ℕ, zero, suc, _+_, _*_, _/_, _-_, _%_, _^_, _≤_, _<_}
 use native.Mathlib.Nat.{pow-suc}
 use native.Mathlib.Numerals.{add-one}
 use native.Mathlib.Omega.{arith}
-use lib.ListN.{length, getD, take, drop, set, length-append, take-append-drop}
-use lib.Seq.{take-suc, take-suc-set, drop-set-lt, drop-drop}
+use lib.ListN.{length, getD, take, drop, set, length-append, length-take, length-drop, take-append-drop, drop-of-length-le}
+use lib.Seq.{take-all, take-suc, take-suc-set, drop-set-lt, drop-drop}
+use borrow.Rule.Slice.PartMut.{midOf, putMid}
 use Rattle.lists.specs.Slices.{laid}
 use Rattle.capi.specs.Bytes.{numberBytes, littleEndian, lowBytes, bytesOf}
+use Rattle.capi.proofs.Laid.{laid-then}
 
 pub length-low : (k n : ℕ) → length (lowBytes k n) ≡ k
 unfolding lowBytes
@@ -53,6 +56,22 @@ pub length-bytes : (ns : List ℕ) → length (bytesOf ns) ≡ length ns * numbe
 unfolding bytesOf
 length-bytes [] = refl
 length-bytes (n ∷ ns) = length-append (lowBytes numberBytes n) (bytesOf ns) ∙ omega (arith, length-low numberBytes n, length-bytes ns)
+
+-- a slice is lent from `a` on, and rows are laid at the front of that part
+pub rest-back : (a : ℕ) (xs ys rows : List ℕ) → ys ≡ laid rows (midOf a (length xs - a) xs) → putMid a (length xs - a) xs ys ≡ take a xs ++ laid rows (drop a xs)
+rest-back a xs ys rows e =
+    let whole = take-all (length xs - a) (drop a xs) (omega (arith, length-drop a xs)) in
+    let nothing = drop-of-length-le (drop a xs) {i = length xs - a} (omega (arith, length-drop a xs)) in
+    rw (e, whole, nothing, append-nil)
+
+-- the bytes of one number more
+pub encode-more : (values out old ys : List ℕ) (k : ℕ) → k < length values → out ≡ laid (bytesOf (take k values)) old
+    → ys ≡ laid (lowBytes numberBytes (getD values k 0)) (midOf (k * numberBytes) (length out - k * numberBytes) out)
+    → putMid (k * numberBytes) (length out - k * numberBytes) out ys ≡ laid (bytesOf (take (k + 1) values)) old
+encode-more values out old ys k h e f =
+    let passed : length (bytesOf (take k values)) ≡ k * numberBytes = omega (arith, length-bytes (take k values), length-take k values) in
+    rest-back (k * numberBytes) out ys (lowBytes numberBytes (getD values k 0)) f
+    ∙ rw e (laid-then (bytesOf (take k values)) old (k * numberBytes) passed (lowBytes numberBytes (getD values k 0)) ∙ rw (bytes-more values k h))
 
 pub read-written : (k n : ℕ) → n < 256 ^ k → littleEndian (lowBytes k n) ≡ n
 unfolding littleEndian lowBytes

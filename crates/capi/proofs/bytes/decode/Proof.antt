@@ -1,4 +1,15 @@
+-- `capi::bytes::decode` meets its contract. The loop's invariant: the numbers that were passed stand at the front of the slice.
+-- The measure is what is left of the numbers. Assumes nothing.
 use borrow.Author.Needs.{needs}
+use Prim.Native.Nat.{_+_, _*_, _-_, _/_, _≤_}
+use mathlib.Core.Path.{_≡_, refl, ap, _∙_}
+use lib.ListN.{length, length-set}
+use mir.Syntax.{w64}
+use mir.Facts.{toZ-ofZ}
+use Rattle.lists.specs.Slices.{laid}
+use Rattle.capi.specs.Bytes.{numberBytes, signed, firstNumbers}
+use Rattle.capi.proofs.Laid.{laid-more}
+use Rattle.capi.proofs.Reading.{numbers-more, length-numbers}
 use native.Mathlib.Omega.{arith}
 use Rattle.capi.proofs.bytes.decode.Statement.{statement}
 use Rattle.capi.proofs.bytes.decode.Tie as tie
@@ -8,14 +19,15 @@ use Rattle.capi.proofs.bytes.signed_of.Reads as signed-of-reads
 use Rattle.capi.proofs.bytes.word_at.Reads as word-at-reads
 
 abbrev Inv-loop : tie.InvT-loop
-Inv-loop bytes out₀ count k₀ out k = ?
+Inv-loop bytes out₀ count k₀ out k = (k ≤ count) × (length out ≡ length out₀) × (out ≡ laid (firstNumbers bytes k) out₀)
 
 abbrev μ-loop : tie.MeasureT-loop
-μ-loop bytes out₀ count k₀ out k = ?
+μ-loop bytes out₀ count k₀ out k = count - k
 
 -- src/bytes.rt:47:5
 loop-holds : tie.Need-loop-holds Inv-loop μ-loop
-loop-holds c = search needs
+unfolding firstNumbers
+loop-holds c = (omega arith, refl, refl)
 
 -- src/bytes.rt:48:32
 word-at-requires : tie.Need-word-at-requires Inv-loop μ-loop
@@ -43,7 +55,16 @@ loop-less c = search needs
 
 -- src/bytes.rt:47:5
 loop-again : tie.Need-loop-again Inv-loop μ-loop
-loop-again c = search needs
+loop-again c =
+    let l = c .before .before .before .loop in
+    let args = c .before .before .before .before .before .args in
+    let (within, sized, done) = l .inv in
+    let number = toZ-ofZ {w = w64} (record { sfits = c .signed-of .ok }) ∙ c .signed-of .ensures ∙ ap signed (c .before .word-at .ensures) in
+    (
+      omega arith,
+      simp length-set sized,
+      rw (done, number, numbers-more) (laid-more (firstNumbers (args .bytes .now) (l .k)) (args .out .now) (l .k) (length-numbers (args .bytes .now) (l .k)) _ (omega arith)),
+    )
 
 -- src/bytes.rt:41:1
 same-length : tie.Need-same-length Inv-loop μ-loop
@@ -51,7 +72,11 @@ same-length c = search needs
 
 -- src/bytes.rt:41:1
 returns : tie.Need-returns Inv-loop μ-loop
-returns c = search needs
+returns c =
+    let l = c .before .loop in
+    let (within, sized, done) = l .inv in
+    let all : l .k ≡ length (c .before .before .before .args .bytes .now) / numberBytes = omega arith in
+    rw all at done
 
 pub decode-spec : {M : Type 1} → statement M
 decode-spec =

@@ -1,4 +1,14 @@
+-- `capi::bytes::encode` meets its contract. The loop's invariant: the bytes of the numbers that were passed stand at the front of the slice.
+-- The measure is what is left of the numbers. Assumes nothing.
 use borrow.Author.Needs.{needs}
+use Prim.Native.Nat.{_+_, _*_, _-_, _≤_}
+use mathlib.Core.Path.{_≡_, refl, _∙_}
+use lib.ListN.{length, take}
+use lib.Seq.{take-all}
+use borrow.Rule.Slice.PartMut.{same-len-mid}
+use Rattle.lists.specs.Slices.{laid}
+use Rattle.capi.specs.Bytes.{numberBytes, bytesOf}
+use Rattle.capi.proofs.Writing.{encode-more}
 use native.Mathlib.Omega.{arith}
 use Rattle.capi.proofs.bytes.encode.Statement.{statement}
 use Rattle.capi.proofs.bytes.encode.Tie as tie
@@ -7,14 +17,15 @@ use Rattle.capi.proofs.bytes.encode.Lts as lts
 use Rattle.capi.proofs.bytes.put_number.Reads as put-number-reads
 
 abbrev Inv-loop : tie.InvT-loop
-Inv-loop values out₀ k₀ out k = ?
+Inv-loop values out₀ k₀ out k = (k ≤ length values) × (length out ≡ length out₀) × (out ≡ laid (bytesOf (take k values)) out₀)
 
 abbrev μ-loop : tie.MeasureT-loop
-μ-loop values out₀ k₀ out k = ?
+μ-loop values out₀ k₀ out k = length values - k
 
 -- src/bytes.rt:74:5
 loop-holds : tie.Need-loop-holds Inv-loop μ-loop
-loop-holds c = search needs
+unfolding bytesOf
+loop-holds c = (omega arith, refl, refl)
 
 -- src/bytes.rt:75:21
 mul-start : tie.Need-mul-start Inv-loop μ-loop
@@ -54,7 +65,11 @@ loop-less c = search needs
 
 -- src/bytes.rt:74:5
 loop-again : tie.Need-loop-again Inv-loop μ-loop
-loop-again c = search needs
+loop-again c =
+    let l = c .before .before .before .before .before .before .loop in
+    let args = c .before .before .before .before .before .before .before .before .before .args in
+    let (within, sized, done) = l .inv in
+    (omega arith, same-len-mid (l .k * numberBytes) (length (l .out) - l .k * numberBytes) (l .out) (c .before .before .put-number .last .0) (c .before .before .put-number .kept .0) ∙ sized, encode-more (args .values .now) (l .out) (args .out .now) _ (l .k) (omega arith) done (c .before .before .put-number .ensures))
 
 -- src/bytes.rt:69:1
 same-length : tie.Need-same-length Inv-loop μ-loop
@@ -62,7 +77,11 @@ same-length c = search needs
 
 -- src/bytes.rt:69:1
 returns : tie.Need-returns Inv-loop μ-loop
-returns c = search needs
+returns c =
+    let l = c .before .loop in
+    let values = c .before .before .before .before .args .values .now in
+    let (within, sized, done) = l .inv in
+    rw (take-all (l .k) values (omega arith)) at done
 
 pub encode-spec : {M : Type 1} → statement M
 encode-spec =
