@@ -2,3 +2,4 @@
 mod Laid
 mod Reading
 mod Writing
+mod Answers

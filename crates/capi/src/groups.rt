@@ -36,7 +36,31 @@ fn pack_counts(nets: usize, fragments: usize) -> u64
     65536 * nets as u64 + 4294967296 * fragments as u64
 }
 
-// The groups of a scene, as bytes.
+// The groups of a scene as bytes, by way of the rows of numbers.
+fn by_rows(
+    components: &[i64],
+    connections: &[i64],
+    net_rows: &mut [u64],
+    fragment_rows: &mut [u64],
+    nets: &mut [u8],
+    fragments: &mut [u8],
+) -> u64
+    requires { ⌜ (length (now «net_rows») * numberBytes ≤ length (now nets)) × (length (now «fragment_rows») * numberBytes ≤ length (now fragments)) ⌝ }
+    ensures { λ r. ⌜ GroupsLaid (groupingRefusal (now (components .entry)) (now (connections .entry)) (length (now («net_rows» .entry))) (length (now («fragment_rows» .entry)))) (now (components .entry)) (now (connections .entry)) (now (nets .entry)) (now (nets .exit)) (now (fragments .entry)) (now (fragments .exit)) r ⌝ }
+{
+    let grouping = from_parts(components, connections, net_rows, fragment_rows);
+    match grouping {
+        Grouping::Refused(refusal) => pack(Checked::Refused(refusal)),
+        Grouping::Groups(counts) => {
+            let count = components.len() / COMPONENT;
+            encode(&net_rows[..count], nets);
+            encode(&fragment_rows[..count], fragments);
+            pack_counts(counts.nets, counts.fragments)
+        }
+    }
+}
+
+// The groups of a scene as bytes. There are no more rows than a scene has components, so longer slices give no further places.
 fn of_numbers(
     components: &[i64],
     connections: &[i64],
@@ -50,21 +74,14 @@ fn of_numbers(
     let mut fragment_rows = [0u64; COMPONENTS];
     let net_places = places(nets.len());
     let fragment_places = places(fragments.len());
-    let grouping = from_parts(
+    by_rows(
         components,
         connections,
         &mut net_rows[..net_places],
         &mut fragment_rows[..fragment_places],
-    );
-    match grouping {
-        Grouping::Refused(refusal) => pack(Checked::Refused(refusal)),
-        Grouping::Groups(counts) => {
-            let count = components.len() / COMPONENT;
-            encode(&net_rows[..count], nets);
-            encode(&fragment_rows[..count], fragments);
-            pack_counts(counts.nets, counts.fragments)
-        }
-    }
+        nets,
+        fragments,
+    )
 }
 
 // The groups of a scene whose lists are whole records within their limits.
