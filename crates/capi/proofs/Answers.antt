@@ -10,26 +10,30 @@ use mathlib.Core.Bool.{Bool, true, false, _&&_}
 use mathlib.Core.List.{List, []}
 use Prim.Native.Nat.{ℕ, _+_, _*_, _/_, _≤_, min}
 use native.Mathlib.Omega.{arith}
-use lib.Dec.{leb}
+use lib.Dec.{leb, lit<, lit≤}
 use lib.ListN.{length, take}
 use lib.IntN.{ℤ}
 use borrow.Author.Tests.{leb-true, leb-false, le-leb, lt-leb}
-use Rattle.lists.specs.Limits.{componentLimit}
+use Rattle.lists.specs.Limits.{componentLimit, connectionLimit, componentWidth, connectionWidth}
 use Rattle.lists.specs.Records.{componentCount}
-use Rattle.lists.specs.Refusals.{roomFor, groupingRefusal, packed}
+use Rattle.lists.specs.Refusals.{refuse, notWhole, roomFor, groupingRefusal, Small, packed}
 use Rattle.lists.specs.Slices.{laid}
 use Rattle.lists.specs.declared.Refusal.{Refusal}
 use Rattle.lists.specs.declared.Checked.{Checked}
 use Rattle.lists.specs.declared.Checked.the-variants.{Accepted, Refused as CheckRefused}
 use Rattle.lists.proofs.Search.{both}
+use Rattle.lists.proofs.Chain.{both-accept}
+use Rattle.lists.proofs.Accepts.{refuse-none, whole-few, whole-all}
+use Rattle.lists.proofs.Small.{small-or-else, whole-small}
 use Rattle.lists.proofs.Accepted.{grouping-accept, room-places}
 use Rattle.circuit.specs.Topology.{answerOf, leftOf, netsOf, fragmentsOf, netCount, fragmentCount}
 use Rattle.circuit.specs.declared.Counts.{Counts}
 use Rattle.circuit.specs.declared.Grouping.{Grouping}
 use Rattle.circuit.specs.declared.Grouping.the-variants.{Groups, Refused}
-use Rattle.capi.specs.Bytes.{bytesOf}
-use Rattle.capi.specs.Entry.{GroupsLaid}
+use Rattle.capi.specs.Bytes.{numberBytes, numbers, bytesOf}
+use Rattle.capi.specs.Entry.{groupsWhole, groupsRefusal, GroupsLaid, GroupsByBytes}
 use Rattle.capi.proofs.Laid.{laid-front}
+use Rattle.capi.proofs.Reading.{length-numbers}
 
 pub refused-by : (checked : Checked) (nets fragments : ℕ) (refusal : Refusal) → Refused refusal ≡ answerOf checked nets fragments → checked ≡ CheckRefused refusal
 refused-by Accepted nets fragments refusal e = cc
@@ -95,3 +99,51 @@ module _ (checked : Checked) (cs ps : List ℤ) (nets fragments : List ℕ) wher
         nets-left = rw (c .accepted) (n ∙ rw ns);
         fragments-left = rw (c .accepted) (f ∙ rw fs);
       }
+
+-- rows for as many places as a scene can fill
+pub by-places : (cs ps : List ℤ) (nets nets′ fragments fragments′ : List ℕ) (a b r : ℕ) → componentCount cs ≤ componentLimit
+    → a ≡ min (length nets / numberBytes) componentLimit → b ≡ min (length fragments / numberBytes) componentLimit
+    → GroupsLaid (groupingRefusal cs ps a b) cs ps nets nets′ fragments fragments′ r
+    → GroupsLaid (groupingRefusal cs ps (length nets / numberBytes) (length fragments / numberBytes)) cs ps nets nets′ fragments fragments′ r
+by-places cs ps nets nets′ fragments fragments′ a b r few ea eb laid-so =
+    let e = places-enough cs ps (length nets / numberBytes) (length fragments / numberBytes) few in
+    rw (ea, eb, e) at laid-so
+
+-- ---- the bytes of both lists
+
+module _ (components connections : List ℕ) where
+  pub record Whole : Type 0 where
+    pub components-few : length components / numberBytes ≤ componentLimit * componentWidth
+    pub connections-few : length connections / numberBytes ≤ connectionLimit * connectionWidth
+
+  pub whole-lists : groupsWhole components connections ≡ Accepted → Whole
+  whole-lists e =
+      let (first, second) = both-accept (refuse 1 0 (notWhole (numberBytes * componentWidth) componentLimit (length components))) _ e in
+      let c = refuse-none 1 0 _ first in
+      let p = refuse-none 1 1 _ second in
+      record {
+        components-few = omega (arith, whole-few _ componentLimit _ c, whole-all _ componentLimit _ c);
+        connections-few = omega (arith, whole-few _ connectionLimit _ p, whole-all _ connectionLimit _ p);
+      }
+
+  pub whole-fits : Small (groupsWhole components connections)
+  whole-fits =
+      small-or-else (refuse 1 0 (notWhole (numberBytes * componentWidth) componentLimit (length components)))
+      (refuse 1 1 (notWhole (numberBytes * connectionWidth) connectionLimit (length connections)))
+      (whole-small 0 (numberBytes * componentWidth) componentLimit (length components) (lit< tt) (lit≤ tt))
+      (λ _. whole-small 1 (numberBytes * connectionWidth) connectionLimit (length connections) (lit< tt) (lit≤ tt))
+
+  module _ (nets nets′ fragments fragments′ : List ℕ) (r : ℕ) where
+    pub decoded-laid : (cs ps : List ℤ) → cs ≡ numbers components → ps ≡ numbers connections → groupsWhole components connections ≡ Accepted
+        → GroupsLaid (groupingRefusal cs ps (length nets / numberBytes) (length fragments / numberBytes)) cs ps nets nets′ fragments fragments′ r
+        → GroupsByBytes components connections nets nets′ fragments fragments′ r
+    decoded-laid cs ps ec ep e laid-so = rw e (rw (ec, ep) at laid-so)
+
+  pub part-laid : (nets fragments : List ℕ) (refusal : Refusal) (r : ℕ) → groupsWhole components connections ≡ CheckRefused refusal → r ≡ packed (CheckRefused refusal)
+      → GroupsByBytes components connections nets nets fragments fragments r
+  part-laid nets fragments refusal r e f =
+      refused-laid (groupsRefusal components connections (length nets) (length fragments)) (numbers components) (numbers connections) nets fragments refusal r (rw e) f
+
+-- the numbers that were read stand at the front
+pub numbers-front : (bytes : List ℕ) (old new : List ℤ) → new ≡ laid (numbers bytes) old → take (length bytes / numberBytes) new ≡ numbers bytes
+numbers-front bytes old new e = rw e (laid-front (numbers bytes) old (length bytes / numberBytes) (length-numbers bytes (length bytes / numberBytes)))

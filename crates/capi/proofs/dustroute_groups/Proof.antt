@@ -1,90 +1,60 @@
+-- `capi::dustroute_groups` meets its contract: number 1 by bytes, and then the groups of the lists that were read. Assumes nothing.
 use borrow.Author.Needs.{needs}
+use mathlib.Core.Path.{_≡_, sym, ap, _∙_}
 use native.Mathlib.Omega.{arith}
+use Rattle.lists.specs.Refusals.{refuse, _or-else_, Small, packed}
+use Rattle.lists.specs.declared.Checked.{Checked}
+use Rattle.capi.specs.Entry.{groupsWhole}
+use Rattle.capi.proofs.Answers.{whole-fits, part-laid}
 use Rattle.capi.proofs.dustroute_groups.Statement.{statement}
 use Rattle.capi.proofs.dustroute_groups.Tie as tie
-use Rattle.capi.proofs.dustroute_groups.Reads as reads
-use Rattle.capi.proofs.dustroute_groups.Lts as lts
-use Rattle.capi.proofs.groups.of_bytes.Reads as of-bytes-reads
-use Rattle.lists.proofs.refusals.not_whole.Reads as not-whole-reads
-use Rattle.lists.proofs.refusals.or_else.Reads as or-else-reads
-use Rattle.lists.proofs.refusals.pack.Reads as pack-reads
-use Rattle.lists.proofs.refusals.refuse_at.Reads as refuse-at-reads
 
--- src/lib.rt:28:27
-mul-not-whole : tie.Need-mul-not-whole
-mul-not-whole c = ?
+abbrev start : tie.After-or-else → tie.Start
+start c = c .before .before .before .before .before .before .before .before .before
 
--- src/lib.rt:28:9
-not-whole-requires : tie.Need-not-whole-requires
-not-whole-requires c κs = ?
+in-turn : {r a b x y : Checked} → r ≡ a or-else b → a ≡ x → b ≡ y → r ≡ x or-else y
+in-turn e f g = cc
 
--- src/lib.rt:29:28
-mul-not-whole-2 : tie.Need-mul-not-whole-2
-mul-not-whole-2 c = ?
+-- the check of the bytes, by the definition
+answer : (c : tie.After-or-else) → c .or-else .result ≡ groupsWhole (start c .args .components .now) (start c .args .connections .now)
+answer c =
+    let second = c .before in
+    let first = second .before in
+    in-turn (c .or-else .ensures) (first .refuse-at .ensures ∙ ap (refuse 1 0) (first .before .before .not-whole .ensures))
+    (second .refuse-at2 .ensures ∙ ap (refuse 1 1) (first .before .not-whole2 .ensures))
 
--- src/lib.rt:29:9
-not-whole-requires-2 : tie.Need-not-whole-requires-2
-not-whole-requires-2 c κs = ?
-
--- src/lib.rt:30:25
-refuse-at-requires : tie.Need-refuse-at-requires
-refuse-at-requires c κs = ?
-
--- src/lib.rt:30:49
-refuse-at-requires-2 : tie.Need-refuse-at-requires-2
-refuse-at-requires-2 c κs = ?
-
--- src/lib.rt:30:9
-or-else-requires : tie.Need-or-else-requires
-or-else-requires c κs = ?
-
-enum-told : tie.Need-enum-told
-enum-told c = ?
-
--- src/lib.rt:32:9
-enum-told-2 : tie.Need-enum-told-2
-enum-told-2 c = ?
-
--- src/lib.rt:32:9
 pack-requires : tie.Need-pack-requires
-pack-requires c κs = ?
+pack-requires c κs =
+    let args = start (c .before .before) .args in
+    rw (answer (c .before .before)) (whole-fits (args .components .now) (args .connections .now))
 
--- src/lib.rt:32:9
 returns : tie.Need-returns
-returns c = ?
+returns c =
+    let told = c .before .enum-told2 .given .1 in
+    part-laid _ _ _ _ _ _ (sym (answer (c .before .before .before)) ∙ told) (c .pack .ensures ∙ ap packed told)
 
--- src/lib.rt:34:5
 of-bytes-requires : tie.Need-of-bytes-requires
-of-bytes-requires c κs = ?
+of-bytes-requires c κs = sym (answer (c .before .before .before .before)) ∙ c .before .before .enum-told .given .1
 
--- src/lib.rt:19:1
-same-length : tie.Need-same-length
-same-length c = ?
-
--- src/lib.rt:19:1
-same-length-2 : tie.Need-same-length-2
-same-length-2 c = ?
-
--- src/lib.rt:19:1
 returns-2 : tie.Need-returns-2
-returns-2 c = ?
+returns-2 c = c .before .before .before .before .of-bytes .ensures
 
 pub dustroute-groups-spec : {M : Type 1} → statement M
 dustroute-groups-spec =
     tie.close
     (tie.spec
-    mul-not-whole
-    not-whole-requires
-    mul-not-whole-2
-    not-whole-requires-2
-    refuse-at-requires
-    refuse-at-requires-2
-    or-else-requires
-    enum-told
-    enum-told-2
+    (λ c. search needs)
+    (λ c κs. search needs)
+    (λ c. search needs)
+    (λ c κs. search needs)
+    (λ c κs. search needs)
+    (λ c κs. search needs)
+    (λ c κs. search needs)
+    (λ c. search needs)
+    (λ c. search needs)
     pack-requires
     returns
     of-bytes-requires
-    same-length
-    same-length-2
+    (λ c. search needs)
+    (λ c. search needs)
     returns-2)

@@ -1,73 +1,77 @@
+-- `capi::groups::of_bytes` meets its contract: lists that are whole and within their limits have room in the local arrays, and are read
+-- whole. Assumes nothing.
 use borrow.Author.Needs.{needs}
+use mathlib.Core.Path.{_≡_, sym, ap, _∙_}
+use Prim.Native.Nat.{ℕ, _/_, _≤_}
 use native.Mathlib.Omega.{arith}
+use lib.ListN.{length, take}
+use lib.Seq.{length-take-le}
+use Rattle.capi.specs.Bytes.{numberBytes, numbers}
+use Rattle.capi.proofs.Reading.{length-numbers}
+use Rattle.capi.proofs.Answers.{Whole, whole-lists, decoded-laid, numbers-front}
 use Rattle.capi.proofs.groups.of_bytes.Statement.{statement}
 use Rattle.capi.proofs.groups.of_bytes.Tie as tie
-use Rattle.capi.proofs.groups.of_bytes.Reads as reads
-use Rattle.capi.proofs.groups.of_bytes.Lts as lts
-use Rattle.capi.proofs.bytes.decode.Reads as decode-reads
-use Rattle.capi.proofs.groups.of_numbers.Reads as of-numbers-reads
 
--- src/groups.rt:82:24
-slice-aggregate-decode : tie.Need-slice-aggregate-decode
-slice-aggregate-decode c = ?
+abbrev start : tie.After-component-numbers → tie.Start
+start c = c .before .before .before .before .before
 
--- src/groups.rt:82:5
-decode-requires : tie.Need-decode-requires
-decode-requires c κs = ?
+whole : (s : tie.Start) → Whole (s .args .components .now) (s .args .connections .now)
+whole s = whole-lists _ _ (s .pre)
 
--- src/groups.rt:83:25
-slice-aggregate-decode-2 : tie.Need-slice-aggregate-decode-2
-slice-aggregate-decode-2 c = ?
+decode-components : tie.Need-decode-requires
+decode-components c κs = whole (start c) .components-few
 
--- src/groups.rt:83:5
-decode-requires-2 : tie.Need-decode-requires-2
-decode-requires-2 c κs = ?
+decode-connections : tie.Need-decode-requires-2
+decode-connections c κs = whole (start (c .before .before .before)) .connections-few
 
--- src/groups.rt:87:9
-array-share-prefix-component-numbers : tie.Need-array-share-prefix-component-numbers
-array-share-prefix-component-numbers c = ?
+-- ---- both lists are read
 
--- src/groups.rt:87:9
-slice-aggregate-of-numbers : tie.Need-slice-aggregate-of-numbers
-slice-aggregate-of-numbers c = ?
+abbrev first : tie.After-connection-numbers2 → tie.After-decode
+first c = c .before .before .before .before
 
--- src/groups.rt:88:9
-array-share-prefix-connection-numbers : tie.Need-array-share-prefix-connection-numbers
-array-share-prefix-connection-numbers c = ?
+module _ (c : tie.After-connection-numbers2) where
+  components-read : take (length (start (first c .before) .args .components .now) / numberBytes) (first c .decode .last .1 .0) ≡ numbers (start (first c .before) .args .components .now)
+  components-read = numbers-front _ _ _ (first c .decode .ensures)
 
--- src/groups.rt:88:9
-slice-aggregate-of-numbers-2 : tie.Need-slice-aggregate-of-numbers-2
-slice-aggregate-of-numbers-2 c = ?
+  connections-read : take (length (start (first c .before) .args .connections .now) / numberBytes) (c .before .decode2 .last .1 .0) ≡ numbers (start (first c .before) .args .connections .now)
+  connections-read = numbers-front _ _ _ (c .before .decode2 .ensures)
 
--- src/groups.rt:86:5
+share-components : tie.Need-array-share-prefix-component-numbers
+share-components c = omega (arith, whole (start (first c .before)) .components-few, first c .decode .kept .1 .0)
+
+components-long : tie.Need-slice-aggregate-of-numbers
+components-long c = sym (ap length (components-read (c .before)) ∙ length-numbers _ _)
+
+share-connections : tie.Need-array-share-prefix-connection-numbers
+share-connections c = omega (arith, whole (start (first (c .before) .before)) .connections-few, c .before .before .decode2 .kept .1 .0)
+
+connections-long : tie.Need-slice-aggregate-of-numbers-2
+connections-long c = sym (ap length (connections-read (c .before .before)) ∙ length-numbers _ _)
+
 of-numbers-requires : tie.Need-of-numbers-requires
-of-numbers-requires c κs = ?
+of-numbers-requires c κs =
+    let read = c .before .before .before .before in
+    omega (arith, ap length (components-read read), length-numbers (start (first read .before) .args .components .now) (length (start (first read .before) .args .components .now) / numberBytes), whole (start (first read .before)) .components-few)
 
--- src/groups.rt:71:1
-same-length : tie.Need-same-length
-same-length c = ?
-
--- src/groups.rt:71:1
-same-length-2 : tie.Need-same-length-2
-same-length-2 c = ?
-
--- src/groups.rt:71:1
 returns : tie.Need-returns
-returns c = ?
+returns c =
+    let call = c .before .before .before .before in
+    let read = call .before .before .before .before .before in
+    decoded-laid _ _ _ _ _ _ _ _ _ (components-read read) (connections-read read) (start (first read .before) .pre) (call .of-numbers .ensures)
 
 pub of-bytes-spec : {M : Type 1} → statement M
 of-bytes-spec =
     tie.close
     (tie.spec
-    slice-aggregate-decode
-    decode-requires
-    slice-aggregate-decode-2
-    decode-requires-2
-    array-share-prefix-component-numbers
-    slice-aggregate-of-numbers
-    array-share-prefix-connection-numbers
-    slice-aggregate-of-numbers-2
+    (λ c. search needs)
+    decode-components
+    (λ c. search needs)
+    decode-connections
+    share-components
+    components-long
+    share-connections
+    connections-long
     of-numbers-requires
-    same-length
-    same-length-2
+    (λ c. search needs)
+    (λ c. search needs)
     returns)
