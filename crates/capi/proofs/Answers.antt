@@ -28,7 +28,6 @@ use Rattle.lists.proofs.Small.{small-or-else, whole-small}
 use Rattle.lists.proofs.Accepted.{grouping-accept, room-places}
 use Rattle.circuit.specs.Topology.{answerOf, leftOf, netsOf, fragmentsOf, netCount, fragmentCount}
 use Rattle.circuit.specs.declared.Counts.{Counts}
-use Rattle.circuit.specs.declared.Grouping.{Grouping}
 use Rattle.circuit.specs.declared.Grouping.the-variants.{Groups, Refused}
 use Rattle.capi.specs.Bytes.{numberBytes, numbers, bytesOf}
 use Rattle.capi.specs.Entry.{groupsWhole, groupsRefusal, GroupsLaid, GroupsByBytes}

@@ -25,7 +25,11 @@ fn places(len: usize) -> usize
     ensures { λ r. ⌜ r ≡ min (len / numberBytes) componentLimit ⌝ }
 {
     let count = len / NUMBER;
-    if count < COMPONENTS { count } else { COMPONENTS }
+    if count < COMPONENTS {
+        count
+    } else {
+        COMPONENTS
+    }
 }
 
 // The counts of an accepted scene as one number.
@@ -61,12 +65,7 @@ fn by_rows(
 }
 
 // The groups of a scene as bytes. There are no more rows than a scene has components, so longer slices give no further places.
-fn of_numbers(
-    components: &[i64],
-    connections: &[i64],
-    nets: &mut [u8],
-    fragments: &mut [u8],
-) -> u64
+fn of_numbers(components: &[i64], connections: &[i64], nets: &mut [u8], fragments: &mut [u8]) -> u64
     requires { ⌜ componentCount (now components) ≤ componentLimit ⌝ }
     ensures { λ r. ⌜ GroupsLaid (groupingRefusal (now (components .entry)) (now (connections .entry)) (length (now (nets .entry)) / numberBytes) (length (now (fragments .entry)) / numberBytes)) (now (components .entry)) (now (connections .entry)) (now (nets .entry)) (now (nets .exit)) (now (fragments .entry)) (now (fragments .exit)) r ⌝ }
 {

@@ -1,7 +1,7 @@
 -- `capi::bytes::decode` meets its contract. The loop's invariant: the numbers that were passed stand at the front of the slice.
 -- The measure is what is left of the numbers. Assumes nothing.
 use borrow.Author.Needs.{needs}
-use Prim.Native.Nat.{_+_, _*_, _-_, _/_, _≤_}
+use Prim.Native.Nat.{_-_, _/_, _≤_}
 use mathlib.Core.Path.{_≡_, refl, ap, _∙_}
 use lib.ListN.{length, length-set}
 use mir.Syntax.{w64}
@@ -13,10 +13,6 @@ use Rattle.capi.proofs.Reading.{numbers-more, length-numbers}
 use native.Mathlib.Omega.{arith}
 use Rattle.capi.proofs.bytes.decode.Statement.{statement}
 use Rattle.capi.proofs.bytes.decode.Tie as tie
-use Rattle.capi.proofs.bytes.decode.Reads as reads
-use Rattle.capi.proofs.bytes.decode.Lts as lts
-use Rattle.capi.proofs.bytes.signed_of.Reads as signed-of-reads
-use Rattle.capi.proofs.bytes.word_at.Reads as word-at-reads
 
 abbrev Inv-loop : tie.InvT-loop
 Inv-loop bytes out₀ count k₀ out k = (k ≤ count) × (length out ≡ length out₀) × (out ≡ laid (firstNumbers bytes k) out₀)
@@ -24,53 +20,42 @@ Inv-loop bytes out₀ count k₀ out k = (k ≤ count) × (length out ≡ length
 abbrev μ-loop : tie.MeasureT-loop
 μ-loop bytes out₀ count k₀ out k = count - k
 
--- src/bytes.rt:47:5
 loop-holds : tie.Need-loop-holds Inv-loop μ-loop
 unfolding firstNumbers
 loop-holds c = (omega arith, refl, refl)
 
--- src/bytes.rt:48:32
 word-at-requires : tie.Need-word-at-requires Inv-loop μ-loop
 word-at-requires c κs = search needs
 
--- src/bytes.rt:48:13
 signed-of-requires : tie.Need-signed-of-requires Inv-loop μ-loop
 signed-of-requires c κs = search needs
 
--- src/bytes.rt:49:9
 mul-number : tie.Need-mul-number Inv-loop μ-loop
 mul-number c = search needs
 
--- src/bytes.rt:49:9
 slice-set-from-number : tie.Need-slice-set-from-number Inv-loop μ-loop
 slice-set-from-number c = search needs
 
--- src/bytes.rt:50:9
 add-k : tie.Need-add-k Inv-loop μ-loop
 add-k c = search needs
 
--- src/bytes.rt:47:5
 loop-less : tie.Need-loop-less Inv-loop μ-loop
 loop-less c = search needs
 
--- src/bytes.rt:47:5
 loop-again : tie.Need-loop-again Inv-loop μ-loop
 loop-again c =
     let l = c .before .before .before .loop in
     let args = c .before .before .before .before .before .args in
     let (within, sized, done) = l .inv in
-    let number = toZ-ofZ {w = w64} (record { sfits = c .signed-of .ok }) ∙ c .signed-of .ensures ∙ ap signed (c .before .word-at .ensures) in
-    (
+    let number = toZ-ofZ {w = w64} (record { sfits = c .signed-of .ok }) ∙ c .signed-of .ensures ∙ ap signed (c .before .word-at .ensures) in (
       omega arith,
       simp length-set sized,
       rw (done, number, numbers-more) (laid-more (firstNumbers (args .bytes .now) (l .k)) (args .out .now) (l .k) (length-numbers (args .bytes .now) (l .k)) _ (omega arith)),
     )
 
--- src/bytes.rt:41:1
 same-length : tie.Need-same-length Inv-loop μ-loop
 same-length c = search needs
 
--- src/bytes.rt:41:1
 returns : tie.Need-returns Inv-loop μ-loop
 returns c =
     let l = c .before .loop in

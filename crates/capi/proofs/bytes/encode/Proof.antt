@@ -1,7 +1,7 @@
 -- `capi::bytes::encode` meets its contract. The loop's invariant: the bytes of the numbers that were passed stand at the front of the slice.
 -- The measure is what is left of the numbers. Assumes nothing.
 use borrow.Author.Needs.{needs}
-use Prim.Native.Nat.{_+_, _*_, _-_, _≤_}
+use Prim.Native.Nat.{_*_, _-_, _≤_}
 use mathlib.Core.Path.{_≡_, refl, _∙_}
 use lib.ListN.{length, take}
 use lib.Seq.{take-all}
@@ -12,9 +12,6 @@ use Rattle.capi.proofs.Writing.{encode-more}
 use native.Mathlib.Omega.{arith}
 use Rattle.capi.proofs.bytes.encode.Statement.{statement}
 use Rattle.capi.proofs.bytes.encode.Tie as tie
-use Rattle.capi.proofs.bytes.encode.Reads as reads
-use Rattle.capi.proofs.bytes.encode.Lts as lts
-use Rattle.capi.proofs.bytes.put_number.Reads as put-number-reads
 
 abbrev Inv-loop : tie.InvT-loop
 Inv-loop values out₀ k₀ out k = (k ≤ length values) × (length out ≡ length out₀) × (out ≡ laid (bytesOf (take k values)) out₀)
@@ -22,48 +19,37 @@ Inv-loop values out₀ k₀ out k = (k ≤ length values) × (length out ≡ len
 abbrev μ-loop : tie.MeasureT-loop
 μ-loop values out₀ k₀ out k = length values - k
 
--- src/bytes.rt:74:5
 loop-holds : tie.Need-loop-holds Inv-loop μ-loop
 unfolding bytesOf
 loop-holds c = (omega arith, refl, refl)
 
--- src/bytes.rt:75:21
 mul-start : tie.Need-mul-start Inv-loop μ-loop
 mul-start c = search needs
 
--- src/bytes.rt:76:20
 sub-put-number : tie.Need-sub-put-number Inv-loop μ-loop
 sub-put-number c = search needs
 
--- src/bytes.rt:76:20
 part-put-number-start : tie.Need-part-put-number-start Inv-loop μ-loop
 part-put-number-start c = search needs
 
--- src/bytes.rt:76:20
 part-put-number-end : tie.Need-part-put-number-end Inv-loop μ-loop
 part-put-number-end c = search needs
 
--- src/bytes.rt:76:39
 mul-put-number : tie.Need-mul-put-number Inv-loop μ-loop
 mul-put-number c = search needs
 
--- src/bytes.rt:76:39
 shared-slice-read-put-number : tie.Need-shared-slice-read-put-number Inv-loop μ-loop
 shared-slice-read-put-number c = search needs
 
--- src/bytes.rt:76:9
 put-number-requires : tie.Need-put-number-requires Inv-loop μ-loop
 put-number-requires c κs = search needs
 
--- src/bytes.rt:77:9
 add-k : tie.Need-add-k Inv-loop μ-loop
 add-k c = search needs
 
--- src/bytes.rt:74:5
 loop-less : tie.Need-loop-less Inv-loop μ-loop
 loop-less c = search needs
 
--- src/bytes.rt:74:5
 loop-again : tie.Need-loop-again Inv-loop μ-loop
 loop-again c =
     let l = c .before .before .before .before .before .before .loop in
@@ -71,11 +57,9 @@ loop-again c =
     let (within, sized, done) = l .inv in
     (omega arith, same-len-mid (l .k * numberBytes) (length (l .out) - l .k * numberBytes) (l .out) (c .before .before .put-number .last .0) (c .before .before .put-number .kept .0) ∙ sized, encode-more (args .values .now) (l .out) (args .out .now) _ (l .k) (omega arith) done (c .before .before .put-number .ensures))
 
--- src/bytes.rt:69:1
 same-length : tie.Need-same-length Inv-loop μ-loop
 same-length c = search needs
 
--- src/bytes.rt:69:1
 returns : tie.Need-returns Inv-loop μ-loop
 returns c =
     let l = c .before .loop in

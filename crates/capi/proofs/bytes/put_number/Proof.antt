@@ -10,8 +10,6 @@ use Rattle.capi.proofs.Writing.{low-more, rest-more, low-end, length-lo
 use native.Mathlib.Omega.{arith}
 use Rattle.capi.proofs.bytes.put_number.Statement.{statement}
 use Rattle.capi.proofs.bytes.put_number.Tie as tie
-use Rattle.capi.proofs.bytes.put_number.Reads as reads
-use Rattle.capi.proofs.bytes.put_number.Lts as lts
 
 abbrev Inv-loop : tie.InvT-loop
 Inv-loop out₀ value rest₀ k₀ out rest k =
@@ -20,27 +18,21 @@ Inv-loop out₀ value rest₀ k₀ out rest k =
 abbrev μ-loop : tie.MeasureT-loop
 μ-loop out₀ value rest₀ k₀ out rest k = numberBytes - k
 
--- src/bytes.rt:61:5
 loop-holds : tie.Need-loop-holds Inv-loop μ-loop
 loop-holds c = (omega arith, refl, refl, refl)
 
--- src/bytes.rt:62:18
 cast-out : tie.Need-cast-out Inv-loop μ-loop
 cast-out c = search needs
 
--- src/bytes.rt:62:9
 slice-write-out : tie.Need-slice-write-out Inv-loop μ-loop
 slice-write-out c = search needs
 
--- src/bytes.rt:64:9
 add-k : tie.Need-add-k Inv-loop μ-loop
 add-k c = search needs
 
--- src/bytes.rt:61:5
 loop-less : tie.Need-loop-less Inv-loop μ-loop
 loop-less c = search needs
 
--- src/bytes.rt:61:5
 loop-again : tie.Need-loop-again Inv-loop μ-loop
 loop-again c =
     let l = c .before .loop in
@@ -49,11 +41,9 @@ loop-again c =
     let written = low-more (l .out) _ (l .k) (numberBytes - (l .k + 1)) (l .rest) (omega arith) (rw more at done) in
     (omega arith, simp length-set sized, rest-more (l .out) _ (l .k) _ kept, written)
 
--- src/bytes.rt:55:1
 same-length : tie.Need-same-length Inv-loop μ-loop
 same-length c = search needs
 
--- src/bytes.rt:55:1
 returns : tie.Need-returns Inv-loop μ-loop
 returns c =
     let l = c .before .loop in

@@ -11,28 +11,21 @@ use Rattle.capi.proofs.Reading.{signed-low, signed-high, less}
 use native.Mathlib.Omega.{arith}
 use Rattle.capi.proofs.bytes.signed_of.Statement.{statement}
 use Rattle.capi.proofs.bytes.signed_of.Tie as tie
-use Rattle.capi.proofs.bytes.signed_of.Reads as reads
-use Rattle.capi.proofs.bytes.signed_of.Lts as lts
 
--- src/bytes.rt:35:16
 cast-result : tie.Need-cast-result
 cast-result c = search needs
 
--- src/bytes.rt:35:9
 returns : tie.Need-returns
 returns c =
     let h : c .before .args .word < 2 ^ 63 = omega arith in
     toZ-pos w64 h ∙ sym (signed-low (c .before .args .word) h)
 
--- src/bytes.rt:37:11
 sub-result : tie.Need-sub-result
 sub-result c = search needs
 
--- src/bytes.rt:37:10
 cast-result-2 : tie.Need-cast-result-2
 cast-result-2 c = search needs
 
--- src/bytes.rt:37:5
 negative-fits : (k : ℕ) → k < 2 ^ 63 → SFits w64 (negsuc k)
 negative-fits k h = record { sfits = h }
 
@@ -42,7 +35,6 @@ sub-result-2 c =
     let h : left < 2 ^ 63 = omega arith in
     rw (toZ-pos w64 h, less left) (negative-fits left h)
 
--- src/bytes.rt:31:1
 returns-2 : tie.Need-returns-2
 returns-2 c =
     let word = c .before .args .word in

@@ -2,7 +2,7 @@
 -- Assumes nothing.
 use borrow.Author.Needs.{needs}
 use mathlib.Core.Path.{_≡_, sym, _∙_}
-use Prim.Native.Nat.{ℕ, _*_, _≤_}
+use Prim.Native.Nat.{ℕ, _≤_}
 use native.Mathlib.Omega.{arith}
 use lib.ListN.{length, take}
 use lib.Seq.{length-take-le}
@@ -14,7 +14,6 @@ use Rattle.lists.proofs.Small.{grouping-small}
 use Rattle.circuit.specs.Topology.{netKinds, fragmentKinds, forestOf, netsOf, fragmentsOf, netCount, fragmentCount}
 use Rattle.circuit.proofs.Roots.{length-groups}
 use Rattle.circuit.proofs.Numbering.{roots-most}
-use Rattle.capi.specs.Bytes.{numberBytes}
 use Rattle.capi.proofs.Answers.{refused-by, Counted, counted, Room, accepted-room, rows-front, refused-laid, accepted-laid}
 use Rattle.capi.proofs.groups.by_rows.Statement.{statement}
 use Rattle.capi.proofs.groups.by_rows.Tie as tie
@@ -109,8 +108,7 @@ pack-counts-requires c κs =
     let told = c .before .before .before .before .before .before .before .before .before .before in
     let cs = start (made told) .args .components .now in
     let ps = start (made told) .args .connections .now in
-    let n = count (made told) in
-    (
+    let n = count (made told) in (
       omega (arith, accepted told .nets-are, room told .few, roots-most (forestOf cs ps netKinds) n),
       omega (arith, accepted told .fragments-are, room told .few, roots-most (forestOf cs ps fragmentKinds) n),
     )

@@ -2,10 +2,9 @@
 -- whole. Assumes nothing.
 use borrow.Author.Needs.{needs}
 use mathlib.Core.Path.{_≡_, sym, ap, _∙_}
-use Prim.Native.Nat.{ℕ, _/_, _≤_}
+use Prim.Native.Nat.{_/_}
 use native.Mathlib.Omega.{arith}
 use lib.ListN.{length, take}
-use lib.Seq.{length-take-le}
 use Rattle.capi.specs.Bytes.{numberBytes, numbers}
 use Rattle.capi.proofs.Reading.{length-numbers}
 use Rattle.capi.proofs.Answers.{Whole, whole-lists, decoded-laid, numbers-front}
