@@ -4,5 +4,8 @@ pub mod Signed
 pub mod Fields
 pub mod Chain
 pub mod Accepts
+pub mod Accepted
+pub mod Small
 pub mod Ordering
 pub mod Table
+pub mod Members

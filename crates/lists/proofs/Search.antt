@@ -3,17 +3,18 @@
 --     all-fails, all-later, all-done           the same for a test at every place
 --     all-at                                   what holds at every place holds at each
 --     none-found, first-is, found-at           what a search says, and how it is found to say so
+--     found-more                               one place more at the end of the run
 --     record-within                            record k lies within its list
 -- Assumes nothing.
 use mathlib.Core.Path.{_≡_, refl, sym, _∙_, subst}
-use mathlib.Core.Bool.{Bool, true, false, cond, _&&_}
+use mathlib.Core.Bool.{Bool, true, false, cond, _&&_, _||_}
 use mathlib.Core.Logic.{⊎-elim}
 use Prim.Native.Nat.{ℕ, zero, suc, _+_, _-_, _*_, _/_, _≤_, _<_}
-use native.Mathlib.Nat.{suc-mul, mul-le-mul-right, div-mul-le-self, eq-or-lt-of-le}
+use native.Mathlib.Nat.{add-zero, suc-mul, mul-le-mul-right, div-mul-le-self, eq-or-lt-of-le}
 use native.Mathlib.Numerals.{add-one}
 use native.Mathlib.Omega.{arith}
 use lib.Dec.{T}
-use Rattle.lists.specs.First.{firstFrom, allFrom}
+use Rattle.lists.specs.First.{firstFrom, allFrom, isFound}
 use Rattle.lists.specs.declared.Found.{Found}
 use Rattle.lists.specs.declared.Found.the-variants.{At, Nothing}
 
@@ -128,3 +129,18 @@ pub record-within : (k n w : ℕ) → k < n / w → k * w + w ≤ n
 record-within k n w h =
     let s : suc k * w ≤ n / w * w = mul-le-mul-right w h in
     omega (arith, suc-mul k w, div-mul-le-self n w)
+
+-- one place more at the end of the run
+pub found-more : (test : ℕ → Bool) (k n : ℕ) → isFound (firstFrom test k (suc n)) ≡ (isFound (firstFrom test k n) || test (k + n))
+unfolding firstFrom
+found-more test k zero = go (test k) refl
+  where
+    go : (t : Bool) → test k ≡ t → isFound (cond (test k) (At k) Nothing) ≡ test (k + 0)
+    go true e = rw (add-zero, e)
+    go false e = rw (add-zero, e)
+found-more test k (suc n) = go (test k) refl (found-more test (suc k) n)
+  where
+    go : (t : Bool) → test k ≡ t → isFound (firstFrom test (suc k) (suc n)) ≡ (isFound (firstFrom test (suc k) n) || test (suc k + n))
+        → isFound (cond (test k) (At k) (firstFrom test (suc k) (suc n))) ≡ (isFound (cond (test k) (At k) (firstFrom test (suc k) n)) || test (k + suc n))
+    go true e h = rw e
+    go false e h = let same : k + suc n ≡ suc k + n = omega arith in rw (e, same) h

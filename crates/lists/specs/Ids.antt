@@ -1,17 +1,18 @@
--- Ids: the list place of an id, ids used twice (refusal 5), and endpoints of port connections (refusal 7).
+-- Ids: the list place of an id, ids used twice (refusal 5), endpoints of port connections (refusal 7), the table of ids, and members.
 -- Assumes nothing: these are definitions.
-use Prim.Native.Nat.{ℕ, _+_, _*_, _/_, _%_, _≤_, _<_}
+use Prim.Native.Nat.{ℕ, zero, suc, _≤_, _<_}
 use mathlib.Core.Path.{_≡_}
-use mathlib.Core.Bool.{Bool, true, not, _&&_}
-use mathlib.Core.List.{List}
-use lib.ListN.{length, getD}
-use lib.Dec.{eqb}
+use mathlib.Core.Bool.{Bool, not, _&&_}
+use mathlib.Core.List.{List, [], _∷_, _++_}
+use lib.Dec.{eqb, ltb}
 use lib.IntN.{ℤ}
-use Rattle.tables.specs.Order.{Ascending, member}
+use Rattle.tables.specs.Order.{Sorted}
 use Rattle.tables.specs.Pairs.{pair, span}
+use Rattle.sets.specs.Members.{countBelow}
 use Rattle.lists.specs.Records.{component, portConnection, componentCount, portCount}
 use Rattle.lists.specs.First.{firstFrom, isFound}
 use Rattle.lists.specs.declared.Found.{Found}
+use Rattle.lists.specs.declared.Found.the-variants.{Nothing}
 
 -- the first place below n whose component has the id
 unfoldable pub placeBelow : List ℤ → ℕ → ℕ → Found
@@ -43,11 +44,46 @@ endMissing cs ps k =
 unfoldable pub firstEndMissing : List ℤ → List ℤ → Found
 firstEndMissing cs ps = firstFrom (endMissing cs ps) 0 (portCount ps)
 
--- The table of ids: for each component the pair of its id and its list place, rising.
+-- ---- the table of ids
+
+-- a component's key: the pair of its id and its list place
+abbrev pub idKey : List ℤ → ℕ → ℕ
+idKey cs k = pair (component cs k .id) k
+
+-- the keys of the places below n
+unfoldable pub keysBelow : List ℤ → ℕ → List ℕ
+keysBelow cs zero = []
+keysBelow cs (suc n) = keysBelow cs n ++ (idKey cs n ∷ [])
+
+abbrev pub idKeys : List ℤ → List ℕ
+idKeys cs = keysBelow cs (componentCount cs)
+
+-- the keys of all components, rising
 pub record IdTable (cs : List ℤ) (keys : List ℕ) : Type 0 where
   pub few : componentCount cs ≤ span
-  pub long : length keys ≡ componentCount cs
-  pub rising : Ascending keys
-  pub holds : (k : ℕ) → k < componentCount cs → member (pair (component cs k .id) k) keys ≡ true
-  pub place : (i : ℕ) → i < length keys → getD keys i 0 % span < componentCount cs
-  pub id : (i : ℕ) → i < length keys → component cs (getD keys i 0 % span) .id ≡ getD keys i 0 / span
+  pub sorted : Sorted (idKeys cs) keys
+
+-- the keys are the table of ids of some components
+abbrev pub IsIdTable : List ℕ → Type 0
+IsIdTable keys = (cs : List ℤ) × IdTable cs keys
+
+-- ---- members of a set of components: member k stands for the component with the k-th smallest id, k from 0
+
+-- how many components have an id below `id`
+unfoldable pub smallerIds : List ℤ → ℕ → ℕ
+smallerIds cs id = countBelow (λ k. ltb (component cs k .id) id) (componentCount cs)
+
+-- the member that stands for component k
+abbrev pub memberOf : List ℤ → ℕ → ℕ
+memberOf cs k = smallerIds cs (component cs k .id)
+
+-- r is the list place of the component that member k stands for, where no id is used twice
+pub record MemberPlace (cs : List ℤ) (k r : ℕ) : Type 0 where
+  pub below : r < componentCount cs
+  pub member : firstRepeated cs ≡ Nothing → memberOf cs r ≡ k
+
+-- r is its id
+pub record MemberId (cs : List ℤ) (k r : ℕ) : Type 0 where
+  pub place : ℕ
+  pub stands : MemberPlace cs k place
+  pub id : r ≡ component cs place .id

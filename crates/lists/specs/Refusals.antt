@@ -1,7 +1,7 @@
 -- Refusals 1 to 7 (document 01, the table in "The scene taken in"): for each entry the lowest number that applies, at its earliest item,
 -- components before connections before frontiers. Lists are 0 components, 1 connections, 2 frontiers, 3 none.
 -- Assumes nothing: these are definitions.
-use Prim.Native.Nat.{ℕ, _*_, _/_, _%_, min}
+use Prim.Native.Nat.{ℕ, _+_, _*_, _/_, _%_, _≤_, _<_, min}
 use mathlib.Core.Bool.{Bool, true, not, cond, _&&_, _||_}
 use mathlib.Core.List.{List, []}
 use lib.ListN.{length}
@@ -95,3 +95,15 @@ queryRefusal cs ps fs stack = livenessLists cs ps fs (roomFor (componentCount cs
 -- the lists that a sheet counted. Number 1 does not arise there, since a count over its limit was refused by its line.
 abbrev pub sheetRefusal : List ℤ → List ℤ → List ℤ → Checked
 sheetRefusal cs ps fs = groupingLists cs ps fs true
+
+-- ---- an answer as one number
+
+-- each part of a refusal has room in its digits
+abbrev pub Small : Checked → Type 0
+Small Accepted = Unit
+Small (Refused r) = (r .number < 256) × ((r .list < 256) × (r .item ≤ connectionLimit))
+
+-- 0 where the checks accept, else the number, the list and the item, from the lowest digits on
+abbrev pub packed : Checked → ℕ
+packed Accepted = 0
+packed (Refused r) = r .number + 256 * r .list + 65536 * r .item

@@ -11,7 +11,7 @@ ghost use lib.IntN.{ℤ};
 ghost use mathlib.Core.List.{List};
 ghost use Rattle.tables.specs.Pairs.{pair};
 ghost use Rattle.lists.specs.Records.{component, componentCount, portCount};
-ghost use Rattle.lists.specs.Ids.{placeOf, hasComponent, usedEarlier, firstRepeated, endMissing, firstEndMissing, IdTable};
+ghost use Rattle.lists.specs.Ids.{placeOf, hasComponent, usedEarlier, firstRepeated, endMissing, firstEndMissing, IdTable, smallerIds, MemberPlace, MemberId};
 ghost use Rattle.lists.specs.Within.{Components, PortConnections};
 
 // The pair of the id of component k and its place.
@@ -125,4 +125,28 @@ pub fn first_end_missing(keys: &[u64], ports: &[i64]) -> Found
         k += 1;
     }
     Found::Nothing
+}
+
+// The member that stands for the component with the id: how many ids are below it.
+pub fn member_of(keys: &[u64], id: u64) -> usize
+    requires { ⌜ id < 4294967296 ⌝ }
+    ensures { λ r. ⌜ ((cs : List ℤ) → IdTable cs (now (keys .entry)) → r ≡ smallerIds cs id) ⌝ }
+{
+    tables::lower_bound(keys, id * SPAN)
+}
+
+// The list place of the component that member k stands for: the table rises by id.
+pub fn place_at(keys: &[u64], k: usize) -> usize
+    requires { ⌜ k < length (now keys) ⌝ }
+    ensures { λ r. ⌜ ((cs : List ℤ) → IdTable cs (now (keys .entry)) → MemberPlace cs k r) ⌝ }
+{
+    (keys[k] % SPAN) as usize
+}
+
+// The id of the component that member k stands for.
+pub fn id_at(keys: &[u64], k: usize) -> u64
+    requires { ⌜ k < length (now keys) ⌝ }
+    ensures { λ r. ⌜ ((cs : List ℤ) → IdTable cs (now (keys .entry)) → MemberId cs k r) ⌝ }
+{
+    keys[k] / SPAN
 }

@@ -22,7 +22,7 @@ ghost use mathlib.Core.Path.{_≡_};
 ghost use Prim.Native.Nat.{_≤_, _<_};
 ghost use lib.ListN.{length, take};
 ghost use Rattle.lists.specs.Limits.{componentLimit, connectionLimit, frontierLimit, componentWidth, frontierWidth};
-ghost use Rattle.lists.specs.Refusals.{refuse, _or-else_, notWhole, roomFor, tooShort, groupingLists, livenessLists};
+ghost use Rattle.lists.specs.Refusals.{refuse, _or-else_, notWhole, roomFor, tooShort, groupingLists, livenessLists, Small, packed};
 ghost use Rattle.lists.specs.Checks.{lengthsOf, rangesOf, sceneOf, Ordered, CheckedBy};
 ghost use Rattle.lists.specs.Records.{componentCount};
 ghost use Rattle.lists.specs.Within.{Components};
@@ -198,4 +198,17 @@ pub fn liveness_lists(
     };
     let count = components.len() / COMPONENT;
     refuse_at(7, 1, first_end_missing(&keys[..count], ports))
+}
+
+// An answer as one number: 0 where the checks accept, else the number, the list and the item, from the lowest digits on.
+pub fn pack(checked: Checked) -> u64
+    requires { ⌜ Small checked ⌝ }
+    ensures { λ r. ⌜ r ≡ packed checked ⌝ }
+{
+    match checked {
+        Checked::Accepted => 0,
+        Checked::Refused(refusal) => {
+            refusal.number + 256 * refusal.list + 65536 * refusal.item as u64
+        }
+    }
 }

@@ -1,0 +1,15 @@
+//! The scope paper's rules for groups, ports and liveness, restated plainly.
+//!
+//! They follow the paper's words rule by rule, and the answers have the shape
+//! of the crate `oracle`, so that the unchanged Rust can be held to the paper.
+//! Only the channels of ports are taken from the Rust, where the paper itself
+//! points to it.
+
+mod groups;
+mod liveness;
+mod ports;
+mod walk;
+
+pub use groups::groups;
+pub use liveness::liveness;
+pub use ports::{ports, ports_of};
