@@ -1,5 +1,6 @@
 -- Theorems on the groups' numbers of specs/Groups.antt (document 01, "circuit.rs: groups").
 --     group-same          two places have one number exactly where they have one root
+--     roots-most          there are no more groups than places
 --     group-below         a place's number is below the number of groups
 --     group-onto          each number below the number of groups is a root's: no gap, and no group without a member
 --     all-well-formed     pairs of places, united one after the other from single places, leave a well-formed forest
@@ -7,7 +8,7 @@
 --     joined-more         what some pairs join, more pairs join
 --     Stays, roots-stay   pairs of places below n leave the roots of these below n, and every other place its own root
 -- Assumes nothing.
-use Prim.Native.Nat.{ℕ, zero, suc, _+_, _≤_, _<_}
+use Prim.Native.Nat.{ℕ, zero, suc, _+_, _≤_, _<_, zero-le}
 use native.Mathlib.Nat.{le-of-suc-le-suc, not-suc-le-zero, eq-or-lt-of-le}
 use native.Mathlib.Omega.{arith}
 use mathlib.Core.Path.{_≡_, refl, sym, ap, _∙_}
@@ -34,6 +35,15 @@ roots-rise f r e (suc n) h =
     (λ q. rw (eq-eqb (root f n) n (ap (root f) (sym q) ∙ e ∙ q)) (omega (arith, ap (rootsBelow f) q)))
     (λ lt. omega (arith, roots-rise f r e n lt))
     (eq-or-lt-of-le (le-of-suc-le-suc h))
+
+pub roots-most : (f : Forest) (n : ℕ) → rootsBelow f n ≤ n
+unfolding rootsBelow
+roots-most f zero = zero-le
+roots-most f (suc n) = go (isRoot f n) (roots-most f n)
+  where
+    go : (t : Bool) → rootsBelow f n ≤ n → rootsBelow f n + cond t 1 0 ≤ suc n
+    go true h = omega arith
+    go false h = omega arith
 
 pub group-below : (f : Forest) → WellFormed f → (n v : ℕ) → v < componentLimit → root f v < n → groupOf f v < rootsBelow f n
 group-below f wf n v h lt = roots-rise f (root f v) (wf .rooted v h .fixed) n lt

@@ -3,6 +3,7 @@
 --     numbers-none, numbers-more    the numbers of the roots, at first and with one place more
 --     count-none, count-root, count-other   the count of the roots, at first and with one place more
 --     laid-more                     one row more at the front of a slice
+--     length-groups                 a number for each place
 --     groups-none, number-more      the groups' numbers at the front of a slice, at first and with one place more
 -- Assumes nothing.
 use Prim.Native.Nat.{ℕ, _+_, _<_, zero-le}
@@ -66,7 +67,7 @@ pub laid-more : (rows old : List ℕ) (k a : ℕ) → length rows ≡ k → k < 
 laid-more rows old k a e h =
     rw (e, drop-cons old k 0 h, set-at rows _ _ _ k e, length-append, e, add-one, append-assoc)
 
-length-groups : (f : Forest) (n : ℕ) → length (groupsOf f n) ≡ n
+pub length-groups : (f : Forest) (n : ℕ) → length (groupsOf f n) ≡ n
 unfolding groupsOf
 length-groups f n = length-map (range n) (groupOf f) ∙ length-range n
 

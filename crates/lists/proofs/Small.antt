@@ -1,6 +1,7 @@
 -- What the checks answer fits one number (`Small`): the item of a refusal is at most its list's limit. Numbers 3 to 7 are reached only
 -- where number 1 passed, so that their items are below a limit.
 --     small-or-else                        a chain of two checks
+--     whole-small                          number 1
 --     grouping-small, liveness-small       the checks of the lists
 -- Assumes nothing.
 use mathlib.Core.Path.{_≡_, refl}
@@ -64,6 +65,9 @@ unfolding notWhole
 whole-item width limit n = record {
   item = λ k e. omega (arith, cond-item (ltb limit (n / width) || not (eqb (n % width) 0)) (min limit (n / width)) k e);
 }
+
+pub whole-small : (list width limit n : ℕ) → list < 256 → limit ≤ connectionLimit → Small (refuse 1 list (notWhole width limit n))
+whole-small list width limit n a h = fit-refuse 1 list (whole-item width limit n) (lit< tt) a h .small
 
 short-item : (enough : Bool) → AtMost 0 (tooShort enough)
 short-item true = record { item = λ k e. let z : _≡_ {A = ℕ} 0 1 = cc in absurd (omega arith) }

@@ -28,7 +28,7 @@ ghost use Rattle.lists.specs.Records.{componentCount};
 ghost use Rattle.lists.specs.Within.{Components};
 
 // A fault that was found is refused with its number and list.
-fn refuse_at(number: u64, list: u64, found: Found) -> Checked
+pub fn refuse_at(number: u64, list: u64, found: Found) -> Checked
     ensures { λ r. ⌜ r ≡ refuse number list found ⌝ }
 {
     match found {
@@ -61,7 +61,7 @@ pub fn room_for(places: usize, width: usize, len: usize) -> bool
 }
 
 // The first of two checks that refuses.
-fn or_else(first: Checked, next: Checked) -> Checked
+pub fn or_else(first: Checked, next: Checked) -> Checked
     ensures { λ r. ⌜ r ≡ first or-else next ⌝ }
 {
     match first {
