@@ -8,3 +8,4 @@ pub mod Regions
 pub mod Drive
 pub mod Verdicts
 pub mod Rows
+pub mod Stages

@@ -3,4 +3,5 @@ mod flags;
 mod inferred;
 mod signals;
 mod sources;
+mod stages;
 mod verdicts;

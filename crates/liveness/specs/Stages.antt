@@ -1,0 +1,34 @@
+-- The stages of the analysis, and what each leaves in its arrays.
+-- Assumes nothing: these are definitions.
+use Prim.Native.Nat.{ℕ, _+_, _*_, _≤_, _<_}
+use mathlib.Core.Path.{_≡_}
+use mathlib.Core.Bool.{Bool}
+use mathlib.Core.List.{List}
+use lib.ListN.{length, getD}
+use lib.IntN.{ℤ}
+use Rattle.lists.specs.Limits.{componentLimit}
+use Rattle.lists.specs.Records.{componentCount, portCount}
+use Rattle.lists.specs.Ids.{memberOf}
+use Rattle.regions.specs.Graph.{Edges, marked}
+use Rattle.regions.specs.Kosaraju.{reached}
+use Rattle.regions.specs.Search.{Zeros}
+use Rattle.liveness.specs.Keys.{Settled, Slots, KeysOf, ports}
+use Rattle.liveness.specs.Flags.{Gathered}
+
+-- the members at the ends of each port connection, and the sorted tables of the signal edges: forward, backward, and by the port that they feed
+pub record Tables (cs ps : List ℤ) (sources sinks forward backward fed : List ℕ) : Type 0 where
+  pub source-members : Settled cs ps 0 sources
+  pub sink-members : Settled cs ps 2 sinks
+  pub forward-keys : KeysOf ps sources sinks componentLimit forward
+  pub backward-keys : KeysOf ps sinks sources componentLimit backward
+  pub slots : List ℕ
+  pub slots-are : Slots ps sinks slots
+  pub fed-keys : KeysOf ps slots sources (componentLimit * ports) fed
+
+-- what the marked components reach: `marks` are those of their members
+pub record ReachedBy (n : ℕ) (edge : Edges) (members : List ℕ) (flags visited : List Bool) (stack : List ℕ) : Type 0 where
+  pub marks : List Bool
+  pub marks-long : length marks ≡ n
+  pub gathered : Gathered n members flags marks
+  pub visited-is : visited ≡ reached n edge marks
+  pub stack-zeros : Zeros stack
