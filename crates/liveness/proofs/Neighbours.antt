@@ -1,9 +1,9 @@
 -- The neighbours seen so far, none, one or many.
---     seen-cong                          what was seen under one test was seen under one that agrees with it
---     seen-first, seen-again, seen-more  a neighbour more
---     row-none, row-key, row-other       the keys of a row, one at a time
---     row-all                            past the keys of a row no neighbour is left
---     few, many                          at most one was seen: the test holds at most once
+--     seen-cong                              what was seen by one test was seen by another that agrees with it
+--     seen-first, seen-again, seen-more, seen-many   a neighbour more
+--     few-none, few-one, few-many            at most one was seen exactly if the test holds at most once
+--     row-none, row-key, row-other, row-all  the keys of a row: none yet, one more, all
+--     both-rows                              the neighbours of two rows
 -- Assumes nothing.
 use mathlib.Core.Path.{_≡_, refl, sym, ap, _∙_}
 use mathlib.Core.Bool.{Bool, true, false, _&&_, _||_}
@@ -17,7 +17,7 @@ use lib.ListN.{length, getD, take}
 use borrow.Author.Tests.{eq-eqb, ne-eqb, eqb-true, le-leb, lt-leb}
 use Rattle.sets.specs.Members.{countBelow}
 use Rattle.sets.proofs.Counts.{count-none}
-use Rattle.tables.specs.Order.{Ascending, LowerBound, member}
+use Rattle.tables.specs.Order.{LowerBound, member}
 use Rattle.tables.specs.Laws.{same?, order?}
 use Rattle.tables.specs.Pairs.{span, pair}
 use Rattle.lists.proofs.Search.{never}
@@ -58,9 +58,13 @@ module _ (n : ℕ) (test : ℕ → Bool) (j : ℕ) (lt : j < n) where
   more i = test i || eqb j i
 
   pub seen-first : SeenOf n test None → SeenOf n more (One j)
-  seen-first none =
-      (lt, (or-right (test j) (eq-eqb j j refl),
-      λ k h e. ⊎-elim (λ t. never (sym (none k h) ∙ t)) (λ t. sym (eqb-true j k t)) (either (test k) (eqb j k) e)))
+  seen-first none = (
+    lt,
+    (
+      or-right (test j) (eq-eqb j j refl),
+      λ k h e. ⊎-elim (λ t. never (sym (none k h) ∙ t)) (λ t. sym (eqb-true j k t)) (either (test k) (eqb j k) e),
+    ),
+  )
 
   pub seen-again : (i : ℕ) → i ≡ j → SeenOf n test (One i) → SeenOf n more (One i)
   seen-again i same (_, (is, only)) =
@@ -210,3 +214,15 @@ module _ (keys labels : List ℕ) (m : ℕ) (rows : Rows (length labels) keys) (
       let from = low .from (rows .rising) at le (omega arith) in
       past (omega arith) (omega arith))
       ∙ sym (edges-pair n keys m j lt h)))
+
+-- ---- two rows
+
+either-row : (l f b : Bool) → ((l && f) || (l && b)) ≡ (l && (f || b))
+either-row true f b = refl
+either-row false f b = refl
+
+pub both-rows : (n : ℕ) (same forward backward : ℕ → Bool) (s : Seen)
+    → SeenOf n (λ j. (false || (same j && forward j)) || (same j && backward j)) s → SeenOf n (λ j. same j && (forward j || backward j)) s
+both-rows n same forward backward =
+    seen-cong n (λ j. (same j && forward j) || (same j && backward j)) (λ j. same j && (forward j || backward j))
+    (λ j h. either-row (same j) (forward j) (backward j))

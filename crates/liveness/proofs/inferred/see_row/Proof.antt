@@ -8,14 +8,10 @@ use native.Mathlib.Omega.{arith}
 use lib.ListN.{length, getD}
 use borrow.Author.Tests.{eq-eqb, ne-eqb}
 use Rattle.tables.specs.Pairs.{span}
-use Rattle.liveness.specs.Seen.{SeenOf, Rows}
+use Rattle.liveness.specs.Seen.{SeenOf}
 use Rattle.liveness.proofs.Neighbours.{passed, row-none, row-below, row-key, row-other, row-all}
 use Rattle.liveness.proofs.inferred.see_row.Statement.{statement}
 use Rattle.liveness.proofs.inferred.see_row.Tie as tie
-use Rattle.liveness.proofs.inferred.see_row.Reads as reads
-use Rattle.liveness.proofs.inferred.see_row.Lts as lts
-use Rattle.liveness.proofs.inferred.see.Reads as see-reads
-use Rattle.tables.proofs.lower_bound.Reads as lower-bound-reads
 
 abbrev Inv-loop : tie.InvT-loop
 Inv-loop keys labels m at₀ found₀ at found =
@@ -42,10 +38,12 @@ returns c test seen =
     let at-loop = c .before .before .before in
     let s = start at-loop in
     let l = at-loop .loop in
-    row-all (s .args .keys .now) (s .args .labels .now) (s .args .m) (s .pre .0) (s .pre .1) (at-loop .before .lower-bound .ensures) (l .at) (l .inv .0) (λ h. c .if1 .taken) test (l .found) (l .inv .2 test seen)
+    row-all (s .args .keys .now) (s .args .labels .now) (s .args .m) (s .pre .0) (s .pre .1)
+    (at-loop .before .lower-bound .ensures) (l .at) (l .inv .0) (λ h. c .if1 .taken) test (l .found) (l .inv .2 test seen)
 
 -- the neighbour of a turn is a node
-below : (c : tie.Else1 Inv-loop μ-loop) → getD (start (c .before .before .before) .args .keys .now) (c .before .before .before .loop .at) 0 % span < length (start (c .before .before .before) .args .labels .now)
+below : (c : tie.Else1 Inv-loop μ-loop)
+    → getD (start (c .before .before .before) .args .keys .now) (c .before .before .before .loop .at) 0 % span < length (start (c .before .before .before) .args .labels .now)
 below c =
     let at-loop = c .before .before .before in
     let s = start at-loop in
@@ -65,14 +63,15 @@ loop-again c =
     let s = start at-loop in
     let l = at-loop .loop in
     let keys = s .args .keys .now in
-    let labels = s .args .labels .now in
-    let key = getD keys (l .at) 0 in (
+    let labels = s .args .labels .now in (
       omega arith,
       omega (arith, in-loop .loop-test .taken),
       λ test seen. ⊎-elim
-          (λ w. rw (w .2) (row-key keys labels (s .args .m) (s .pre .0) (s .pre .1) (l .at) (in-loop .loop-test .taken) (here .if1 .left) (eq-eqb _ _ (w .0 .taken)) test (w .1 .result)
+          (λ w. rw (w .2) (row-key keys labels (s .args .m) (s .pre .0) (s .pre .1) (l .at) (in-loop .loop-test .taken) (here .if1 .left)
+          (eq-eqb _ _ (w .0 .taken)) test (w .1 .result)
           (w .1 .ensures (length labels) (passed keys labels (s .args .m) (l .at) test) (below here) (l .inv .2 test seen))))
-          (λ w. rw (w .1) (row-other keys labels (s .args .m) (s .pre .0) (s .pre .1) (l .at) (in-loop .loop-test .taken) (here .if1 .left) (ne-eqb _ _ (w .0 .left)) test (l .found) (l .inv .2 test seen)))
+          (λ w. rw (w .1) (row-other keys labels (s .args .m) (s .pre .0) (s .pre .1) (l .at) (in-loop .loop-test .taken) (here .if1 .left)
+          (ne-eqb _ _ (w .0 .left)) test (l .found) (l .inv .2 test seen)))
           (c .if2 .came),
     )
 
@@ -81,7 +80,8 @@ returns-2 c test seen =
     let at-loop = c .before in
     let s = start at-loop in
     let l = at-loop .loop in
-    row-all (s .args .keys .now) (s .args .labels .now) (s .args .m) (s .pre .0) (s .pre .1) (at-loop .before .lower-bound .ensures) (l .at) (l .inv .0) (λ h. absurd (omega (arith, c .loop-test .left))) test (l .found) (l .inv .2 test seen)
+    row-all (s .args .keys .now) (s .args .labels .now) (s .args .m) (s .pre .0) (s .pre .1)
+    (at-loop .before .lower-bound .ensures) (l .at) (l .inv .0) (λ h. absurd (omega (arith, c .loop-test .left))) test (l .found) (l .inv .2 test seen)
 
 pub see-row-spec : {M : Type 1} → statement M
 see-row-spec =
