@@ -2,16 +2,20 @@
 -- Assumes nothing: these are definitions.
 use Prim.Native.Nat.{ℕ, _+_, _*_, _≤_, _<_}
 use mathlib.Core.Path.{_≡_}
-use mathlib.Core.Bool.{Bool}
+use mathlib.Core.Bool.{Bool, not, _&&_, _||_}
 use mathlib.Core.List.{List}
+use lib.Dec.{eqb, leb}
 use lib.ListN.{length, getD}
 use lib.IntN.{ℤ}
 use Rattle.lists.specs.Limits.{componentLimit}
-use Rattle.lists.specs.Records.{componentCount, portCount}
+use Rattle.sets.specs.Members.{countBelow}
+use Rattle.lists.specs.Records.{component, componentCount, portCount}
 use Rattle.lists.specs.Ids.{memberOf}
 use Rattle.regions.specs.Graph.{Edges, marked}
 use Rattle.regions.specs.Kosaraju.{reached}
+use Rattle.regions.specs.Keys.{edges}
 use Rattle.regions.specs.Search.{Zeros}
+use Rattle.liveness.specs.Regions.{wire}
 use Rattle.liveness.specs.Keys.{Settled, Slots, KeysOf, ports}
 use Rattle.liveness.specs.Flags.{Gathered}
 
@@ -32,3 +36,15 @@ pub record ReachedBy (n : ℕ) (edge : Edges) (members : List ℕ) (flags visite
   pub gathered : Gathered n members flags marks
   pub visited-is : visited ≡ reached n edge marks
   pub stack-zeros : Zeros stack
+
+-- the component at p is a wire with few neighbours in a quiet region, by the arrays of the analysis
+abbrev pub inferredBy : List ℤ → List ℕ → List ℕ → List Bool → List Bool → List ℕ → List ℕ → List ℕ → ℕ → Bool
+inferredBy cs members regionAt hasDrive fed forward backward labels p =
+    eqb (component cs p .kind) wire
+    && ((not (marked hasDrive (getD regionAt p 0)) && not (marked fed (getD regionAt p 0)))
+    && leb
+    (countBelow
+    (λ j. eqb (getD labels j 0) (getD labels (getD members p 0) 0)
+    && (edges (length labels) forward (getD members p 0) j || edges (length labels) backward (getD members p 0) j))
+    (length labels))
+    1)

@@ -10,13 +10,12 @@ ghost use Prim.Native.Nat.{ℕ, _≤_, _<_};
 ghost use lib.Dec.{eqb, leb};
 ghost use lib.ListN.{length, getD};
 ghost use Rattle.sets.specs.Members.{countBelow};
-ghost use Rattle.lists.specs.Limits.{componentLimit};
 ghost use Rattle.lists.specs.Records.{component, componentCount, portCount};
 ghost use Rattle.lists.specs.Within.{Components, PortConnections};
 ghost use Rattle.regions.specs.Graph.{marked};
 ghost use Rattle.regions.specs.Keys.{edges};
 ghost use Rattle.liveness.specs.Regions.{wire, isPassive};
-ghost use Rattle.liveness.specs.Flags.{Flags, Indices};
+ghost use Rattle.liveness.specs.Flags.{Flags};
 ghost use Rattle.liveness.specs.Seen.{SeenOf, Rows, SignalEnds, SinkRegions, outsideAt};
 ghost use Rattle.liveness.specs.Signals.{isSignal};
 ghost use mathlib.Core.Bool.{cond};
@@ -174,7 +173,7 @@ pub(crate) fn self_flags(ports: &[i64], sources: &[usize], sinks: &[usize], flag
 }
 
 // Whether component p, member m, is an inferred input, given whether its region has a drive source or is fed from outside.
-fn is_inferred(
+pub(crate) fn is_inferred(
     components: &[i64],
     p: usize,
     quiet: bool,

@@ -1,5 +1,6 @@
 // Regions, sources, drive and verdicts of a scene.
 mod flags;
+mod infer;
 mod inferred;
 mod signals;
 mod sources;

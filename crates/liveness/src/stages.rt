@@ -1,10 +1,16 @@
 // The stages of the analysis over local arrays: tables of edges, regions, reach.
-use super::flags::{count_into, gather};
+use super::flags::count_into;
+use super::flags::gather;
 use super::inferred::self_flags;
-use super::signals::{settle, settle_slots, signal_keys, PORTS};
+use super::signals::PORTS;
+use super::signals::settle;
+use super::signals::settle_slots;
+use super::signals::signal_keys;
+use lists::COMPONENT;
+use lists::COMPONENTS;
+use lists::CONNECTIONS;
 use lists::ids::member_of;
 use lists::numbers::natural_at;
-use lists::{COMPONENT, COMPONENTS, CONNECTIONS};
 ghost use mathlib.Core.Path.{_≡_};
 ghost use mathlib.Core.Bool.{Bool, _&&_, _||_};
 ghost use mathlib.Core.List.{List};
@@ -50,7 +56,12 @@ pub(crate) fn build_tables(
 }
 
 // The regions of the nodes below labels.len(); answers how many there are.
-pub(crate) fn find_regions(forward: &[u64], backward: &[u64], labels: &mut [usize], stack: &mut [usize]) -> usize
+pub(crate) fn find_regions(
+    forward: &[u64],
+    backward: &[u64],
+    labels: &mut [usize],
+    stack: &mut [usize],
+) -> usize
     requires { ⌜ Ascending (now forward) × (Ascending (now backward) × Reversed (length (now labels)) (now forward) (now backward)) ⌝ }
     requires { ⌜ (length (now labels) ≤ componentLimit) × ((2 * length (now labels) ≤ length (now stack)) × Zeros (now stack)) ⌝ }
     ensures { λ r. ⌜ Regions (length (now (labels .entry))) (edges (length (now (labels .entry))) (now (forward .entry))) (now (labels .exit)) r (now (stack .exit)) ⌝ }
@@ -59,11 +70,26 @@ pub(crate) fn find_regions(forward: &[u64], backward: &[u64], labels: &mut [usiz
     let mut visited = [false; COMPONENTS];
     let mut order = [0usize; COMPONENTS];
     let mut members = [0usize; COMPONENTS];
-    regions::regions(forward, backward, n, labels, &mut visited[..n], &mut order, &mut members, stack)
+    regions::regions(
+        forward,
+        backward,
+        n,
+        labels,
+        &mut visited[..n],
+        &mut order,
+        &mut members,
+        stack,
+    )
 }
 
 // Marks in `visited` what the flagged components reach; members[p] is the node of component p.
-pub(crate) fn find_reach(keys: &[u64], members: &[usize], flags: &[bool], visited: &mut [bool], stack: &mut [usize])
+pub(crate) fn find_reach(
+    keys: &[u64],
+    members: &[usize],
+    flags: &[bool],
+    visited: &mut [bool],
+    stack: &mut [usize],
+)
     requires { ⌜ Ascending (now keys) × (length (now visited) ≤ componentLimit) ⌝ }
     requires { ⌜ Indices (length (now visited)) (length (now visited)) (now members) × (length (now visited) ≤ length (now flags)) ⌝ }
     requires { ⌜ (2 * length (now visited) ≤ length (now stack)) × Zeros (now stack) ⌝ }

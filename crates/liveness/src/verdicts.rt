@@ -1,7 +1,8 @@
 // Verdict rows and source rows.
 use super::signals::PORTS;
+use lists::COMPONENT;
+use lists::Found;
 use lists::numbers::natural_at;
-use lists::{Found, COMPONENT};
 use tables::SPAN;
 ghost use mathlib.Core.Path.{_≡_};
 ghost use mathlib.Core.Bool.{Bool};

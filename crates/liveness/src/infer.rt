@@ -1,0 +1,55 @@
+// Which wires are inferred inputs: the regions fed from outside, then a test for each component.
+use super::flags::gather;
+use super::inferred::is_inferred;
+use super::inferred::outside_flags;
+use super::inferred::passive_flags;
+use super::inferred::sink_regions;
+use lists::COMPONENT;
+use lists::COMPONENTS;
+use lists::CONNECTIONS;
+use lists::PORT;
+ghost use mathlib.Core.Path.{_≡_};
+ghost use mathlib.Core.Bool.{Bool, true, not, _&&_, _||_};
+ghost use Prim.Native.Nat.{ℕ, _≤_, _<_};
+ghost use lib.Dec.{eqb, leb};
+ghost use lib.ListN.{length, getD};
+ghost use Rattle.sets.specs.Members.{countBelow};
+ghost use Rattle.lists.specs.Limits.{componentLimit};
+ghost use Rattle.lists.specs.Records.{component, componentCount, portCount};
+ghost use Rattle.lists.specs.Within.{Components, PortConnections};
+ghost use Rattle.lists.specs.First.{some};
+ghost use Rattle.regions.specs.Graph.{marked};
+ghost use Rattle.regions.specs.Keys.{edges};
+ghost use Rattle.liveness.specs.Regions.{wire};
+ghost use Rattle.liveness.specs.Flags.{Flags, Indices};
+ghost use Rattle.liveness.specs.Seen.{Rows, SignalEnds};
+ghost use Rattle.liveness.specs.Stages.{inferredBy};
+
+// Flags the inferred inputs, by list place, given which regions have a drive source and which are fed from outside.
+pub(crate) fn infer(
+    components: &[i64],
+    members: &[usize],
+    region_at: &[usize],
+    has_drive: &[bool],
+    fed: &[bool],
+    forward: &[u64],
+    backward: &[u64],
+    labels: &[usize],
+    flags: &mut [bool],
+)
+    requires { ⌜ Components (now components) × (Rows (length (now labels)) (now forward) × Rows (length (now labels)) (now backward)) ⌝ }
+    requires { ⌜ Indices (componentCount (now components)) (length (now labels)) (now members) × (componentCount (now components) ≤ length (now flags)) ⌝ }
+    requires { ⌜ Indices (componentCount (now components)) (length (now «has_drive»)) (now «region_at») × (length (now «has_drive») ≤ length (now fed)) ⌝ }
+    ensures { λ _. ⌜ Flags (componentCount (now (components .entry)))
+        (inferredBy (now (components .entry)) (now (members .entry)) (now («region_at» .entry)) (now («has_drive» .entry)) (now (fed .entry)) (now (forward .entry)) (now (backward .entry)) (now (labels .entry)))
+        (now (flags .exit)) ⌝ }
+{
+    let count = components.len() / COMPONENT;
+    let mut p: usize = 0;
+    while p < count {
+        let region = region_at[p];
+        let quiet = !has_drive[region] & !fed[region];
+        flags[p] = is_inferred(components, p, quiet, forward, backward, labels, members[p]);
+        p += 1;
+    }
+}
