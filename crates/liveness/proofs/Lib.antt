@@ -6,8 +6,10 @@ pub mod Tabulated
 pub mod Ends
 pub mod Graph
 -- Laws of the definitions, for the proofs of this crate.
+pub mod Lent
 pub mod Marks
 pub mod Frontiers
+pub mod Staged
 -- Laws of the definitions, for the proofs of this crate.
 --     Neighbours   see, see_row, few_neighbours
 --     Stores       a list filled place by place; port connections that carry a signal

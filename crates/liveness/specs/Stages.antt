@@ -2,16 +2,19 @@
 -- Assumes nothing: these are definitions.
 use Prim.Native.Nat.{ℕ, _+_, _*_, _≤_, _<_}
 use mathlib.Core.Path.{_≡_}
-use mathlib.Core.Bool.{Bool}
+use mathlib.Core.Bool.{Bool, _&&_, _||_}
 use mathlib.Core.List.{List}
+use lib.Dec.{eqb, leb}
 use lib.ListN.{length, getD}
 use lib.IntN.{ℤ}
+use Rattle.sets.specs.Members.{countBelow}
 use Rattle.lists.specs.Limits.{componentLimit}
 use Rattle.lists.specs.Records.{componentCount, portCount}
-use Rattle.lists.specs.Ids.{memberOf}
+use Rattle.lists.specs.First.{some}
 use Rattle.regions.specs.Graph.{Edges, marked}
 use Rattle.regions.specs.Kosaraju.{reached}
 use Rattle.regions.specs.Search.{Zeros}
+use Rattle.liveness.specs.Signals.{isSignal}
 use Rattle.liveness.specs.Keys.{Settled, Slots, KeysOf, ports}
 use Rattle.liveness.specs.Flags.{Gathered}
 
@@ -32,3 +35,13 @@ pub record ReachedBy (n : ℕ) (edge : Edges) (members : List ℕ) (flags visite
   pub gathered : Gathered n members flags marks
   pub visited-is : visited ≡ reached n edge marks
   pub stack-zeros : Zeros stack
+
+-- port connection k leads from a node of region r to itself
+abbrev pub selfAt : List ℤ → List ℕ → List ℕ → List ℕ → ℕ → ℕ → Bool
+selfAt ps sources sinks labels r k =
+    (isSignal ps k && eqb (getD sources k 0) (getD sinks k 0)) && eqb (getD labels (getD sinks k 0) 0) r
+
+-- region r has two nodes or more, or such a connection
+abbrev pub cyclicAt : List ℤ → List ℕ → List ℕ → List ℕ → ℕ → Bool
+cyclicAt ps sources sinks labels r =
+    leb 2 (countBelow (λ m. eqb (getD labels m 0) r) (length labels)) || some (selfAt ps sources sinks labels r) (portCount ps)

@@ -4,25 +4,15 @@ use borrow.Author.Needs.{needs}
 use mathlib.Core.Path.{_≡_, refl, sym, ap, _∙_}
 use mathlib.Core.Bool.{Bool, false}
 use mathlib.Core.List.{List, _++_}
-use Prim.Native.Nat.{ℕ, _+_, _≤_}
+use Prim.Native.Nat.{_≤_}
 use native.Mathlib.Omega.{arith}
-use lib.ListN.{length, take, drop, replicate, length-append}
-use lib.Seq.{length-take-le, take-append-seam}
+use lib.ListN.{length, take, drop, replicate}
+use lib.Seq.{length-take-le}
 use Rattle.lists.specs.Limits.{componentLimit}
 use Rattle.regions.specs.Kosaraju.{reached}
-use Rattle.liveness.specs.Flags.{Indices}
+use Rattle.liveness.proofs.Lent.{front, front-long, indices-same}
 use Rattle.liveness.proofs.stages.find_reach.Statement.{statement}
 use Rattle.liveness.proofs.stages.find_reach.Tie as tie
-
--- the front of an array that was lent is what came back
-front : {A : Type 0} (n : ℕ) (out rest : List A) → length out ≡ n → take n (out ++ rest) ≡ out
-front n out rest e = rw (← e) (take-append-seam out rest)
-
-front-long : {A : Type 0} (n : ℕ) (out rest : List A) → length out ≡ n → n ≤ length (out ++ rest)
-front-long n out rest e = rw (length-append) (omega arith)
-
-indices-same : {n m m′ : ℕ} {index : List ℕ} → m ≡ m′ → Indices n m index → Indices n m′ index
-indices-same e i = record { long = i .long; below = λ p h. omega (arith, e, i .below p h) }
 
 -- the marks that are lent are those of the nodes
 small : (c : tie.Start) → length (c .args .visited .now) ≤ 1024
