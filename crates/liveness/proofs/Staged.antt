@@ -1,11 +1,14 @@
 -- What the stages leave in their arrays is what the definitions say.
---     regions-are                 the labels and the number of the regions
---     cyclic-is, cyclic-flags     the flags of the cyclic regions
---     marks-are, reach-is         the gathered marks, and what they reach
---     drive-is, potential-is      reached from the drive sources, and from the inferred inputs too
+--     regions-are, labels-long         the labels and the number of the regions
+--     labels-below                     each label is below the number of nodes
+--     source-ends, sink-ends           the settled ends of signal connections are nodes
+--     cyclic-is, cyclic-flags          the flags of the cyclic regions
+--     members-below, labels-placed     members and labels by list place
+--     marks-are, reach-is              the gathered marks, and what they reach
+--     drive-is, potential-is           reached from the drive sources, and from the inferred inputs too
 -- Assumes nothing.
-use mathlib.Core.Path.{_≡_, refl, sym, ap, _∙_}
-use mathlib.Core.Bool.{Bool, true, false, _&&_, _||_}
+use mathlib.Core.Path.{_≡_, sym, ap, _∙_}
+use mathlib.Core.Bool.{Bool, false, _&&_, _||_}
 use mathlib.Core.List.{List}
 use Prim.Native.Nat.{ℕ, _≤_, _<_}
 use native.Mathlib.Omega.{arith}
@@ -18,6 +21,7 @@ use Rattle.lists.specs.Limits.{componentLimit}
 use Rattle.lists.specs.Records.{componentCount, portCount}
 use Rattle.lists.specs.First.{isFound, some, tabulate}
 use Rattle.lists.specs.Ids.{memberOf}
+use Rattle.lists.proofs.Members.{member-below}
 use Rattle.regions.specs.Graph.{Edges, at}
 use Rattle.regions.specs.Keys.{edges}
 use Rattle.regions.specs.Kosaraju as Kosaraju
@@ -26,15 +30,31 @@ use Rattle.regions.specs.Search.{Regions}
 use Rattle.regions.proofs.Theorems.{keys-regions}
 use Rattle.liveness.specs.Signals.{isSignal, sourceMember, sinkMember, signals}
 use Rattle.liveness.specs.Sources.{isDrive}
-use Rattle.liveness.specs.Regions.{labels, regionCount, isCyclic, isInferred}
+use Rattle.liveness.specs.Regions.{labels, regionCount, regionAt, isCyclic, isInferred}
 use Rattle.liveness.specs.Drive.{membersWhere, drive, potential}
 use Rattle.liveness.specs.Keys.{Settled}
-use Rattle.liveness.specs.Flags.{Flags, Numbers, Gathered}
+use Rattle.liveness.specs.Flags.{Flags, Numbers, Gathered, Indices}
+use Rattle.liveness.specs.Seen.{SignalEnds}
 use Rattle.liveness.specs.Stages.{ReachedBy, selfAt, cyclicAt}
 use Rattle.liveness.proofs.Tabulated.{first-cong, tabulated-length, tabulated-at}
+use Rattle.liveness.proofs.Ends.{EndsWithin}
 use Rattle.liveness.proofs.Graph.{source-at, sink-at, and-assoc}
 
+-- ---- the ends of signal connections
+
+module _ {cs ps : List ℤ} {sources sinks : List ℕ} (few : componentCount cs ≤ componentLimit) (s : Settled cs ps 0 sources) (t : Settled cs ps 2 sinks)
+    (ends : EndsWithin cs ps) where
+  pub source-ends : portCount ps ≤ length sources → SignalEnds (componentCount cs) ps sources
+  source-ends long = record { long = long; below = λ k h e. rw (source-at few s t k h) (ends k h e .0) }
+
+  pub sink-ends : portCount ps ≤ length sinks → SignalEnds (componentCount cs) ps sinks
+  sink-ends long = record { long = long; below = λ k h e. rw (sink-at few s t k h) (ends k h e .1) }
+
 -- ---- regions
+
+-- a bound of the one graph is one of the other
+ap-less : {m : ℕ} {g h : Edges} (f : Edges → ℕ) → g ≡ h → f g < m → f h < m
+ap-less f e l = omega (arith, l, ap f e)
 
 module _ (cs ps : List ℤ) (keys : List ℕ) (graph : edges (componentCount cs) keys ≡ signals cs ps) where
   pub regions-are : {numbers : List ℕ} {count : ℕ} {stack : List ℕ} → Regions (componentCount cs) (edges (componentCount cs) keys) numbers count stack
@@ -47,6 +67,16 @@ module _ (cs ps : List ℤ) (keys : List ℕ) (graph : edges (componentCount cs)
   labels-long =
       let n = componentCount cs in
       ap (λ (g : Edges). length (Kosaraju.regionOf n g)) (sym graph) ∙ keys-regions n keys .long
+
+  pub labels-below : (m : ℕ) → componentCount cs ≤ m → Indices (length (labels cs ps)) m (labels cs ps)
+  labels-below m h =
+      let n = componentCount cs in
+      let laws = keys-regions n keys in
+      record {
+        long = omega arith;
+        below = λ p l. ap-less (λ (g : Edges). at (Kosaraju.regionOf n g) p) graph
+            (omega (arith, laws .below p (omega (arith, labels-long)), laws .few));
+      }
 
   module _ {sources sinks : List ℕ} (few : componentCount cs ≤ componentLimit) (s : Settled cs ps 0 sources) (t : Settled cs ps 2 sinks) where
     pub cyclic-is : (r : ℕ) → cyclicAt ps sources sinks (labels cs ps) r ≡ isCyclic cs ps r
@@ -67,6 +97,13 @@ module _ (cs ps : List ℤ) (keys : List ℕ) (graph : edges (componentCount cs)
 -- ---- reach
 
 module _ (cs : List ℤ) {members : List ℕ} (numbers : Numbers (componentCount cs) (memberOf cs) members) where
+  pub members-below : Indices (componentCount cs) (componentCount cs) members
+  members-below = record { long = numbers .long; below = λ p h. rw (numbers .at p h) (member-below cs p h) }
+
+  pub labels-placed : (ps : List ℤ) {out : List ℕ} → Numbers (componentCount cs) (λ p. getD (labels cs ps) (getD members p 0) 0) out
+      → Numbers (componentCount cs) (regionAt cs ps) out
+  labels-placed ps o = record { long = o .long; at = λ p h. o .at p h ∙ ap (at (labels cs ps)) (numbers .at p h) }
+
   pub marks-are : {P : ℕ → Bool} {flags marks : List Bool} → Flags (componentCount cs) P flags → length marks ≡ componentCount cs
       → Gathered (componentCount cs) members flags marks → marks ≡ membersWhere cs P
   unfolding membersWhere

@@ -1,6 +1,6 @@
 -- The stages of the analysis, and what each leaves in its arrays.
 -- Assumes nothing: these are definitions.
-use Prim.Native.Nat.{ℕ, _+_, _*_, _≤_, _<_}
+use Prim.Native.Nat.{ℕ, _*_}
 use mathlib.Core.Path.{_≡_}
 use mathlib.Core.Bool.{Bool, _&&_, _||_}
 use mathlib.Core.List.{List}
@@ -9,9 +9,9 @@ use lib.ListN.{length, getD}
 use lib.IntN.{ℤ}
 use Rattle.sets.specs.Members.{countBelow}
 use Rattle.lists.specs.Limits.{componentLimit}
-use Rattle.lists.specs.Records.{componentCount, portCount}
+use Rattle.lists.specs.Records.{portCount}
 use Rattle.lists.specs.First.{some}
-use Rattle.regions.specs.Graph.{Edges, marked}
+use Rattle.regions.specs.Graph.{Edges}
 use Rattle.regions.specs.Kosaraju.{reached}
 use Rattle.regions.specs.Search.{Zeros}
 use Rattle.liveness.specs.Signals.{isSignal}

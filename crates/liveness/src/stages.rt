@@ -1,19 +1,26 @@
 // The stages of the analysis over local arrays: tables of edges, regions, reach.
-use super::flags::{count_into, gather};
-use super::inferred::{self_flags, sink_regions};
-use super::signals::{settle, settle_slots, signal_keys, PORTS};
+use super::flags::count_into;
+use super::flags::gather;
+use super::inferred::self_flags;
+use super::inferred::sink_regions;
+use super::signals::PORTS;
+use super::signals::settle;
+use super::signals::settle_slots;
+use super::signals::signal_keys;
+use lists::COMPONENT;
+use lists::COMPONENTS;
+use lists::CONNECTIONS;
+use lists::PORT;
 use lists::ids::member_of;
 use lists::numbers::natural_at;
-use lists::{COMPONENT, COMPONENTS, CONNECTIONS, PORT};
 ghost use mathlib.Core.Path.{_≡_};
-ghost use mathlib.Core.Bool.{Bool, _&&_, _||_};
+ghost use mathlib.Core.Bool.{_||_};
 ghost use mathlib.Core.List.{List};
-ghost use Prim.Native.Nat.{ℕ, _+_, _*_, _≤_, _<_};
-ghost use lib.Dec.{eqb, leb};
+ghost use Prim.Native.Nat.{_*_, _≤_, _<_};
+ghost use lib.Dec.{leb};
 ghost use lib.ListN.{length, getD};
 ghost use lib.IntN.{ℤ};
 ghost use Rattle.tables.specs.Order.{Ascending};
-ghost use Rattle.sets.specs.Members.{countBelow};
 ghost use Rattle.lists.specs.Limits.{componentLimit};
 ghost use Rattle.lists.specs.Records.{componentCount, portCount};
 ghost use Rattle.lists.specs.Ids.{IdTable, IsIdTable, memberOf};
@@ -51,7 +58,12 @@ pub(crate) fn build_tables(
 }
 
 // The regions of the nodes below labels.len(); answers how many there are.
-pub(crate) fn find_regions(forward: &[u64], backward: &[u64], labels: &mut [usize], stack: &mut [usize]) -> usize
+pub(crate) fn find_regions(
+    forward: &[u64],
+    backward: &[u64],
+    labels: &mut [usize],
+    stack: &mut [usize],
+) -> usize
     requires { ⌜ Ascending (now forward) × (Ascending (now backward) × Reversed (length (now labels)) (now forward) (now backward)) ⌝ }
     requires { ⌜ (length (now labels) ≤ componentLimit) × ((2 * length (now labels) ≤ length (now stack)) × Zeros (now stack)) ⌝ }
     ensures { λ r. ⌜ Regions (length (now (labels .entry))) (edges (length (now (labels .entry))) (now (forward .entry))) (now (labels .exit)) r (now (stack .exit)) ⌝ }
@@ -60,11 +72,26 @@ pub(crate) fn find_regions(forward: &[u64], backward: &[u64], labels: &mut [usiz
     let mut visited = [false; COMPONENTS];
     let mut order = [0usize; COMPONENTS];
     let mut members = [0usize; COMPONENTS];
-    regions::regions(forward, backward, n, labels, &mut visited[..n], &mut order, &mut members, stack)
+    regions::regions(
+        forward,
+        backward,
+        n,
+        labels,
+        &mut visited[..n],
+        &mut order,
+        &mut members,
+        stack,
+    )
 }
 
 // Marks in `visited` what the flagged components reach; members[p] is the node of component p.
-pub(crate) fn find_reach(keys: &[u64], members: &[usize], flags: &[bool], visited: &mut [bool], stack: &mut [usize])
+pub(crate) fn find_reach(
+    keys: &[u64],
+    members: &[usize],
+    flags: &[bool],
+    visited: &mut [bool],
+    stack: &mut [usize],
+)
     requires { ⌜ Ascending (now keys) × (length (now visited) ≤ componentLimit) ⌝ }
     requires { ⌜ Indices (length (now visited)) (length (now visited)) (now members) × (length (now visited) ≤ length (now flags)) ⌝ }
     requires { ⌜ (2 * length (now visited) ≤ length (now stack)) × Zeros (now stack) ⌝ }
@@ -118,7 +145,13 @@ fn flag_large(sizes: &[usize], flags: &mut [bool])
 }
 
 // Flags the regions with a connection from a node to itself.
-fn flag_selves(ports: &[i64], sources: &[usize], sinks: &[usize], labels: &[usize], flags: &mut [bool])
+fn flag_selves(
+    ports: &[i64],
+    sources: &[usize],
+    sinks: &[usize],
+    labels: &[usize],
+    flags: &mut [bool],
+)
     requires { ⌜ PortConnections (now ports) ⌝ }
     requires { ⌜ SignalEnds (length (now labels)) (now ports) (now sinks) × (portCount (now ports) ≤ length (now sources)) ⌝ }
     requires { ⌜ Indices (length (now labels)) (length (now flags)) (now labels) × (0 < length (now flags)) ⌝ }
@@ -132,7 +165,13 @@ fn flag_selves(ports: &[i64], sources: &[usize], sinks: &[usize], labels: &[usiz
 }
 
 // Flags the cyclic regions: those of two nodes or more, or with a connection from a node to itself.
-pub(crate) fn find_cyclic(ports: &[i64], sources: &[usize], sinks: &[usize], labels: &[usize], flags: &mut [bool])
+pub(crate) fn find_cyclic(
+    ports: &[i64],
+    sources: &[usize],
+    sinks: &[usize],
+    labels: &[usize],
+    flags: &mut [bool],
+)
     requires { ⌜ PortConnections (now ports) ⌝ }
     requires { ⌜ SignalEnds (length (now labels)) (now ports) (now sinks) × (portCount (now ports) ≤ length (now sources)) ⌝ }
     requires { ⌜ Indices (length (now labels)) (length (now flags)) (now labels) × ((0 < length (now flags)) × (length (now flags) ≤ componentLimit)) ⌝ }

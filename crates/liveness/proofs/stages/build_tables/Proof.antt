@@ -1,7 +1,7 @@
 -- `liveness::stages::build_tables` meets its contract: the settled ends and the ports that they feed can be sorted as pairs.
 -- Assumes nothing.
 use borrow.Author.Needs.{needs}
-use mathlib.Core.Path.{_≡_, refl}
+use mathlib.Core.Path.{refl}
 use mathlib.Core.List.{List}
 use mathlib.Core.Logic.{inl, inr}
 use Prim.Native.Nat.{ℕ, _≤_}

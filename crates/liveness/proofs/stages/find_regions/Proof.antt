@@ -1,10 +1,10 @@
 -- `liveness::stages::find_regions` meets its contract: the walk has room in the local arrays.
 -- Assumes nothing.
 use borrow.Author.Needs.{needs}
-use mathlib.Core.Path.{_≡_, refl, sym}
+use mathlib.Core.Path.{refl, sym}
 use Prim.Native.Nat.{_≤_}
 use native.Mathlib.Omega.{arith}
-use lib.ListN.{length, take}
+use lib.ListN.{length}
 use lib.Seq.{length-take-le}
 use Rattle.liveness.proofs.stages.find_regions.Statement.{statement}
 use Rattle.liveness.proofs.stages.find_regions.Tie as tie
