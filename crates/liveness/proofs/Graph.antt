@@ -1,4 +1,5 @@
 -- The tables of keys are the graph of `signals`.
+--     and-assoc                             tests joined to the left or to the right
 --     pair-same, slot-same                  two pairs are equal where their parts are
 --     pairs-member                          what a table of keys has
 --     settled-small                         settled members are below the span
@@ -68,7 +69,7 @@ and-turn true true false = refl
 and-turn true false true = refl
 and-turn true false false = refl
 
-and-assoc : (a b c : Bool) → ((a && b) && c) ≡ (a && (b && c))
+pub and-assoc : (a b c : Bool) → ((a && b) && c) ≡ (a && (b && c))
 and-assoc true b c = refl
 and-assoc false b c = refl
 

@@ -1,5 +1,5 @@
 -- The list of a function's values, and the keys of the port connections.
---     tab-length, tab-at      the list by its places
+--     tabulated-length, tabulated-at, tab-length, tab-at      the list by its places; the same of numbers
 --     keys-of                 the keys of all port connections, sorted
 --     member-tab              a value is a member where the function has it at some place
 --     first-cong              a search by a test that is the same
@@ -35,20 +35,27 @@ first-cong P Q k zero same = refl
 first-cong P Q k (suc n) same =
     rw (same k (omega arith) (omega arith), first-cong P Q (suc k) n (λ j a b. same j (omega arith) (omega arith)))
 
+module _ {A : Type 0} (f : ℕ → A) where
+  pub tabulated-length : (n : ℕ) → length (tabulate f n) ≡ n
+  unfolding tabulate
+  tabulated-length zero = refl
+  tabulated-length (suc n) = rw (length-append, tabulated-length n) (omega arith)
+
+  pub tabulated-at : (d : A) (n k : ℕ) → k < n → getD (tabulate f n) k d ≡ f k
+  unfolding tabulate
+  tabulated-at d zero k h = absurd (omega arith)
+  tabulated-at d (suc n) k h =
+      ⊎-elim
+      (λ (same : k ≡ n). rw same (getD-at (tabulate f n) (f n) [] d n (tabulated-length n)))
+      (λ (less : k < n). List·getD-append (tabulate f n) (f n ∷ []) d k (rw (tabulated-length n) less) ∙ tabulated-at d n k less)
+      (eq-or-lt-of-le (le-of-suc-le-suc h))
+
 module _ (f : ℕ → ℕ) where
   pub tab-length : (n : ℕ) → length (tabulate f n) ≡ n
-  unfolding tabulate
-  tab-length zero = refl
-  tab-length (suc n) = rw (length-append, tab-length n) (omega arith)
+  tab-length n = tabulated-length f n
 
   pub tab-at : (n k : ℕ) → k < n → getD (tabulate f n) k 0 ≡ f k
-  unfolding tabulate
-  tab-at zero k h = absurd (omega arith)
-  tab-at (suc n) k h =
-      ⊎-elim
-      (λ (same : k ≡ n). rw same (getD-at (tabulate f n) (f n) [] 0 n (tab-length n)))
-      (λ (less : k < n). List·getD-append (tabulate f n) (f n ∷ []) 0 k (rw (tab-length n) less) ∙ tab-at n k less)
-      (eq-or-lt-of-le (le-of-suc-le-suc h))
+  tab-at n k h = tabulated-at f 0 n k h
 
   pub member-tab : (n v : ℕ) → member v (tabulate f n) ≡ some (λ k. eqb (f k) v) n
   member-tab n v = go (firstFrom (λ k. eqb (f k) v) 0 n) refl

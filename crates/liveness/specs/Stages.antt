@@ -1,21 +1,22 @@
 -- The stages of the analysis, and what each leaves in its arrays.
 -- Assumes nothing: these are definitions.
-use Prim.Native.Nat.{ℕ, _+_, _*_, _≤_, _<_}
+use Prim.Native.Nat.{ℕ, _*_}
 use mathlib.Core.Path.{_≡_}
 use mathlib.Core.Bool.{Bool, not, _&&_, _||_}
 use mathlib.Core.List.{List}
 use lib.Dec.{eqb, leb}
 use lib.ListN.{length, getD}
 use lib.IntN.{ℤ}
-use Rattle.lists.specs.Limits.{componentLimit}
 use Rattle.sets.specs.Members.{countBelow}
-use Rattle.lists.specs.Records.{component, componentCount, portCount}
-use Rattle.lists.specs.Ids.{memberOf}
+use Rattle.lists.specs.Limits.{componentLimit}
+use Rattle.lists.specs.Records.{component, portCount}
+use Rattle.lists.specs.First.{some}
 use Rattle.regions.specs.Graph.{Edges, marked}
 use Rattle.regions.specs.Kosaraju.{reached}
 use Rattle.regions.specs.Keys.{edges}
 use Rattle.regions.specs.Search.{Zeros}
 use Rattle.liveness.specs.Regions.{wire}
+use Rattle.liveness.specs.Signals.{isSignal}
 use Rattle.liveness.specs.Keys.{Settled, Slots, KeysOf, ports}
 use Rattle.liveness.specs.Flags.{Gathered}
 
@@ -48,3 +49,13 @@ inferredBy cs members regionAt hasDrive fed forward backward labels p =
     && (edges (length labels) forward (getD members p 0) j || edges (length labels) backward (getD members p 0) j))
     (length labels))
     1)
+
+-- port connection k leads from a node of region r to itself
+abbrev pub selfAt : List ℤ → List ℕ → List ℕ → List ℕ → ℕ → ℕ → Bool
+selfAt ps sources sinks labels r k =
+    (isSignal ps k && eqb (getD sources k 0) (getD sinks k 0)) && eqb (getD labels (getD sinks k 0) 0) r
+
+-- region r has two nodes or more, or such a connection
+abbrev pub cyclicAt : List ℤ → List ℕ → List ℕ → List ℕ → ℕ → Bool
+cyclicAt ps sources sinks labels r =
+    leb 2 (countBelow (λ m. eqb (getD labels m 0) r) (length labels)) || some (selfAt ps sources sinks labels r) (portCount ps)

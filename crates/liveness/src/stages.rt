@@ -2,6 +2,7 @@
 use super::flags::count_into;
 use super::flags::gather;
 use super::inferred::self_flags;
+use super::inferred::sink_regions;
 use super::signals::PORTS;
 use super::signals::settle;
 use super::signals::settle_slots;
@@ -9,17 +10,17 @@ use super::signals::signal_keys;
 use lists::COMPONENT;
 use lists::COMPONENTS;
 use lists::CONNECTIONS;
+use lists::PORT;
 use lists::ids::member_of;
 use lists::numbers::natural_at;
 ghost use mathlib.Core.Path.{_≡_};
-ghost use mathlib.Core.Bool.{Bool, _&&_, _||_};
+ghost use mathlib.Core.Bool.{_||_};
 ghost use mathlib.Core.List.{List};
-ghost use Prim.Native.Nat.{ℕ, _+_, _*_, _≤_, _<_};
-ghost use lib.Dec.{eqb, leb};
+ghost use Prim.Native.Nat.{_*_, _≤_, _<_};
+ghost use lib.Dec.{leb};
 ghost use lib.ListN.{length, getD};
 ghost use lib.IntN.{ℤ};
 ghost use Rattle.tables.specs.Order.{Ascending};
-ghost use Rattle.sets.specs.Members.{countBelow};
 ghost use Rattle.lists.specs.Limits.{componentLimit};
 ghost use Rattle.lists.specs.Records.{componentCount, portCount};
 ghost use Rattle.lists.specs.Ids.{IdTable, IsIdTable, memberOf};
@@ -29,7 +30,8 @@ ghost use Rattle.regions.specs.Keys.{edges, Reversed};
 ghost use Rattle.regions.specs.Graph.{marked};
 ghost use Rattle.regions.specs.Search.{Zeros, Regions};
 ghost use Rattle.liveness.specs.Flags.{Flags, Numbers, Indices};
-ghost use Rattle.liveness.specs.Stages.{Tables, ReachedBy};
+ghost use Rattle.liveness.specs.Seen.{SignalEnds};
+ghost use Rattle.liveness.specs.Stages.{Tables, ReachedBy, selfAt, cyclicAt};
 
 // Settles the ends of the port connections and sorts the signal edges into three tables.
 pub(crate) fn build_tables(
@@ -140,4 +142,44 @@ fn flag_large(sizes: &[usize], flags: &mut [bool])
         }
         r += 1;
     }
+}
+
+// Flags the regions with a connection from a node to itself.
+fn flag_selves(
+    ports: &[i64],
+    sources: &[usize],
+    sinks: &[usize],
+    labels: &[usize],
+    flags: &mut [bool],
+)
+    requires { ⌜ PortConnections (now ports) ⌝ }
+    requires { ⌜ SignalEnds (length (now labels)) (now ports) (now sinks) × (portCount (now ports) ≤ length (now sources)) ⌝ }
+    requires { ⌜ Indices (length (now labels)) (length (now flags)) (now labels) × (0 < length (now flags)) ⌝ }
+    ensures { λ _. ⌜ Flags (length (now (flags .entry))) (λ r. some (selfAt (now (ports .entry)) (now (sources .entry)) (now (sinks .entry)) (now (labels .entry)) r) (portCount (now (ports .entry)))) (now (flags .exit)) ⌝ }
+{
+    let mut itself = [false; CONNECTIONS];
+    let mut ends = [0usize; CONNECTIONS];
+    self_flags(ports, sources, sinks, &mut itself);
+    sink_regions(ports, sinks, labels, &mut ends);
+    gather(ports.len() / PORT, &ends, &itself, flags);
+}
+
+// Flags the cyclic regions: those of two nodes or more, or with a connection from a node to itself.
+pub(crate) fn find_cyclic(
+    ports: &[i64],
+    sources: &[usize],
+    sinks: &[usize],
+    labels: &[usize],
+    flags: &mut [bool],
+)
+    requires { ⌜ PortConnections (now ports) ⌝ }
+    requires { ⌜ SignalEnds (length (now labels)) (now ports) (now sinks) × (portCount (now ports) ≤ length (now sources)) ⌝ }
+    requires { ⌜ Indices (length (now labels)) (length (now flags)) (now labels) × ((0 < length (now flags)) × (length (now flags) ≤ componentLimit)) ⌝ }
+    ensures { λ _. ⌜ Flags (length (now (flags .entry))) (cyclicAt (now (ports .entry)) (now (sources .entry)) (now (sinks .entry)) (now (labels .entry))) (now (flags .exit)) ⌝ }
+{
+    let count = flags.len();
+    let mut sizes = [0usize; COMPONENTS];
+    flag_selves(ports, sources, sinks, labels, flags);
+    count_into(labels.len(), labels, &mut sizes[..count]);
+    flag_large(&sizes[..count], flags);
 }

@@ -1,0 +1,20 @@
+-- Arrays whose front is lent.
+--     front, front-long      what came back stands at the front
+--     indices-same           indices below the length that was lent
+-- Assumes nothing.
+use mathlib.Core.Path.{_≡_}
+use mathlib.Core.List.{List, _++_}
+use Prim.Native.Nat.{ℕ, _≤_}
+use native.Mathlib.Omega.{arith}
+use lib.ListN.{length, take, length-append}
+use lib.Seq.{take-append-seam}
+use Rattle.liveness.specs.Flags.{Indices}
+
+pub front : {A : Type 0} (n : ℕ) (out rest : List A) → length out ≡ n → take n (out ++ rest) ≡ out
+front n out rest e = rw (← e) (take-append-seam out rest)
+
+pub front-long : {A : Type 0} (n : ℕ) (out rest : List A) → length out ≡ n → n ≤ length (out ++ rest)
+front-long n out rest e = rw (length-append) (omega arith)
+
+pub indices-same : {n m m′ : ℕ} {index : List ℕ} → m ≡ m′ → Indices n m index → Indices n m′ index
+indices-same e i = record { long = i .long; below = λ p h. omega (arith, e, i .below p h) }
