@@ -33,11 +33,12 @@ use Rattle.capi.proofs.Answers.{whole-fits}
 
 -- ---- bytes
 
--- eight bytes of ones are -1, and the highest byte is the last
+-- the highest byte is the last
 least : signed (littleEndian (0 ∷ 0 ∷ 0 ∷ 0 ∷ 0 ∷ 0 ∷ 0 ∷ 128 ∷ [])) ≡ negsuc 9223372036854775807
 unfolding signed littleEndian
 least = refl
 
+-- the odd tail is not read
 minus-one : numbers (255 ∷ 255 ∷ 255 ∷ 255 ∷ 255 ∷ 255 ∷ 255 ∷ 255 ∷ 1 ∷ 2 ∷ 3 ∷ []) ≡ negsuc 0 ∷ []
 unfolding firstNumbers signed littleEndian
 minus-one = refl
