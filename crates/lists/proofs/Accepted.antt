@@ -2,27 +2,31 @@
 --     grouping-accept       the lists of the grouping and of the ports entry, and of a sheet
 --     liveness-accept       the lists of the liveness entry and of the input query
 --     room-places           a slice with room for places of one number
+--     id-past               no component has an id past the greatest
 -- Assumes nothing.
-use mathlib.Core.Path.{_≡_, _∙_}
+use mathlib.Core.Path.{_≡_, refl, _∙_}
 use mathlib.Core.Bool.{Bool, true}
 use mathlib.Core.List.{List}
-use Prim.Native.Nat.{ℕ, _/_, _≤_}
+use Prim.Native.Nat.{ℕ, _/_, _≤_, _<_}
 use native.Mathlib.Omega.{arith}
 use lib.ListN.{length}
 use lib.IntN.{ℤ}
-use borrow.Author.Tests.{leb-true}
+use lib.Dec.{eqb}
+use borrow.Author.Tests.{leb-true, ne-eqb}
 use Rattle.lists.specs.Limits.{componentLimit, connectionLimit, frontierLimit, connectionWidth, portWidth}
+use Rattle.lists.specs.Records.{component, componentCount}
 use Rattle.lists.specs.Ranges.{firstOutOfRange, componentLow, componentHigh, connectionLow, connectionHigh, portLow, portHigh, frontierLow, frontierHigh}
 use Rattle.lists.specs.Within.{Components, Connections, PortConnections, Frontiers}
 use Rattle.lists.specs.Order.{firstNotAscending, connectionOrder}
-use Rattle.lists.specs.Ids.{firstEndMissing}
+use Rattle.lists.specs.Ids.{placeBelow, placeOf, firstEndMissing}
 use Rattle.lists.specs.Refusals.{refuse, roomFor, groupingLists, livenessLists}
 use Rattle.lists.specs.Checks.{sceneOf}
 use Rattle.lists.specs.declared.Found.{Found}
 use Rattle.lists.specs.declared.Found.the-variants.{Nothing}
 use Rattle.lists.specs.declared.Checked.the-variants.{Accepted}
 use Rattle.lists.proofs.Chain.{both-accept}
-use Rattle.lists.proofs.Fields.{within}
+use Rattle.lists.proofs.Fields.{within, first-most}
+use Rattle.lists.proofs.Search.{first-nothing}
 use Rattle.lists.proofs.Accepts.{Scene, scene-accept, refuse-none, grouping-parts, liveness-parts}
 
 pub room-places : (places n : ℕ) → roomFor places 1 n ≡ true → places ≤ n
@@ -77,3 +81,10 @@ liveness-accept cs ps fs enough e =
       frontiers = frontiers-within s;
       ends = refuse-none 7 1 _ (parts .1);
     }
+
+-- no component has an id past the greatest
+pub id-past : (cs : List ℤ) → Components cs → (id : ℕ) → 4294967295 < id → placeOf cs id ≡ Nothing
+unfolding placeBelow
+id-past cs w id h =
+    first-nothing (λ k. eqb (component cs k .id) id) 0 (componentCount cs)
+    (λ k a b. ne-eqb (component cs k .id) id (λ e. omega (arith, first-most w k (let l : k < componentCount cs = omega arith in l) (omega arith) 4294967295 refl refl)))

@@ -16,6 +16,9 @@ pub const CONNECTIONS: usize = 4096;
 // The most frontiers of a scene.
 pub const FRONTIERS: usize = 256;
 
+// The farthest coordinate.
+pub const FAR: i64 = 30000000;
+
 // ---- how many numbers a record has
 
 // id, x, y, z, kind, facing, support, conducts

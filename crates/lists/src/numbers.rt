@@ -4,7 +4,7 @@ ghost use Prim.Native.Nat.{_<_};
 ghost use lib.ListN.{length};
 ghost use lib.Dec.{T};
 ghost use lib.Signed.{ltZ, nonNeg};
-ghost use Rattle.lists.specs.Signed.{at};
+ghost use Rattle.lists.specs.Signed.{at, eqZ};
 ghost use Rattle.lists.specs.Records.{naturalAt};
 
 // Whether list[i] < list[j].
@@ -21,4 +21,12 @@ pub fn natural_at(list: &[i64], i: usize) -> u64
     ensures { λ r. ⌜ r ≡ naturalAt (now (list .entry)) i ⌝ }
 {
     list[i] as u64
+}
+
+// Whether a[i] == b[j].
+pub fn number_same(a: &[i64], i: usize, b: &[i64], j: usize) -> bool
+    requires { ⌜ (i < length (now a)) × (j < length (now b)) ⌝ }
+    ensures { λ r. ⌜ r ≡ eqZ (at (now (a .entry)) i) (at (now (b .entry)) j) ⌝ }
+{
+    a[i] == b[j]
 }

@@ -1,4 +1,5 @@
 // Ranges by table: field f of a record is from low[f] to high[f].
+use super::FAR;
 use super::Found;
 ghost use mathlib.Core.Path.{_≡_};
 ghost use Prim.Native.Nat.{_+_, _≤_, _<_};
@@ -47,8 +48,6 @@ fn first_out_of_range(low: &[i64], high: &[i64], list: &[i64]) -> Found
 }
 
 const GREATEST_ID: i64 = 4294967295;
-
-const FAR: i64 = 30000000;
 
 const COMPONENT_LOW: [i64; 8] = [0, -FAR, -FAR, -FAR, 0, 0, 0, 0];
 

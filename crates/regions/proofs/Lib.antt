@@ -1,0 +1,21 @@
+-- The theorems, for the crates above, and what the proofs of the functions use.
+--     Laws      laws of the definitions
+--     Theorems  what specs/Theorems.antt states
+--     Examples  the definitions, computed at small graphs
+--     Fill      clear, clear_flags
+--     Again     a walk passes a visited node over
+--     Rows      neighbour_at: the keys of a node are its neighbours
+--     Frames    the open calls of `visit` as a stack of frames
+--     Stack     visit_from
+--     Order     finish_order, reach_from
+--     Label     paint, label_from, label_all, regions
+pub mod Laws
+pub mod Theorems
+pub mod Examples
+pub mod Fill
+pub mod Again
+pub mod Rows
+pub mod Frames
+pub mod Stack
+pub mod Order
+pub mod Label

@@ -1,0 +1,8 @@
+-- `scene::select::port_serves` meets its contract.
+-- Assumes nothing.
+use borrow.Author.Needs.{needs}
+use Rattle.scene.proofs.select.port_serves.Statement.{statement}
+use Rattle.scene.proofs.select.port_serves.Tie as tie
+
+pub port-serves-spec : {M : Type 1} → statement M
+port-serves-spec = tie.close (tie.spec (λ c. search needs) (λ c κs. search needs) (λ c κs. search needs) (λ c. cc))

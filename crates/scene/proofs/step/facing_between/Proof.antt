@@ -1,0 +1,29 @@
+-- `scene::step::facing_between` meets its contract.
+-- Assumes nothing.
+use borrow.Author.Needs.{needs}
+use mathlib.Core.Path.{_≡_, sym, _∙_}
+use mir.Syntax.{w64}
+use mir.Facts.{toZ-ofZ}
+use Rattle.scene.specs.Step.{faceOf, shiftBetween}
+use Rattle.scene.proofs.Steps.{facing-by-shifts}
+use Rattle.scene.proofs.step.facing_between.Statement.{statement}
+use Rattle.scene.proofs.step.facing_between.Tie as tie
+
+returns : tie.Need-returns
+returns c =
+    let s = c .before .before .before .before in
+    let a = s .args in
+    let f = s .fits in
+    let e : c .face-of .result ≡ faceOf (shiftBetween (a .x) (a .to-x)) (shiftBetween (a .y) (a .to-y)) (shiftBetween (a .z) (a .to-z)) =
+    cc (toZ-ofZ {w = w64} (f .x), toZ-ofZ {w = w64} (f .y), toZ-ofZ {w = w64} (f .z), toZ-ofZ {w = w64} (f .to-x), toZ-ofZ {w = w64} (f .to-y), toZ-ofZ {w = w64} (f .to-z)) in
+    e ∙ sym (facing-by-shifts (a .x) (a .y) (a .z) (a .to-x) (a .to-y) (a .to-z))
+
+pub facing-between-spec : {M : Type 1} → statement M
+facing-between-spec =
+    tie.close
+    (tie.spec
+    (λ c κs. search needs)
+    (λ c κs. search needs)
+    (λ c κs. search needs)
+    (λ c κs. search needs)
+    returns)
