@@ -50,7 +50,7 @@ fn measured<S: Subject>(change: impl Fn(Scene) -> Scene) -> Vec<Row> {
 
 fn main() {
     if cfg!(debug_assertions) {
-        eprintln!("these times mean nothing without --release");
+        eprintln!("these times mean nothing without --profile bench");
     }
     let groups = measured::<Groups>(|scene| scene);
     tables::print("Groups: `from_parts` and `dustroute_groups`", &groups);

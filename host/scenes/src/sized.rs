@@ -10,11 +10,17 @@ use crate::random::Random;
 /// Connections to a component.
 pub const CONNECTIONS_EACH: usize = 4;
 
+/// Cells to the side of a circuit.
+const CIRCUIT: i64 = 4;
+
 /// How components lie and what connects them.
 #[derive(Clone, Copy, Debug, Eq, PartialEq)]
 pub enum Shape {
     /// A plane, mostly wire; neighbours connected, mostly by dust.
     Lattice,
+    /// A plane of small circuits, four cells to a side, each apart from the
+    /// others; otherwise as the lattice.
+    Circuits,
     /// A cube of blocks of every kind and face; neighbours, steps that rise
     /// or fall included, connected by any kind.
     Packed,
@@ -47,12 +53,19 @@ const STEPS: [Cell; 14] = [
 ];
 
 impl Shape {
-    pub const ALL: [Self; 4] = [Self::Lattice, Self::Packed, Self::Random, Self::Merges];
+    pub const ALL: [Self; 5] = [
+        Self::Lattice,
+        Self::Circuits,
+        Self::Packed,
+        Self::Random,
+        Self::Merges,
+    ];
 
     #[must_use]
     pub const fn name(self) -> &'static str {
         match self {
             Self::Lattice => "lattice",
+            Self::Circuits => "circuits",
             Self::Packed => "packed",
             Self::Random => "random",
             Self::Merges => "merges",
@@ -87,15 +100,23 @@ impl Shape {
         draft.finish()
     }
 
+    const fn is_plane(self) -> bool {
+        matches!(self, Self::Lattice | Self::Circuits)
+    }
+
     /// The first cells of a plane or a cube that has room for them all.
     fn cells(self, count: usize) -> Vec<Cell> {
-        let axes = if self == Self::Lattice { 2 } else { 3 };
+        let axes = if self.is_plane() { 2 } else { 3 };
         let side = (1..).find(|side: &usize| side.pow(axes) >= count);
         let side = side.and_then(|side| i64::try_from(side).ok()).unwrap_or(1);
         let heights = if axes == 2 { 1 } else { side };
+        let apart = |axis| match self {
+            Self::Circuits => axis + axis / CIRCUIT,
+            _ => axis,
+        };
         let columns = (0..side).flat_map(|x| (0..side).map(move |z| (x, z)));
         columns
-            .flat_map(|(x, z)| (0..heights).map(move |y| [x, y, z]))
+            .flat_map(|(x, z)| (0..heights).map(move |y| [apart(x), y, apart(z)]))
             .take(count)
             .collect()
     }
@@ -103,14 +124,14 @@ impl Shape {
     fn block(self, random: &mut Random) -> Block {
         match self {
             Self::Merges => Block::plain(0),
-            Self::Lattice if !random.once_in(4) => Block::plain(0),
+            _ if self.is_plane() && !random.once_in(4) => Block::plain(0),
             _ => Block::drawn(random.between(0, LAST_KIND), random),
         }
     }
 
-    /// A kind of connection: on a lattice mostly dust.
+    /// A kind of connection: in a plane mostly dust.
     fn kind(self, random: &mut Random) -> i64 {
-        if self == Self::Lattice && !random.once_in(4) {
+        if self.is_plane() && !random.once_in(4) {
             0
         } else {
             random.between(0, LAST_CONNECTION_KIND)
@@ -121,7 +142,7 @@ impl Shape {
     fn pairs(self, cells: &[Cell]) -> Vec<Pair> {
         let all = 0..cells.len();
         match self {
-            Self::Lattice | Self::Packed => neighbours(cells),
+            Self::Lattice | Self::Circuits | Self::Packed => neighbours(cells),
             Self::Random => all
                 .clone()
                 .flat_map(|source| all.clone().map(move |sink| (source, sink)))
