@@ -95,6 +95,22 @@ fn on_two_faults_that_compete() {
     assert_every_number_came_up(&groups, "groups, two faults");
 }
 
+/// One of the two lists.
+type Pick = fn(&mut ByteLists) -> &mut Vec<u8>;
+
+/// Both lists, with the numbers to a record.
+const BOTH: [(Pick, usize); 2] = [
+    (|lists| &mut lists.components, COMPONENT),
+    (|lists| &mut lists.connections, CONNECTION),
+];
+
+/// A copy with one list changed.
+fn changed(whole: &ByteLists, list: Pick, change: impl Fn(&mut Vec<u8>)) -> ByteLists {
+    let mut lists = whole.clone();
+    change(list(&mut lists));
+    lists
+}
+
 /// Lists cut at every byte of their last two records, and lengthened likewise.
 #[test]
 fn on_lists_of_every_length_in_bytes() {
@@ -102,25 +118,16 @@ fn on_lists_of_every_length_in_bytes() {
     for profile in Profile::ALL {
         for seed in 0..seeds(profile, 4, 1) {
             let whole = ByteLists::of(&profile.scene(seed));
-            for bytes in 1..=2 * COMPONENT * bytes::NUMBER {
-                let case = format!("{} seed {seed}, {bytes} bytes", profile.name());
-                let mut lists = whole.clone();
-                let length = lists.components.len();
-                lists.components.truncate(length.saturating_sub(bytes));
-                groups.call(&lists, &case);
-                lists.components.clone_from(&whole.components);
-                lists.components.resize(length + bytes, 7);
-                groups.call(&lists, &case);
-            }
-            for bytes in 1..=2 * CONNECTION * bytes::NUMBER {
-                let case = format!("{} seed {seed}, {bytes} bytes", profile.name());
-                let mut lists = whole.clone();
-                let length = lists.connections.len();
-                lists.connections.truncate(length.saturating_sub(bytes));
-                groups.call(&lists, &case);
-                lists.connections.clone_from(&whole.connections);
-                lists.connections.resize(length + bytes, 7);
-                groups.call(&lists, &case);
+            for (list, width) in BOTH {
+                for bytes in 1..=2 * width * bytes::NUMBER {
+                    let case = format!("{} seed {seed}, {bytes} bytes", profile.name());
+                    let cut = |list: &mut Vec<u8>| {
+                        list.truncate(list.len().saturating_sub(bytes));
+                    };
+                    groups.call(&changed(&whole, list, cut), &case);
+                    let lengthened = |list: &mut Vec<u8>| list.resize(list.len() + bytes, 7);
+                    groups.call(&changed(&whole, list, lengthened), &case);
+                }
             }
         }
     }
@@ -128,24 +135,20 @@ fn on_lists_of_every_length_in_bytes() {
     assert!(groups.count_of(1) > 0);
 }
 
-/// One byte changed: the highest makes a number negative or far too large.
+/// One bit changed: a high one makes a number negative or far too large.
 #[test]
 fn on_every_byte_changed() {
     let mut groups = Groups::default();
     for profile in Profile::ALL.into_iter().filter(|it| !it.is_large()) {
         for seed in 0..12 {
-            let whole = ByteLists::of(&profile.scene(seed));
-            for place in 0..whole.components.len().min(400) {
-                let mut lists = whole.clone();
-                lists.components[place] ^= 1 << (place % 8);
-                let case = format!("{} seed {seed}, component byte {place}", profile.name());
-                groups.call(&lists, &case);
-            }
-            for place in 0..whole.connections.len().min(400) {
-                let mut lists = whole.clone();
-                lists.connections[place] ^= 1 << (place % 8);
-                let case = format!("{} seed {seed}, connection byte {place}", profile.name());
-                groups.call(&lists, &case);
+            let mut whole = ByteLists::of(&profile.scene(seed));
+            for (list, width) in BOTH {
+                for place in 0..list(&mut whole).len().min(400) {
+                    let flip = |list: &mut Vec<u8>| list[place] ^= 1 << (place % 8);
+                    let name = profile.name();
+                    let case = format!("{name} seed {seed}, width {width}, byte {place}");
+                    groups.call(&changed(&whole, list, flip), &case);
+                }
             }
         }
     }
