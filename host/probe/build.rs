@@ -1,9 +1,14 @@
-//! Links `libprobe.a`, and has it made by `rt staticlib probe` in the
-//! repository's root when it is missing or older than the sources.
+//! Links the archives of the proved libraries, and has each made by
+//! `rt staticlib` in the repository's root when it is missing or older than
+//! the sources. An archive has no symbols but its exported functions, so two
+//! that share code can be linked side by side.
 
 use std::path::{Path, PathBuf};
 use std::process::Command;
 use std::time::SystemTime;
+
+/// The product's entries, and what only the tests call.
+const LIBRARIES: [&str; 2] = ["capi", "probe"];
 
 fn changed(path: &Path) -> Option<SystemTime> {
     path.metadata().and_then(|data| data.modified()).ok()
@@ -24,27 +29,33 @@ fn is_current(archive: &Path, root: &Path) -> bool {
     sources.into_iter().flatten().all(|source| source <= made)
 }
 
-/// Proves the library and writes the archive; the build ends where that fails.
-fn make(root: &Path) {
+/// Proves a library and writes its archive; the build ends where that fails.
+fn make(name: &str, root: &Path) {
     let status = Command::new("rt")
-        .args(["staticlib", "probe"])
+        .args(["staticlib", name])
         .current_dir(root)
         .status();
     let made = status.is_ok_and(|status| status.success());
-    assert!(made, "`rt staticlib probe` failed in the repository's root");
+    assert!(
+        made,
+        "`rt staticlib {name}` failed in the repository's root"
+    );
 }
 
 fn main() {
     let here = PathBuf::from(std::env::var_os("CARGO_MANIFEST_DIR").unwrap_or_default());
     let root = here.join("../..");
     let folder = root.join("target/staticlib");
-    let archive = folder.join("libprobe.a");
-    for path in [&root.join("crates"), &root.join("crates.txt"), &archive] {
+    for path in [root.join("crates"), root.join("crates.txt")] {
         println!("cargo::rerun-if-changed={}", path.display());
     }
-    if !is_current(&archive, &root) {
-        make(&root);
-    }
     println!("cargo::rustc-link-search=native={}", folder.display());
-    println!("cargo::rustc-link-lib=static=probe");
+    for name in LIBRARIES {
+        let archive = folder.join(format!("lib{name}.a"));
+        println!("cargo::rerun-if-changed={}", archive.display());
+        if !is_current(&archive, &root) {
+            make(name, &root);
+        }
+        println!("cargo::rustc-link-lib=static={name}");
+    }
 }

@@ -1,9 +1,11 @@
--- What the grouping entry on lists of numbers answers, for the entry by bytes.
---     refused-by, counted     the refusal and the counts of an answer
---     Room, accepted-room     an accepted scene has places in its slices, and no more components than the limit
---     places-enough           places past the limit change no refusal
---     rows-front              the rows of an accepted scene stand at the front of their slice
---     refused-laid, accepted-laid   the entry's answer, and what it leaves
+-- From the entry on lists of numbers to the entry by bytes.
+--     refused-by, counted           the refusal and the counts of an answer
+--     accepted-room                 an accepted scene has places in its slices, and no more components than the limit
+--     places-enough, by-places      places past the limit change no refusal
+--     rows-front, numbers-front     the rows of an accepted scene, and the numbers that were read, stand at the front of their slice
+--     refused-laid, accepted-laid   the answer and what is left, from the lists of numbers
+--     whole-lists, whole-fits       lists of bytes that pass number 1, and its refusal as one number
+--     part-laid, decoded-laid       the answer and what is left, from the lists of bytes
 -- Assumes nothing.
 use mathlib.Core.Path.{_≡_, refl, ap, _∙_}
 use mathlib.Core.Bool.{Bool, true, false, _&&_}

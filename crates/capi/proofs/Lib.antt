@@ -1,5 +1,6 @@
--- Laws of the definitions, for the proofs of this crate.
+-- Lemmas for the proofs of this crate, and what a host can rely on (Laws).
 mod Laid
 mod Reading
 mod Writing
 mod Answers
+pub mod Laws

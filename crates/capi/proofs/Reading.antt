@@ -1,7 +1,8 @@
 -- Numbers read from bytes.
 --     word-turn                 one byte more below those that were read
 --     word-fits                 as many as eight bytes make a number of 64 bits
---     signed-low, signed-high   a number of 64 bits without and with a sign, as the code computes it
+--     signed-low, signed-high   a number of 64 bits without and with a sign
+--     less                      the sign, as the code puts it
 --     numbers-more              one number more
 --     length-numbers            how many there are
 -- Assumes nothing.

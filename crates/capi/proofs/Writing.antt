@@ -1,11 +1,9 @@
 -- Numbers written as bytes.
---     low-more            one byte more of a number
---     low-end             all bytes of a number are written
---     length-low          the bytes of one number
---     bytes-more          one number more
---     length-bytes        the bytes of a list of numbers
---     encode-more         a turn of the loop over the numbers
---     read-written        bytes that were written are read as the same number
+--     length-low, length-bytes    the bytes of one number, and of a list of numbers
+--     low-more, rest-more         one byte more of a number, and what is left of the slice
+--     low-end                     all bytes of a number are written
+--     encode-more                 one number more
+--     read-written                bytes that were written are read as the same number
 -- Assumes nothing.
 use mathlib.Core.Path.{_≡_, refl, sym, ap, _∙_}
 use mathlib.Core.List.{List, [], _∷_, _++_, append-assoc, append-nil}

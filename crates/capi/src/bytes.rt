@@ -1,6 +1,6 @@
 // Numbers as bytes, eight to a number, lowest first.
 ghost use mathlib.Core.Path.{_≡_};
-ghost use Prim.Native.Nat.{_+_, _*_, _/_, _≤_};
+ghost use Prim.Native.Nat.{_+_, _*_, _/_, _≤_, min};
 ghost use lib.ListN.{length};
 ghost use Rattle.lists.specs.Slices.{laid};
 ghost use Rattle.capi.specs.Bytes.{numberBytes, signed, wordAt, numbers, lowBytes, bytesOf};
@@ -49,6 +49,14 @@ pub(crate) fn decode(bytes: &[u8], out: &mut [i64])
         out[k] = number;
         k += 1;
     }
+}
+
+// The numbers that a lent slice of so many bytes has room for, as far as a scene can fill them.
+pub(crate) fn places(len: usize, limit: usize) -> usize
+    ensures { λ r. ⌜ r ≡ min (len / numberBytes) limit ⌝ }
+{
+    let count = len / NUMBER;
+    if count < limit { count } else { limit }
 }
 
 // Writes the bytes of a number at the front of a slice.

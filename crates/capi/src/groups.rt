@@ -1,6 +1,6 @@
 // The groups of a scene that is lent as bytes.
 ghost use mathlib.Core.Path.{_≡_};
-ghost use Prim.Native.Nat.{_+_, _*_, _/_, _≤_, min};
+ghost use Prim.Native.Nat.{_+_, _*_, _/_, _≤_};
 ghost use lib.ListN.{length};
 ghost use Rattle.lists.specs.Limits.{componentLimit};
 ghost use Rattle.lists.specs.Records.{componentCount};
@@ -11,6 +11,7 @@ ghost use Rattle.capi.specs.Entry.{groupsWhole, GroupsLaid, GroupsByByte
 use super::bytes::NUMBER;
 use super::bytes::decode;
 use super::bytes::encode;
+use super::bytes::places;
 use circuit::Grouping;
 use circuit::from_parts;
 use lists::COMPONENT;
@@ -19,18 +20,6 @@ use lists::CONNECTION;
 use lists::CONNECTIONS;
 use lists::Checked;
 use lists::refusals::pack;
-
-// The places of a slice of so many bytes, as far as a scene can fill them.
-fn places(len: usize) -> usize
-    ensures { λ r. ⌜ r ≡ min (len / numberBytes) componentLimit ⌝ }
-{
-    let count = len / NUMBER;
-    if count < COMPONENTS {
-        count
-    } else {
-        COMPONENTS
-    }
-}
 
 // The counts of an accepted scene as one number.
 fn pack_counts(nets: usize, fragments: usize) -> u64
@@ -71,8 +60,8 @@ fn of_numbers(components: &[i64], connections: &[i64], nets: &mut [u8], fragment
 {
     let mut net_rows = [0u64; COMPONENTS];
     let mut fragment_rows = [0u64; COMPONENTS];
-    let net_places = places(nets.len());
-    let fragment_places = places(fragments.len());
+    let net_places = places(nets.len(), COMPONENTS);
+    let fragment_places = places(fragments.len(), COMPONENTS);
     by_rows(
         components,
         connections,

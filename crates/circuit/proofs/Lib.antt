@@ -9,3 +9,4 @@ pub mod Roots
 pub mod Numbering
 pub mod Settling
 pub mod Sharing
+pub mod Nets

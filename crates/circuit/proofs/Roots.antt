@@ -3,13 +3,13 @@
 --     numbers-none, numbers-more    the numbers of the roots, at first and with one place more
 --     count-none, count-root, count-other   the count of the roots, at first and with one place more
 --     laid-more                     one row more at the front of a slice
---     length-groups                 a number for each place
+--     length-groups, groups-at      a number for each place
 --     groups-none, number-more      the groups' numbers at the front of a slice, at first and with one place more
 -- Assumes nothing.
 use Prim.Native.Nat.{ℕ, _+_, _<_, zero-le}
 use native.Mathlib.Numerals.{add-one}
 use native.Mathlib.Omega.{arith}
-use mathlib.Core.Path.{_≡_, refl, sym, _∙_}
+use mathlib.Core.Path.{_≡_, refl, sym, ap, _∙_}
 use mathlib.Core.List.{List, [], _∷_, _++_, append-assoc, map-append}
 use mathlib.Core.Logic.{_≢_}
 use lib.ListN.{length, getD, set, length-append, length-map}
@@ -20,7 +20,7 @@ use Rattle.lists.specs.Limits.{componentLimit}
 use Rattle.lists.specs.Slices.{laid}
 use Rattle.circuit.specs.Forest.{Forest, root, range, Represents}
 use Rattle.circuit.specs.Groups.{rootsBelow, groupOf, groupsOf, RootNumbers, RootCount}
-use Rattle.circuit.proofs.Lists.{length-range}
+use Rattle.circuit.proofs.Lists.{length-range, getD-map, getD-range}
 use Rattle.circuit.proofs.Link.{root-is-own}
 
 pub roots-hit : (f : Forest) (v : ℕ) → root f v ≡ v → rootsBelow f (v + 1) ≡ rootsBelow f v + 1
@@ -70,6 +70,10 @@ laid-more rows old k a e h =
 pub length-groups : (f : Forest) (n : ℕ) → length (groupsOf f n) ≡ n
 unfolding groupsOf
 length-groups f n = length-map (range n) (groupOf f) ∙ length-range n
+
+pub groups-at : (f : Forest) (n v : ℕ) → v < n → getD (groupsOf f n) v 0 ≡ groupOf f v
+unfolding groupsOf
+groups-at f n v h = getD-map (groupOf f) (range n) v (rw (length-range n) h) ∙ ap (groupOf f) (getD-range n v h)
 
 groups-snoc : (f : Forest) (v : ℕ) → groupsOf f (v + 1) ≡ groupsOf f v ++ (groupOf f v ∷ [])
 unfolding groupsOf range

@@ -174,7 +174,8 @@ fn repeater_ports(facing: u64) -> [[u8; 3]; PORTS]
     }
 }
 
-// The ports of a component by its codes.
+// The ports of a component by its codes: kind 0 wire, 1 repeater, 2 comparator, 3 torch, 4 to 7 lever, button, pressure plate and redstone
+// block, 8 piston, 9 to 11 solid, transparent and lamp, 12 air.
 pub fn ports_for(kind: u64, facing: u64, support: u64, conducts: u64) -> [[u8; 3]; PORTS]
     ensures { λ r. ⌜ r ≡ rowsOf (portsFor kind facing support conducts) ⌝ }
 {
@@ -189,7 +190,7 @@ pub fn ports_for(kind: u64, facing: u64, support: u64, conducts: u64) -> [[u8; 3
     }
 }
 
-// How many there are.
+// How many there are. A repeater that faces Up or Down has a Control on each of the four.
 pub fn port_count(kind: u64, facing: u64, support: u64, conducts: u64) -> usize
     ensures { λ r. ⌜ r ≡ length (portsFor kind facing support conducts) ⌝ }
 {

@@ -1,4 +1,4 @@
-// The face of a step from source to sink.
+// The face of a step from source to sink: 0 none, 1 North, 2 East, 3 South, 4 West, 5 Up, 6 Down.
 use lists::FAR;
 ghost use mathlib.Core.Path.{_≡_};
 ghost use Rattle.scene.specs.Ports.{opposite};

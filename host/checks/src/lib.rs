@@ -1,5 +1,11 @@
-//! One comparison of a scene's refusals and id table, for the tests beside it.
+//! Comparisons of one scene's answers, for the tests beside it.
 
 mod compare;
+mod groups;
+mod guarded;
+mod ports;
 
 pub use compare::Tally;
+pub use groups::{ByteLists, Groups};
+pub use guarded::Guarded;
+pub use ports::Ports;

@@ -10,6 +10,6 @@ mod liveness;
 mod ports;
 mod walk;
 
-pub use groups::groups;
+pub use groups::{greatest_ranks, groups};
 pub use liveness::liveness;
 pub use ports::{ports, ports_of};

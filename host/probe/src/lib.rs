@@ -1,8 +1,12 @@
-//! The proved refusals and id table, called through the C convention.
+//! The proved library called through the C convention: refusals and the id
+//! table here, ports and the product's own entries in modules.
 //!
-//! The raw declarations stay in one private module; the functions here take
+//! The raw declarations stay in private modules; the functions here take
 //! slices, which are never null, and give typed answers. Nothing checks the
 //! declarations against the library's source, so they are few and on numbers.
+
+pub mod capi;
+pub mod ports;
 
 mod raw {
     //! A slice passes as a pointer and then a length in numbers.
@@ -71,13 +75,28 @@ pub struct Refusal {
     pub item: u64,
 }
 
-/// Number, list and item come back packed; 0 is acceptance.
-fn unpack(answer: u64) -> Option<Refusal> {
-    (answer != 0).then_some(Refusal {
+/// Number, list and item, lowest first.
+const fn refusal(answer: u64) -> Refusal {
+    Refusal {
         number: answer % 256,
         list: answer / 256 % 256,
         item: answer / 65_536,
-    })
+    }
+}
+
+/// A refusal alone; 0 is acceptance.
+fn refused(answer: u64) -> Option<Refusal> {
+    (answer != 0).then(|| refusal(answer))
+}
+
+/// An answer: what stands above the lowest sixteen bits where those are 0,
+/// else a refusal.
+const fn unpack(answer: u64) -> Result<u64, Refusal> {
+    if answer.is_multiple_of(65_536) {
+        Ok(answer / 65_536)
+    } else {
+        Err(refusal(answer))
+    }
 }
 
 /// A place comes back one higher; 0 is none.
@@ -95,7 +114,7 @@ pub fn grouping(
 ) -> Option<Refusal> {
     // SAFETY: both pointers are to whole slices of the lengths beside them,
     // which the callee only reads.
-    unpack(unsafe {
+    refused(unsafe {
         raw::probe_grouping_refusal(
             components.as_ptr(),
             components.len(),
@@ -111,7 +130,7 @@ pub fn grouping(
 #[must_use]
 pub fn ports(components: &[i64], connections: &[i64], ports: usize) -> Option<Refusal> {
     // SAFETY: as for `grouping`.
-    unpack(unsafe {
+    refused(unsafe {
         raw::probe_ports_refusal(
             components.as_ptr(),
             components.len(),
@@ -134,7 +153,7 @@ pub fn liveness(
     stack: usize,
 ) -> Option<Refusal> {
     // SAFETY: as for `grouping`, with three slices.
-    unpack(unsafe {
+    refused(unsafe {
         raw::probe_liveness_refusal(
             components.as_ptr(),
             components.len(),
@@ -159,7 +178,7 @@ pub fn query(
     stack: usize,
 ) -> Option<Refusal> {
     // SAFETY: as for `grouping`, with three slices.
-    unpack(unsafe {
+    refused(unsafe {
         raw::probe_query_refusal(
             components.as_ptr(),
             components.len(),
@@ -176,7 +195,7 @@ pub fn query(
 #[must_use]
 pub fn sheet_lists(components: &[i64], connections: &[i64], frontiers: &[i64]) -> Option<Refusal> {
     // SAFETY: as for `grouping`, with three slices.
-    unpack(unsafe {
+    refused(unsafe {
         raw::probe_sheet_refusal(
             components.as_ptr(),
             components.len(),

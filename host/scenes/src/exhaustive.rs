@@ -94,6 +94,45 @@ pub fn scenes() -> impl Iterator<Item = Scene> {
     })
 }
 
+/// Pairs of four places, each source with each other sink.
+fn pairs_of_four() -> impl Iterator<Item = [i64; 2]> {
+    let all = (0..4).flat_map(|source| (0..4).map(move |sink| [source, sink]));
+    all.filter(|[source, sink]| source != sink)
+}
+
+/// Every order of the ids 0 to 3.
+fn orders_of_four() -> impl Iterator<Item = [i64; 4]> {
+    let all = (0..256).map(|code| [code / 64, code / 16 % 4, code / 4 % 4, code % 4]);
+    all.filter(|order| (0..4).all(|id| order.contains(&id)))
+}
+
+/// All directed graphs over four wires, their ids in every order. The kinds of
+/// the connections go round with the graph's number, so that nets, fragments
+/// and support all occur; self connections do not.
+pub fn graphs() -> impl Iterator<Item = Scene> {
+    orders_of_four().flat_map(|order| {
+        let places = (0..).zip(order);
+        let components: Vec<i64> = places.flat_map(|(x, id)| component(id, x, 0)).collect();
+        (0..1 << 12).map(move |graph: i64| {
+            let pairs = (0..).zip(pairs_of_four());
+            let chosen = pairs.filter(|(place, _)| (graph >> place) & 1 == 1);
+            let row = |(place, [source, sink]): (i64, [i64; 2])| {
+                let kind = match (graph + place) % 8 {
+                    5 => 9,
+                    6 | 7 => 5 + place % 4,
+                    kind => kind,
+                };
+                [source, sink, kind]
+            };
+            Scene {
+                components: components.clone(),
+                connections: chosen.flat_map(row).collect(),
+                ..Scene::default()
+            }
+        })
+    })
+}
+
 /// All sequences of at most `most` of the records, as flat lists.
 fn sequences<const W: usize>(records: &[[i64; W]], most: usize) -> Vec<Vec<i64>> {
     let mut all = vec![Vec::new()];

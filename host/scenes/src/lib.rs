@@ -4,6 +4,7 @@
 //! Everything here is plain Rust over flat lists of numbers and depends on no
 //! other crate, so that it can stand as a judge beside other code.
 
+pub mod bytes;
 pub mod damage;
 mod draft;
 pub mod exhaustive;
@@ -14,6 +15,7 @@ pub mod profiles;
 pub mod random;
 pub mod refusals;
 mod scene;
+pub mod sized;
 
 pub use lent::Lent;
 pub use profiles::Profile;

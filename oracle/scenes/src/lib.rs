@@ -7,6 +7,6 @@
 
 mod answers;
 mod codes;
-mod lists;
+pub mod lists;
 
 pub use answers::{Groups, Input, Liveness, Region, groups, liveness, ports, ports_of};

@@ -76,27 +76,41 @@ fn frontier(record: &[i64]) -> ObservationFrontier {
     }
 }
 
-fn observation(frontiers: &[i64]) -> Observation {
+/// An observation with these frontiers.
+#[must_use]
+pub fn observation(frontiers: &[i64]) -> Observation {
     let origin = Pos::new(0, 0, 0);
     let mut observation = Observation::complete("plot", SceneBounds::new(origin, origin));
     observation.frontier = frontiers.chunks_exact(3).map(frontier).collect();
     observation
 }
 
+/// The components of a list.
+#[must_use]
+pub fn components(list: &[i64]) -> Vec<PhysicalComponent> {
+    list.chunks_exact(8).map(component).collect()
+}
+
+/// The grouping connections of a list.
+#[must_use]
+pub fn connections(list: &[i64]) -> Vec<PhysicalConnection> {
+    list.chunks_exact(3).map(connection).collect()
+}
+
 /// The topology of components and grouping connections.
+#[must_use]
 pub fn topology(components: &[i64], connections: &[i64]) -> VerifiedTopology {
-    VerifiedTopology::from_parts(
-        components.chunks_exact(8).map(component).collect(),
-        connections.chunks_exact(3).map(connection),
-    )
+    VerifiedTopology::from_parts(self::components(components), self::connections(connections))
 }
 
 /// The scene whose port connections `scene.rs` selects.
+#[must_use]
 pub fn selected_scene(components: &[i64], connections: &[i64]) -> PhysicalScene {
     PhysicalScene::from_unvalidated_topology(observation(&[]), &topology(components, connections))
 }
 
 /// The scene with the port connections given, and ports as `scene.rs` makes them.
+#[must_use]
 pub fn given_scene(components: &[i64], ports: &[i64], frontiers: &[i64]) -> PhysicalScene {
     let mut scene = PhysicalScene::from_unvalidated_topology(
         observation(frontiers),

@@ -6,7 +6,7 @@ use native.Mathlib.Omega.{arith}
 use Prim.Native.Nat.{ℕ, _≤_}
 use mathlib.Core.List.{List}
 use lib.ListN.{length}
-use Rattle.lists.specs.Limits.{componentLimit}
+use Rattle.lists.specs.Limits.{componentLimit, connectionLimit}
 use Rattle.lists.specs.Records.{componentCount, connectionCount}
 use Rattle.lists.proofs.Table.{table-long}
 use Rattle.circuit.specs.Topology.{netKinds, fragmentKinds, joinsOf}
@@ -22,10 +22,10 @@ settle-requires-2 : tie.Need-settle-requires-2
 settle-requires-2 c κs = let s = c .before .before .before .before .before .before .before in (s .pre .0, (omega arith, s .pre .0 .few))
 
 -- both arrays keep their length
-sources-long : (c : tie.After-settle) → 4096 ≡ length (c .settle .last .1 .1 .1 .0)
+sources-long : (c : tie.After-settle) → connectionLimit ≡ length (c .settle .last .1 .1 .1 .0)
 sources-long c = sym (c .settle .kept .1 .1 .1 .0)
 
-sinks-long : (c : tie.After-settle2) → 4096 ≡ length (c .settle2 .last .1 .1 .1 .0)
+sinks-long : (c : tie.After-settle2) → connectionLimit ≡ length (c .settle2 .last .1 .1 .1 .0)
 sinks-long c = sym (c .settle2 .kept .1 .1 .1 .0)
 
 share : tie.Need-slice-aggregate-groups
