@@ -13,3 +13,8 @@ pub mod Frontiers
 --     Stores       a list filled place by place; port connections that carry a signal
 pub mod Neighbours
 pub mod Stores
+-- Laws of the definitions, for the proofs of this crate.
+--     Fed          the keys of a slot in a rising table
+--     Written      rows written one after the other
+pub mod Fed
+pub mod Written
