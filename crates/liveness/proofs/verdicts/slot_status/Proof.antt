@@ -1,48 +1,61 @@
+-- `liveness::verdicts::slot_status` meets its contract.
+-- Assumes nothing.
 use borrow.Author.Needs.{needs}
-use native.Mathlib.Omega.{arith}
+use mathlib.Core.Path.{_≡_, sym, _∙_}
+use mathlib.Core.Bool.{true, false}
+use borrow.Author.Tests.{not-true, not-false}
+use Rattle.liveness.specs.Rows.{slotFed, slotFedBy}
+use Rattle.liveness.proofs.Fed.{status-unfed, status-driven, status-awaiting, status-unknown}
 use Rattle.liveness.proofs.verdicts.slot_status.Statement.{statement}
 use Rattle.liveness.proofs.verdicts.slot_status.Tie as tie
-use Rattle.liveness.proofs.verdicts.slot_status.Reads as reads
-use Rattle.liveness.proofs.verdicts.slot_status.Lts as lts
-use Rattle.liveness.proofs.verdicts.slot_fed.Reads as slot-fed-reads
-use Rattle.liveness.proofs.verdicts.slot_fed_by.Reads as slot-fed-by-reads
 
--- src/verdicts.rt:82:9
-slot-fed-requires : tie.Need-slot-fed-requires
-slot-fed-requires c κs = search needs
+abbrev start : tie.After-slot-fed → tie.Start
+start c = c .before .before .before .before
 
--- src/verdicts.rt:83:9
 returns : tie.Need-returns
-returns c = search needs
+returns c =
+    let b = c .before in
+    let s = start b in
+    sym (status-unfed (s .args .keys .now) (s .args .slot) (s .args .drive .now) (s .args .potential .now)
+    (sym (b .slot-fed .ensures) ∙ not-true (b .slot-fed .result) (c .if1 .taken)))
 
--- src/verdicts.rt:85:8
-slot-fed-by-requires : tie.Need-slot-fed-by-requires
-slot-fed-by-requires c κs = search needs
+-- past the first test the slot is fed, past the second no source of it is driven
+fed : (c : tie.Else1) → slotFed (start (c .before) .args .keys .now) (start (c .before) .args .slot) ≡ true
+fed c = sym (c .before .slot-fed .ensures) ∙ not-false (c .before .slot-fed .result) (c .if1 .left)
 
--- src/verdicts.rt:86:9
+undriven : (c : tie.Else2)
+    → slotFedBy (start (c .before .before .before) .args .keys .now) (start (c .before .before .before) .args .slot) (start (c .before .before .before) .args .drive .now) ≡ false
+undriven c = sym (c .before .slot-fed-by .ensures) ∙ c .if2 .left
+
 returns-2 : tie.Need-returns-2
-returns-2 c = search needs
+returns-2 c =
+    let e = c .before .before in
+    let s = start (e .before) in
+    sym (status-driven (s .args .keys .now) (s .args .slot) (s .args .drive .now) (s .args .potential .now) (fed e)
+    (sym (c .before .slot-fed-by .ensures) ∙ c .if2 .taken))
 
--- src/verdicts.rt:88:8
-slot-fed-by-requires-2 : tie.Need-slot-fed-by-requires-2
-slot-fed-by-requires-2 c κs = search needs
-
--- src/verdicts.rt:89:9
 returns-3 : tie.Need-returns-3
-returns-3 c = search needs
+returns-3 c =
+    let e = c .before .before in
+    let s = start (e .before .before .before) in
+    sym (status-awaiting (s .args .keys .now) (s .args .slot) (s .args .drive .now) (s .args .potential .now) (fed (e .before .before)) (undriven e)
+    (sym (c .before .slot-fed-by2 .ensures) ∙ c .if3 .taken))
 
--- src/verdicts.rt:77:1
 returns-4 : tie.Need-returns-4
-returns-4 c = search needs
+returns-4 c =
+    let e = c .before .before in
+    let s = start (e .before .before .before) in
+    sym (status-unknown (s .args .keys .now) (s .args .slot) (s .args .drive .now) (s .args .potential .now) (fed (e .before .before)) (undriven e)
+    (sym (c .before .slot-fed-by2 .ensures) ∙ c .if3 .left))
 
 pub slot-status-spec : {M : Type 1} → statement M
 slot-status-spec =
     tie.close
     (tie.spec
-    slot-fed-requires
+    (λ c κs. search needs)
     returns
-    slot-fed-by-requires
+    (λ c κs. search needs)
     returns-2
-    slot-fed-by-requires-2
+    (λ c κs. search needs)
     returns-3
     returns-4)
