@@ -1,6 +1,7 @@
 -- The rows of a device's ports, a port at a time, and the rows of a list of components, a component at a time.
 --     ports-none, ports-more, ports-all      a port more
---     device-few, sources-few                how many rows a component has
+--     device-few, sources-few, kind-few, ..   how many rows a component has
+--     rows-read, sources-read                the same rows by numbers that are equal
 --     below-none, below-more, below-all      a component more
 -- Assumes nothing.
 use mathlib.Core.Path.{_≡_, refl, sym, ap, _∙_}
@@ -14,7 +15,9 @@ use lib.ListN.{length, drop, length-append}
 use Rattle.lists.specs.declared.Found.{Found}
 use Rattle.lists.specs.declared.Found.the-variants.{At, Nothing}
 use Rattle.lists.proofs.Search.{never}
-use Rattle.liveness.specs.Rows.{Put, Scanned, deviceRows, requiredCount, sourcesOf}
+use Rattle.liveness.specs.Sources.{sourceKind}
+use Rattle.liveness.specs.Verdicts.{rowIf, kindRow}
+use Rattle.liveness.specs.Rows.{Put, Scanned, deviceRows, kindRows, firstRequired, requiredCount, sourcesOf}
 use Rattle.liveness.proofs.Written.{put-nothing, put-more}
 
 -- ---- the ports of a device
@@ -69,20 +72,48 @@ count-most (suc (suc (suc (suc (suc (suc (suc zero))))))) = omega arith
 count-most (suc (suc (suc (suc (suc (suc (suc (suc zero)))))))) = omega arith
 count-most (suc (suc (suc (suc (suc (suc (suc (suc (suc kind))))))))) = omega arith
 
+pub first-most : (kind : ℕ) → firstRequired kind ≤ 4
+unfolding firstRequired
+first-most zero = omega arith
+first-most (suc zero) = omega arith
+first-most (suc (suc zero)) = omega arith
+first-most (suc (suc (suc zero))) = omega arith
+first-most (suc (suc (suc (suc kind)))) = omega arith
+
 pub device-few : (id kind first : ℕ) (status : ℕ → ℕ) → Few (deviceRows id first status (requiredCount kind)) 3 12
 device-few id kind first status =
     let long = device-length id first status (requiredCount kind) in
     record { turns = requiredCount kind; whole = long; few = omega (arith, count-most kind) }
 
-pub sources-few : (id : ℕ) (found : Found) (frontier inferred : Bool) → (inferred ≡ true → (found ≡ Nothing) × (frontier ≡ false))
-    → Few (sourcesOf id found frontier inferred) 2 4
-sources-few id (At k) frontier true alone = let z : _≡_ {A = ℕ} 0 1 = let e = alone refl .0 in cc in absurd (omega arith)
+pub sources-few : (id : ℕ) (found : Found) (frontier inferred : Bool) → (inferred ≡ true → frontier ≡ false) → Few (sourcesOf id found frontier inferred) 2 4
+sources-few id found true true alone = never (sym (alone refl))
 sources-few id (At k) true false alone = record { turns = 2; whole = refl; few = omega arith }
+sources-few id (At k) false true alone = record { turns = 2; whole = refl; few = omega arith }
 sources-few id (At k) false false alone = record { turns = 1; whole = refl; few = omega arith }
-sources-few id Nothing true true alone = never (sym (alone refl .1))
 sources-few id Nothing true false alone = record { turns = 1; whole = refl; few = omega arith }
 sources-few id Nothing false true alone = record { turns = 1; whole = refl; few = omega arith }
 sources-few id Nothing false false alone = record { turns = 0; whole = refl; few = omega arith }
+
+pub kind-few : (id : ℕ) (found : Found) → length (kindRow id found) ≤ 2
+kind-few id (At k) = omega arith
+kind-few id Nothing = omega arith
+
+pub row-few : (test : Bool) (id kind : ℕ) → length (rowIf test id kind) ≤ 2
+row-few true id kind = omega arith
+row-few false id kind = omega arith
+
+pub row-none : (test : Bool) (id kind : ℕ) → test ≡ false → length (rowIf test id kind) ≡ 0
+row-none test id kind e = rw e
+
+-- ---- numbers read from the list
+
+pub rows-read : (id id′ kind kind′ member : ℕ) (fed : List ℕ) (drive potential : List Bool) → id ≡ id′ → kind ≡ kind′
+    → {at r : ℕ} {old new : List ℕ} → Put (kindRows id kind member fed drive potential) at old new r → Put (kindRows id′ kind′ member fed drive potential) at old new r
+rows-read id id′ kind kind′ member fed drive potential e f p = rw (← e, ← f) p
+
+pub sources-read : (id id′ kind kind′ : ℕ) (frontier inferred : Bool) → id ≡ id′ → kind ≡ kind′
+    → {at r : ℕ} {old new : List ℕ} → Put (sourcesOf id (sourceKind kind) frontier inferred) at old new r → Put (sourcesOf id′ (sourceKind kind′) frontier inferred) at old new r
+sources-read id id′ kind kind′ frontier inferred e f p = rw (← e, ← f) p
 
 -- ---- one component after the other
 

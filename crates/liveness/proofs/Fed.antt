@@ -37,7 +37,7 @@ module _ (test : ℕ → Bool) (n : ℕ) where
 
 -- ---- the keys of a slot
 
-and-true : (a b : Bool) → a ≡ true → b ≡ true → (a && b) ≡ true
+pub and-true : (a b : Bool) → a ≡ true → b ≡ true → (a && b) ≡ true
 and-true a b e f = rw (e, f)
 
 module _ (keys : List ℕ) (slot : ℕ) where

@@ -20,3 +20,10 @@ pub mod Stores
 pub mod Fed
 pub mod Written
 pub mod Devices
+-- Laws of the rows, for the crates above.
+--     Statuses       the status of a slot is that of its port
+--     Required       the rows of a component's ports are those of the required ones
+--     RowLaws        the rows written are those of the document
+pub mod Statuses
+pub mod Required
+pub mod RowLaws

@@ -89,6 +89,6 @@ sourcesBelow cs frontier inferred (suc p) =
     sourcesBelow cs frontier inferred p
     ++ sourcesOf (component cs p .id) (sourceKind (component cs p .kind)) (marked frontier p) (marked inferred p)
 
--- an inferred component is a wire on no frontier, so that no component has more than two rows
+-- an inferred component is on no frontier, so that no component has more than two rows
 pub record InferredAlone (cs : List ℤ) (frontier inferred : List Bool) : Type 0 where
-  pub at : (p : ℕ) → p < componentCount cs → marked inferred p ≡ true → (component cs p .kind ≡ 0) × (marked frontier p ≡ false)
+  pub at : (p : ℕ) → p < componentCount cs → marked inferred p ≡ true → marked frontier p ≡ false

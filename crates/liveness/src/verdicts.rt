@@ -170,7 +170,7 @@ fn put_kind(out: &mut [u64], at: usize, id: u64, kind: u64) -> usize
 // Writes the source rows of one component from a place on, and answers the place after them.
 fn put_component(out: &mut [u64], at: usize, id: u64, kind: u64, on_frontier: bool, inferred: bool) -> usize
     requires { ⌜ at + 4 ≤ length (now out) ⌝ }
-    requires { ⌜ (inferred ≡ true → (kind ≡ 0) × («on_frontier» ≡ false)) ⌝ }
+    requires { ⌜ (inferred ≡ true → «on_frontier» ≡ false) ⌝ }
     ensures { λ r. ⌜ Put (sourcesOf id (sourceKind kind) «on_frontier» inferred) at (now (out .entry)) (now (out .exit)) r ⌝ }
 {
     let first = put_kind(out, at, id, kind);

@@ -3,18 +3,21 @@
 use borrow.Author.Needs.{needs}
 use mathlib.Core.Path.{_≡_, refl, sym, ap, _∙_}
 use Rattle.lists.specs.First.{isFound}
-use Rattle.lists.specs.declared.Found.{Found}
-use Rattle.liveness.specs.Rows.{Put}
-use Rattle.liveness.specs.Verdicts.{kindRow}
 use Rattle.liveness.proofs.Written.{put-nothing}
 use Rattle.liveness.proofs.verdicts.put_kind.Statement.{statement}
 use Rattle.liveness.proofs.verdicts.put_kind.Tie as tie
 
 source-requires : tie.Need-put-source-requires
-source-requires c κs = ?
+source-requires c κs e =
+    let f = c .before .before in
+    let b = f .before .before in
+    b .before .before .pre (ap isFound (sym (b .source-kind .ensures) ∙ f .found .given .1))
 
 returns : tie.Need-returns
-returns c = ?
+returns c =
+    let put = c .before .before in
+    let f = put .before .before .before in
+    rw (sym (f .before .before .source-kind .ensures) ∙ f .found .given .1) (put .put-source .ensures)
 
 returns-2 : tie.Need-returns-2
 returns-2 c =
