@@ -12,7 +12,7 @@ use native.Mathlib.Omega.{arith}
 use lib.Dec.{eqb}
 use lib.ListN.{length}
 use lib.IntN.{ℤ}
-use borrow.Author.Tests.{not-true}
+use borrow.Author.Tests.{ne-eqb, not-true}
 use Rattle.tables.specs.Laws.{order?}
 use Rattle.lists.specs.Records.{component}
 use Rattle.lists.specs.First.{allFrom}
@@ -101,6 +101,10 @@ no-run kind facing support conducts e = record {
   after = λ k a b. rw e;
 }
 
+no-device : (kind : ℕ) → 9 ≤ kind → isDevice kind ≡ false
+no-device kind h =
+    rw (ne-eqb kind 1 (λ e. omega arith), ne-eqb kind 2 (λ e. omega arith), ne-eqb kind torch (λ e. omega arith)) (ne-eqb kind 8 (λ e. omega arith))
+
 run-of : (kind facing support conducts : ℕ) → Run kind facing support conducts (firstRequired kind) (requiredCount kind)
 unfolding portsFor firstRequired requiredCount
 run-of zero facing support conducts = no-run 0 facing support conducts refl
@@ -136,7 +140,9 @@ run-of (suc (suc (suc (suc (suc (suc (suc (suc zero)))))))) facing support condu
     piston-lit (suc (suc zero)) h = refl
     piston-lit (suc (suc (suc zero))) h = refl
     piston-lit (suc (suc (suc (suc k)))) h = absurd (omega arith)
-run-of (suc (suc (suc (suc (suc (suc (suc (suc (suc kind))))))))) facing support conducts = no-run (suc (suc (suc (suc (suc (suc (suc (suc (suc kind))))))))) facing support conducts refl
+run-of (suc (suc (suc (suc (suc (suc (suc (suc (suc kind))))))))) facing support conducts =
+    let past = suc (suc (suc (suc (suc (suc (suc (suc (suc kind)))))))) in
+    no-run past facing support conducts (no-device past (omega arith))
 
 -- ---- the rows of the ports
 

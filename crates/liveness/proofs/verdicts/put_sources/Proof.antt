@@ -69,7 +69,7 @@ loop-again c =
     let p = l .loop .p in
     below-more _ (rowOf l) 2 4 _ _ (λ k. refl) (i .loop-test .taken) (l .loop .inv)
     (sources-few (component cs p .id) (sourceKind (component cs p .kind)) (marked (s .args .on-frontier .now) p) (marked (s .args .inferred .now) p) (s .pre .1 .1 .0 .at p (i .loop-test .taken)))
-    (sources-read _ (component cs p .id) _ (component cs p .kind) _ _ (n .before .natural-at .ensures) (n .natural-at2 .ensures) (d .put-component .ensures))
+    (sources-read _ (component cs p .id) _ (component cs p .kind) (marked (s .args .on-frontier .now) p) (marked (s .args .inferred .now) p) (n .before .natural-at .ensures) (n .natural-at2 .ensures) (d .put-component .ensures))
     (d .put-component .kept .0)
 
 returns : tie.Need-returns Inv-loop μ-loop
