@@ -1,11 +1,11 @@
 // Verdict rows and source rows.
 use super::signals::PORTS;
-use lists::COMPONENT;
-use lists::Found;
+use super::sources::source_kind;
 use lists::numbers::natural_at;
+use lists::{Found, COMPONENT};
 use tables::SPAN;
 ghost use mathlib.Core.Path.{_≡_};
-ghost use mathlib.Core.Bool.{Bool};
+ghost use mathlib.Core.Bool.{Bool, true, false};
 ghost use mathlib.Core.List.{[], _∷_, List};
 ghost use Prim.Native.Nat.{ℕ, _+_, _*_, _^_, _≤_, _<_};
 ghost use lib.ListN.{length, getD};
@@ -13,9 +13,11 @@ ghost use Rattle.tables.specs.Order.{Ascending};
 ghost use Rattle.lists.specs.Limits.{componentLimit};
 ghost use Rattle.lists.specs.Records.{component, componentCount};
 ghost use Rattle.lists.specs.Within.{Components};
-ghost use Rattle.liveness.specs.Keys.{slot};
+ghost use Rattle.lists.specs.First.{isFound};
+ghost use Rattle.liveness.specs.Flags.{Indices};
+ghost use Rattle.liveness.specs.Sources.{sourceKind};
 ghost use Rattle.liveness.specs.Verdicts.{rowIf, kindRow};
-ghost use Rattle.liveness.specs.Rows.{Put, firstRequired, requiredCount, slotFed, slotFedBy, slotStatus, SlotWithin};
+ghost use Rattle.liveness.specs.Rows.{Put, firstRequired, requiredCount, slotFed, slotFedBy, slotStatus, SlotWithin, FedWithin, Scanned, kindRows, verdictsBelow, sourcesOf, sourcesBelow, InferredAlone};
 
 // The first port of a kind that has a verdict row.
 fn first_required(kind: u64) -> usize
@@ -102,7 +104,7 @@ fn put_verdict(out: &mut [u64], at: usize, device: u64, port: u64, status: u64) 
 
 // Writes a source row at a place where the test holds, and answers the place after it.
 fn put_source(out: &mut [u64], at: usize, test: bool, id: u64, kind: u64) -> usize
-    requires { ⌜ at + 2 ≤ length (now out) ⌝ }
+    requires { ⌜ (test ≡ true → at + 2 ≤ length (now out)) ⌝ }
     ensures { λ r. ⌜ Put (rowIf test id kind) at (now (out .entry)) (now (out .exit)) r ⌝ }
 {
     if !test {
@@ -111,4 +113,87 @@ fn put_source(out: &mut [u64], at: usize, test: bool, id: u64, kind: u64) -> usi
     out[at] = id;
     out[at + 1] = kind;
     at + 2
+}
+
+// Writes the rows of a device's required ports from a place on, and answers the place after them.
+fn put_device(id: u64, kind: u64, member: usize, fed: &[u64], drive: &[bool], potential: &[bool], out: &mut [u64], at: usize) -> usize
+    requires { ⌜ Ascending (now fed) × (member < componentLimit) ⌝ }
+    requires { ⌜ FedWithin (now fed) (length (now drive)) × FedWithin (now fed) (length (now potential)) ⌝ }
+    requires { ⌜ at + 12 ≤ length (now out) ⌝ }
+    ensures { λ r. ⌜ Put (kindRows id kind member (now (fed .entry)) (now (drive .entry)) (now (potential .entry))) at (now (out .entry)) (now (out .exit)) r ⌝ }
+{
+    let first = first_required(kind);
+    let count = required_count(kind);
+    let mut place = at;
+    let mut k: usize = 0;
+    while k < count {
+        let port = first + k;
+        let status = slot_status(fed, member * PORTS + port, drive, potential);
+        place = put_verdict(out, place, id, port as u64, status);
+        k += 1;
+    }
+    place
+}
+
+// Writes the verdict rows of all components, in list order, and answers how many there are.
+pub(crate) fn put_verdicts(components: &[i64], members: &[usize], fed: &[u64], drive: &[bool], potential: &[bool], out: &mut [u64]) -> usize
+    requires { ⌜ Components (now components) × Indices (componentCount (now components)) componentLimit (now members) ⌝ }
+    requires { ⌜ Ascending (now fed) × FedWithin (now fed) (length (now drive)) × FedWithin (now fed) (length (now potential)) ⌝ }
+    requires { ⌜ 12 * componentCount (now components) ≤ length (now out) ⌝ }
+    ensures { λ r. ⌜ Scanned (verdictsBelow (now (components .entry)) (now (members .entry)) (now (fed .entry)) (now (drive .entry)) (now (potential .entry)) (componentCount (now (components .entry))))
+        3 (now (out .entry)) (now (out .exit)) r ⌝ }
+{
+    let count = components.len() / COMPONENT;
+    let mut at: usize = 0;
+    let mut p: usize = 0;
+    while p < count {
+        let id = natural_at(components, p * COMPONENT);
+        let kind = natural_at(components, p * COMPONENT + 4);
+        at = put_device(id, kind, members[p], fed, drive, potential, out, at);
+        p += 1;
+    }
+    at / 3
+}
+
+// Writes the row of a source kind at a place, and answers the place after it.
+fn put_kind(out: &mut [u64], at: usize, id: u64, kind: u64) -> usize
+    requires { ⌜ (isFound (sourceKind kind) ≡ true → at + 2 ≤ length (now out)) ⌝ }
+    ensures { λ r. ⌜ Put (kindRow id (sourceKind kind)) at (now (out .entry)) (now (out .exit)) r ⌝ }
+{
+    let found = source_kind(kind);
+    match found {
+        Found::At(source) => put_source(out, at, true, id, source as u64),
+        Found::Nothing => at,
+    }
+}
+
+// Writes the source rows of one component from a place on, and answers the place after them.
+fn put_component(out: &mut [u64], at: usize, id: u64, kind: u64, on_frontier: bool, inferred: bool) -> usize
+    requires { ⌜ at + 4 ≤ length (now out) ⌝ }
+    requires { ⌜ (inferred ≡ true → «on_frontier» ≡ false) ⌝ }
+    ensures { λ r. ⌜ Put (sourcesOf id (sourceKind kind) «on_frontier» inferred) at (now (out .entry)) (now (out .exit)) r ⌝ }
+{
+    let first = put_kind(out, at, id, kind);
+    let second = put_source(out, first, on_frontier, id, 2);
+    put_source(out, second, inferred, id, 3)
+}
+
+// Writes the source rows of all components, in list order, and answers how many there are.
+pub(crate) fn put_sources(components: &[i64], on_frontier: &[bool], inferred: &[bool], out: &mut [u64]) -> usize
+    requires { ⌜ Components (now components) ⌝ }
+    requires { ⌜ (componentCount (now components) ≤ length (now «on_frontier»)) × (componentCount (now components) ≤ length (now inferred)) ⌝ }
+    requires { ⌜ InferredAlone (now components) (now «on_frontier») (now inferred) × (4 * componentCount (now components) ≤ length (now out)) ⌝ }
+    ensures { λ r. ⌜ Scanned (sourcesBelow (now (components .entry)) (now («on_frontier» .entry)) (now (inferred .entry)) (componentCount (now (components .entry))))
+        2 (now (out .entry)) (now (out .exit)) r ⌝ }
+{
+    let count = components.len() / COMPONENT;
+    let mut at: usize = 0;
+    let mut p: usize = 0;
+    while p < count {
+        let id = natural_at(components, p * COMPONENT);
+        let kind = natural_at(components, p * COMPONENT + 4);
+        at = put_component(out, at, id, kind, on_frontier[p], inferred[p]);
+        p += 1;
+    }
+    at / 2
 }

@@ -1,0 +1,29 @@
+-- `liveness::verdicts::put_verdict` meets its contract.
+-- Assumes nothing.
+use borrow.Author.Needs.{needs}
+use mathlib.Core.Path.{_≡_}
+use Prim.Native.Nat.{_<_}
+use native.Mathlib.Omega.{arith}
+use lib.ListN.{length, length-set}
+use Rattle.liveness.proofs.Written.{three-puts}
+use Rattle.liveness.proofs.verdicts.put_verdict.Statement.{statement}
+use Rattle.liveness.proofs.verdicts.put_verdict.Tie as tie
+
+returns : tie.Need-returns
+returns c = three-puts (c .args .device) (c .args .port) (c .args .status) (c .args .out .now) (c .args .at) (c .pre)
+
+pub put-verdict-spec : {M : Type 1} → statement M
+put-verdict-spec =
+    tie.close
+    (tie.spec
+    (λ c. search needs)
+    (λ c. search needs)
+    (λ c. search needs)
+    (λ c. search needs)
+    (λ c. simp length-set (omega arith))
+    (λ c. search needs)
+    (λ c. search needs)
+    (λ c. simp length-set (omega arith))
+    (λ c. search needs)
+    (λ c. simp length-set)
+    returns)
