@@ -4,14 +4,14 @@
 --     rows-read, sources-read                the same rows by numbers that are equal
 --     below-none, below-more, below-all      a component more
 -- Assumes nothing.
-use mathlib.Core.Path.{_≡_, refl, sym, ap, _∙_}
+use mathlib.Core.Path.{_≡_, refl, sym, _∙_}
 use mathlib.Core.Bool.{Bool, true, false}
 use mathlib.Core.List.{List, [], _∷_, _++_}
 use Prim.Native.Nat.{ℕ, zero, suc, _+_, _*_, _≤_, _<_}
 use native.Mathlib.Nat.{zero-add, add-mul, zero-mul, mul-suc}
 use native.Mathlib.Numerals.{add-one}
 use native.Mathlib.Omega.{arith}
-use lib.ListN.{length, drop, length-append}
+use lib.ListN.{length, length-append}
 use Rattle.lists.specs.declared.Found.{Found}
 use Rattle.lists.specs.declared.Found.the-variants.{At, Nothing}
 use Rattle.lists.proofs.Search.{never}

@@ -62,12 +62,12 @@ module _ (keys : List ℕ) (slot : ℕ) where
     outside at le past k h e = (
       ⊎-elim (λ (l : first ≤ k). l) (λ (l : k < first). absurd (let w = low .before rising k l in omega arith)) (order? first k),
       ⊎-elim
-      (λ (l : at ≤ k). absurd (
-      let up = rising .at at k l h in
-      let from = low .from rising at le (omega arith) in
-      past (omega arith) (omega arith)))
-      (λ (l : k < at). l)
-      (order? at k),
+          (λ (l : at ≤ k). absurd (
+          let up = rising .at at k l h in
+          let from = low .from rising at le (omega arith) in
+          past (omega arith) (omega arith)))
+          (λ (l : k < at). l)
+          (order? at k),
     )
 
     pub fed-past : (first < length keys → getD keys first 0 / span ≡ slot → ⊥) → slotFed keys slot ≡ false

@@ -2,9 +2,9 @@
 --     required, Run, run-of     the required ports of each kind
 --     port-rows                 the rows of all ports
 -- Assumes nothing.
-use mathlib.Core.Path.{_≡_, refl, sym, ap, _∙_}
-use mathlib.Core.Bool.{Bool, true, false, not, cond, _&&_, _||_}
-use mathlib.Core.List.{List, [], _∷_, _++_, append-nil}
+use mathlib.Core.Path.{_≡_, refl, ap, _∙_}
+use mathlib.Core.Bool.{Bool, true, false, not, _&&_, _||_}
+use mathlib.Core.List.{List, [], append-nil}
 use mathlib.Core.Logic.{⊎-elim}
 use Prim.Native.Nat.{ℕ, zero, suc, _+_, _-_, _≤_, _<_}
 use native.Mathlib.Nat.{add-zero, add-suc}
@@ -22,7 +22,6 @@ use Rattle.scene.specs.Select.{portAt}
 use Rattle.scene.proofs.Faces.{faceOr-named, faceOr-zero, faceOr-above}
 use Rattle.liveness.specs.Verdicts.{statusOf, torch, isDevice, isRequired, portRows}
 use Rattle.liveness.specs.Rows.{deviceRows, firstRequired, requiredCount}
-use Rattle.liveness.proofs.Fed.{count-past}
 
 -- ---- repeaters
 

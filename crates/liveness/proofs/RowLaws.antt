@@ -1,33 +1,33 @@
 -- The rows that are written are those of `Verdicts`.
 --     verdicts-are         the verdict rows
+--     members-within       the members by list place are indices
 --     sources-are          the source rows
 --     inferred-alone       an inferred component is on no frontier
 -- Assumes nothing.
 use mathlib.Core.Path.{_≡_, refl, sym, ap, _∙_}
-use mathlib.Core.Bool.{Bool, true, false, not, _&&_, _||_}
-use mathlib.Core.List.{List, [], _∷_, _++_}
+use mathlib.Core.Bool.{Bool, true, false, not, _&&_}
+use mathlib.Core.List.{List, _++_}
 use Prim.Native.Nat.{ℕ, zero, suc, _+_, _≤_, _<_}
 use native.Mathlib.Omega.{arith}
 use lib.Dec.{eqb, leb}
-use lib.ListN.{length, getD}
 use lib.IntN.{ℤ}
 use borrow.Author.Tests.{eq-eqb, not-true}
 use Rattle.lists.specs.Limits.{componentLimit}
-use Rattle.lists.specs.Records.{component, componentCount, portCount}
+use Rattle.lists.specs.Records.{component, componentCount}
 use Rattle.lists.specs.Ids.{memberOf, firstEndMissing}
 use Rattle.lists.specs.Within.{PortConnections}
 use Rattle.lists.specs.declared.Found.the-variants.{Nothing}
-use Rattle.lists.specs.First.{isFound, some}
+use Rattle.lists.specs.First.{isFound}
+use Rattle.lists.proofs.Members.{member-below}
 use Rattle.lists.proofs.Search.{never, both, or-true}
-use Rattle.scene.specs.Ports.{portsOf}
 use Rattle.regions.specs.Graph.{marked}
-use Rattle.liveness.specs.Keys.{Settled, Slots, KeysOf, slot, ports}
-use Rattle.liveness.specs.Flags.{Flags, Numbers}
+use Rattle.liveness.specs.Keys.{Settled, Slots, KeysOf, slot}
+use Rattle.liveness.specs.Flags.{Flags, Numbers, Indices}
 use Rattle.liveness.specs.Sources.{sourceKind, onFrontier, isDrive}
 use Rattle.liveness.specs.Regions.{wire, isInferred, hasDrive, regionAt, neighbours, fedFromOutside}
 use Rattle.liveness.specs.Drive.{drive, potential}
-use Rattle.liveness.specs.Verdicts.{statusOf, portRows, verdictRows, sourcesAt, sourceRowsBelow}
-use Rattle.liveness.specs.Rows.{deviceRows, firstRequired, requiredCount, slotStatus, kindRows, verdictsBelow, sourcesOf, sourcesBelow, InferredAlone}
+use Rattle.liveness.specs.Verdicts.{statusOf, verdictRows, sourcesAt, sourceRowsBelow}
+use Rattle.liveness.specs.Rows.{deviceRows, firstRequired, requiredCount, slotStatus, verdictsBelow, sourcesBelow, InferredAlone}
 use Rattle.liveness.proofs.Fed.{some-at, and-true}
 use Rattle.liveness.proofs.Graph.{noSlot}
 use Rattle.liveness.proofs.Devices.{count-most, first-most}
@@ -60,6 +60,10 @@ module _ (cs ps fs : List ℤ) {frontier inferred : List Bool} (f : Flags (compo
   inferred-alone = record { at = λ p h e. alone p h (onFrontier cs fs p) refl (sym (g .at p h) ∙ e) }
 
 -- ---- verdict rows
+
+pub members-within : (cs : List ℤ) {members : List ℕ} → componentCount cs ≤ componentLimit → Numbers (componentCount cs) (memberOf cs) members
+    → Indices (componentCount cs) componentLimit members
+members-within cs few numbers = record { long = numbers .long; below = λ p h. omega (arith, numbers .at p h, member-below cs p h) }
 
 -- rows by statuses that are the same at the ports that count
 rows-cong : (id first : ℕ) (P Q : ℕ → ℕ) (n : ℕ) → ((j : ℕ) → j < n → P (first + j) ≡ Q (first + j)) → deviceRows id first P n ≡ deviceRows id first Q n

@@ -1,16 +1,19 @@
 -- The status of a slot, found by the table of fed ports, is that of its port.
 --     some-found, same-truth     what holds at some place holds at one; two truth values that imply each other
+--     fed-within                 what the table of fed ports names are members
 --     fed-same, status-is        `slotFed`, `slotFedBy` and `slotStatus` by the connections
 -- Assumes nothing.
 use mathlib.Core.Path.{_≡_, refl, sym, ap, _∙_}
 use mathlib.Core.Bool.{Bool, true, false, _&&_}
 use mathlib.Core.List.{List}
-use Prim.Native.Nat.{ℕ, _≤_, _<_}
+use Prim.Native.Nat.{ℕ, _/_, _%_, _≤_, _<_}
 use native.Mathlib.Omega.{arith}
 use lib.Dec.{eqb}
+use lib.ListN.{getD}
 use lib.IntN.{ℤ}
 use borrow.Author.Tests.{eqb-true, eq-eqb}
 use Rattle.tables.specs.Order.{member}
+use Rattle.tables.specs.Laws.{at-member}
 use Rattle.tables.specs.Pairs.{pair, span}
 use Rattle.lists.specs.Limits.{componentLimit}
 use Rattle.lists.specs.Records.{component, portConnection, componentCount, portCount}
@@ -25,10 +28,10 @@ use Rattle.liveness.specs.Signals.{isSignal, sourceMember, sinkMember}
 use Rattle.liveness.specs.Keys.{Settled, Slots, KeysOf, slot, ports}
 use Rattle.liveness.specs.Drive.{drive, potential}
 use Rattle.liveness.specs.Verdicts.{feedsPort, fedBy, statusOf}
-use Rattle.liveness.specs.Rows.{slotFed, slotFedBy, slotStatus}
+use Rattle.liveness.specs.Rows.{slotFed, slotFedBy, slotStatus, FedWithin}
 use Rattle.liveness.proofs.Tabulated.{first-cong}
 use Rattle.liveness.proofs.Ends.{ends-below, sink-is}
-use Rattle.liveness.proofs.Graph.{feeds, noSlot, fed-at}
+use Rattle.liveness.proofs.Graph.{feeds, noSlot, fed-at, hasPair, pairs-member, settled-small, source-at}
 use Rattle.liveness.proofs.Fed.{some-at, and-true}
 
 pub some-found : (test : ℕ → Bool) (n : ℕ) → some test n ≡ true → (p : ℕ) × (p < n) × (test p ≡ true)
@@ -46,6 +49,24 @@ same-truth false false f g = refl
 and-unit : (t : Bool) → t ≡ (t && true)
 and-unit true = refl
 and-unit false = refl
+
+module _ {cs ps : List ℤ} {sources sinks slots keys : List ℕ} (few : componentCount cs ≤ componentLimit) (w : PortConnections ps)
+    (s : Settled cs ps 0 sources) (t : Settled cs ps 2 sinks) (u : Slots ps sinks slots) (table : KeysOf ps slots sources noSlot keys)
+    (ends : firstEndMissing cs ps ≡ Nothing) where
+  -- the members that feed slots are those of components
+  pub fed-within : FedWithin keys (componentCount cs)
+  fed-within = record {
+    below = λ i h l.
+        let key = getD keys i 0 in
+        let a = key / span in
+        let b = key % span in
+        let there : member (pair a b) keys ≡ true = at-member (pair a b) keys i h (omega arith) in
+        let g = some-found (hasPair ps slots sources a b) (portCount ps) (sym (pairs-member table (λ k q signal. omega (arith, settled-small few s k q)) a b l (omega arith)) ∙ there) in
+        let k = g .0 in
+        let c = both (isSignal ps k) (eqb (getD slots k 0) a && eqb (getD sources k 0) b) (g .2) in
+        let d = both (eqb (getD slots k 0) a) (eqb (getD sources k 0) b) (c .1) in
+        omega (arith, eqb-true (getD sources k 0) b (d .1), source-at few s t k (g .1), ends-below cs ps ends k (g .1) (c .0) .source-below);
+  }
 
 module _ {cs ps : List ℤ} {sources sinks slots keys : List ℕ} (few : componentCount cs ≤ componentLimit) (w : PortConnections ps)
     (s : Settled cs ps 0 sources) (t : Settled cs ps 2 sinks) (u : Slots ps sinks slots) (table : KeysOf ps slots sources noSlot keys)

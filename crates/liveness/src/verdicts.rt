@@ -1,17 +1,18 @@
 // Verdict rows and source rows.
 use super::signals::PORTS;
 use super::sources::source_kind;
+use lists::COMPONENT;
+use lists::Found;
 use lists::numbers::natural_at;
-use lists::{Found, COMPONENT};
 use tables::SPAN;
 ghost use mathlib.Core.Path.{_≡_};
-ghost use mathlib.Core.Bool.{Bool, true, false};
-ghost use mathlib.Core.List.{[], _∷_, List};
-ghost use Prim.Native.Nat.{ℕ, _+_, _*_, _^_, _≤_, _<_};
-ghost use lib.ListN.{length, getD};
+ghost use mathlib.Core.Bool.{true, false};
+ghost use mathlib.Core.List.{[], _∷_};
+ghost use Prim.Native.Nat.{_+_, _*_, _^_, _≤_, _<_};
+ghost use lib.ListN.{length};
 ghost use Rattle.tables.specs.Order.{Ascending};
 ghost use Rattle.lists.specs.Limits.{componentLimit};
-ghost use Rattle.lists.specs.Records.{component, componentCount};
+ghost use Rattle.lists.specs.Records.{componentCount};
 ghost use Rattle.lists.specs.Within.{Components};
 ghost use Rattle.lists.specs.First.{isFound};
 ghost use Rattle.liveness.specs.Flags.{Indices};
@@ -116,7 +117,16 @@ fn put_source(out: &mut [u64], at: usize, test: bool, id: u64, kind: u64) -> usi
 }
 
 // Writes the rows of a device's required ports from a place on, and answers the place after them.
-fn put_device(id: u64, kind: u64, member: usize, fed: &[u64], drive: &[bool], potential: &[bool], out: &mut [u64], at: usize) -> usize
+fn put_device(
+    id: u64,
+    kind: u64,
+    member: usize,
+    fed: &[u64],
+    drive: &[bool],
+    potential: &[bool],
+    out: &mut [u64],
+    at: usize,
+) -> usize
     requires { ⌜ Ascending (now fed) × (member < componentLimit) ⌝ }
     requires { ⌜ FedWithin (now fed) (length (now drive)) × FedWithin (now fed) (length (now potential)) ⌝ }
     requires { ⌜ at + 12 ≤ length (now out) ⌝ }
@@ -136,7 +146,14 @@ fn put_device(id: u64, kind: u64, member: usize, fed: &[u64], drive: &[bool], po
 }
 
 // Writes the verdict rows of all components, in list order, and answers how many there are.
-pub(crate) fn put_verdicts(components: &[i64], members: &[usize], fed: &[u64], drive: &[bool], potential: &[bool], out: &mut [u64]) -> usize
+pub(crate) fn put_verdicts(
+    components: &[i64],
+    members: &[usize],
+    fed: &[u64],
+    drive: &[bool],
+    potential: &[bool],
+    out: &mut [u64],
+) -> usize
     requires { ⌜ Components (now components) × Indices (componentCount (now components)) componentLimit (now members) ⌝ }
     requires { ⌜ Ascending (now fed) × FedWithin (now fed) (length (now drive)) × FedWithin (now fed) (length (now potential)) ⌝ }
     requires { ⌜ 12 * componentCount (now components) ≤ length (now out) ⌝ }
@@ -168,7 +185,14 @@ fn put_kind(out: &mut [u64], at: usize, id: u64, kind: u64) -> usize
 }
 
 // Writes the source rows of one component from a place on, and answers the place after them.
-fn put_component(out: &mut [u64], at: usize, id: u64, kind: u64, on_frontier: bool, inferred: bool) -> usize
+fn put_component(
+    out: &mut [u64],
+    at: usize,
+    id: u64,
+    kind: u64,
+    on_frontier: bool,
+    inferred: bool,
+) -> usize
     requires { ⌜ at + 4 ≤ length (now out) ⌝ }
     requires { ⌜ (inferred ≡ true → «on_frontier» ≡ false) ⌝ }
     ensures { λ r. ⌜ Put (sourcesOf id (sourceKind kind) «on_frontier» inferred) at (now (out .entry)) (now (out .exit)) r ⌝ }
@@ -179,7 +203,12 @@ fn put_component(out: &mut [u64], at: usize, id: u64, kind: u64, on_frontier: bo
 }
 
 // Writes the source rows of all components, in list order, and answers how many there are.
-pub(crate) fn put_sources(components: &[i64], on_frontier: &[bool], inferred: &[bool], out: &mut [u64]) -> usize
+pub(crate) fn put_sources(
+    components: &[i64],
+    on_frontier: &[bool],
+    inferred: &[bool],
+    out: &mut [u64],
+) -> usize
     requires { ⌜ Components (now components) ⌝ }
     requires { ⌜ (componentCount (now components) ≤ length (now «on_frontier»)) × (componentCount (now components) ≤ length (now inferred)) ⌝ }
     requires { ⌜ InferredAlone (now components) (now «on_frontier») (now inferred) × (4 * componentCount (now components) ≤ length (now out)) ⌝ }

@@ -1,7 +1,6 @@
 -- `liveness::verdicts::put_component` meets its contract.
 -- Assumes nothing.
 use borrow.Author.Needs.{needs}
-use mathlib.Core.Path.{_≡_, refl, sym, ap, _∙_}
 use Prim.Native.Nat.{_≤_}
 use native.Mathlib.Omega.{arith}
 use lib.ListN.{length}
@@ -22,8 +21,16 @@ source-requires-2 c κs e =
     let f = c .before .before .before in
     let k = f .before .before .before .before in
     let s = k .before .before .before in
-    omega (arith, k .put-kind .ensures .place, k .put-kind .kept .0, f .put-source .ensures .place, f .put-source .kept .0,
-    kind-few (s .args .id) (sourceKind (s .args .kind)), row-none (s .args .on-frontier) (s .args .id) 2 (s .pre .1 e), s .pre .0)
+    omega (
+      arith,
+      k .put-kind .ensures .place,
+      k .put-kind .kept .0,
+      f .put-source .ensures .place,
+      f .put-source .kept .0,
+      kind-few (s .args .id) (sourceKind (s .args .kind)),
+      row-none (s .args .on-frontier) (s .args .id) 2 (s .pre .1 e),
+      s .pre .0,
+    )
 
 returns : tie.Need-returns
 returns c =

@@ -1,12 +1,9 @@
 -- `liveness::verdicts::put_device` meets its contract: at port k the rows of those before it stand.
 -- Assumes nothing.
 use borrow.Author.Needs.{needs}
-use mathlib.Core.Path.{_≡_}
 use mathlib.Core.List.{List}
-use Prim.Native.Nat.{ℕ, _+_, _*_, _-_, _/_, _%_, _≤_, _<_}
+use Prim.Native.Nat.{ℕ, _+_, _*_, _-_, _≤_, _<_}
 use native.Mathlib.Omega.{arith}
-use lib.ListN.{length, getD}
-use Rattle.tables.specs.Pairs.{span}
 use Rattle.liveness.specs.Keys.{slot}
 use Rattle.liveness.specs.Rows.{slotStatus, SlotWithin, FedWithin, firstRequired, requiredCount}
 use Rattle.liveness.proofs.Devices.{PortsPut, ports-none, ports-more, ports-all}

@@ -1,7 +1,7 @@
 -- `liveness::verdicts::put_kind` meets its contract.
 -- Assumes nothing.
 use borrow.Author.Needs.{needs}
-use mathlib.Core.Path.{_≡_, refl, sym, ap, _∙_}
+use mathlib.Core.Path.{sym, ap, _∙_}
 use Rattle.lists.specs.First.{isFound}
 use Rattle.liveness.proofs.Written.{put-nothing}
 use Rattle.liveness.proofs.verdicts.put_kind.Statement.{statement}

@@ -1,10 +1,8 @@
 -- `liveness::verdicts::put_verdict` meets its contract.
 -- Assumes nothing.
 use borrow.Author.Needs.{needs}
-use mathlib.Core.Path.{_≡_}
-use Prim.Native.Nat.{_<_}
 use native.Mathlib.Omega.{arith}
-use lib.ListN.{length, length-set}
+use lib.ListN.{length-set}
 use Rattle.liveness.proofs.Written.{three-puts}
 use Rattle.liveness.proofs.verdicts.put_verdict.Statement.{statement}
 use Rattle.liveness.proofs.verdicts.put_verdict.Tie as tie

@@ -1,6 +1,6 @@
 -- `liveness::verdicts::required_count` meets its contract.
 -- Assumes nothing.
-use mathlib.Core.Path.{_≡_, refl, sym}
+use mathlib.Core.Path.{sym}
 use native.Mathlib.Omega.{arith}
 use Rattle.liveness.specs.Rows.{requiredCount}
 use Rattle.liveness.proofs.Fed.{count-none, count-low, count-past}
