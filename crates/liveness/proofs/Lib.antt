@@ -1,4 +1,10 @@
 -- Laws of the definitions, for the proofs of this crate and of those above it.
+--     Tabulated, Ends, Graph            the tables of keys are the graph of `signals`
+--     Marks, Frontiers, Stores, Lent    flags and numbers, stored place by place
+--     Neighbours                        the neighbours seen
+--     Staged                            the stages give `labels`, `isCyclic`, `drive`, `potential`
+--     Fed, Statuses                     the keys of a slot, and its status
+--     Written, Devices, Required, RowLaws   the rows written are those of the document
 pub mod Tabulated
 pub mod Ends
 pub mod Graph
