@@ -25,7 +25,7 @@ use Rattle.circuit.specs.Groups.{groupOf, groupsOf, rootsBelow}
 use Rattle.circuit.specs.Topology.{joinOf, joins, joinsOf, forestOf, netKinds, fragmentKinds, netsOf, fragmentsOf}
 use Rattle.circuit.proofs.Numbering.{group-joined, group-below, group-onto, all-well-formed, joined-more, Stays, roots-stay}
 use Rattle.circuit.proofs.Roots.{groups-at}
-use Rattle.circuit.proofs.Settling.{place-below}
+use Rattle.lists.proofs.Table.{place-below}
 
 -- ---- the pairs are of components
 

@@ -4,25 +4,26 @@
 --     ends-settled         and are places below the number of components, or none
 --     settled-below        so the pairs lie below it
 -- Assumes nothing.
-use mathlib.Core.Path.{_≡_, refl, sym, ap, _∙_}
+use mathlib.Core.Path.{_≡_, refl, ap}
 use mathlib.Core.Bool.{Bool, true, false, cond, _&&_}
-use mathlib.Core.List.{List, [], _∷_, _++_, foldl, List·Memᴰ, List·Memᴰ·not-nil, List·Memᴰ·append-cases, List·Memᴰ·eq-of-singleton}
-use mathlib.Core.Logic.{_⊎_, inl, inr, ⊎-elim}
+use mathlib.Core.List.{List, [], _∷_, _++_, List·Memᴰ, List·Memᴰ·not-nil, List·Memᴰ·append-cases, List·Memᴰ·eq-of-singleton}
+use mathlib.Core.Logic.{⊎-elim}
 use Prim.Native.Nat.{ℕ, zero, suc, _+_, _*_, _≤_, _<_}
 use native.Mathlib.Nat.{add-zero}
 use native.Mathlib.Omega.{arith}
 use lib.Dec.{leb, ltb}
 use lib.ListN.{length, getD}
 use lib.IntN.{ℤ, pos}
-use borrow.Author.Tests.{ltb-true, lt-ltb, le-ltb}
+use borrow.Author.Tests.{ltb-true, lt-ltb}
 use Rattle.lists.specs.Limits.{componentLimit, connectionWidth}
-use Rattle.lists.specs.Records.{naturalAt, component, connection, componentCount, connectionCount}
+use Rattle.lists.specs.Records.{naturalAt, connection, componentCount, connectionCount}
 use Rattle.lists.specs.Signed.{at}
 use Rattle.lists.specs.Ranges.{connectionLow, connectionHigh}
-use Rattle.lists.specs.Ids.{placeBelow, placeOf}
+use Rattle.lists.specs.Ids.{placeOf}
 use Rattle.lists.specs.declared.Found.{Found}
 use Rattle.lists.specs.declared.Found.the-variants.{At, Nothing}
-use Rattle.lists.proofs.Search.{FoundAt, found-at, both}
+use Rattle.lists.proofs.Search.{both}
+use Rattle.lists.proofs.Table.{place-below}
 use Rattle.circuit.specs.Forest.{Forest, unite, uniteAll}
 use Rattle.circuit.specs.Connected.{PairsBelow}
 use Rattle.circuit.specs.Topology.{joinOf, joins}
@@ -40,11 +41,6 @@ pub end-range : (f : ℕ) → f < 2 → (at connectionLow f ≡ pos 0) × (at co
 end-range zero h = (refl, refl)
 end-range (suc zero) h = (refl, refl)
 end-range (suc (suc f)) h = absurd (omega arith)
-
--- a place that was found is below the number of components
-pub place-below : (cs : List ℤ) (id p : ℕ) → placeOf cs id ≡ At p → p < componentCount cs
-unfolding placeBelow
-place-below cs id p e = let f = found-at _ 0 (componentCount cs) p e in omega (arith, f .below)
 
 -- it stands for a place exactly where it is below the limit
 module _ (cs : List ℤ) (few : componentCount cs ≤ componentLimit) (counts : Bool) (a b : ℕ) where

@@ -135,3 +135,8 @@ module _ (cs : List ℤ) (k : ℕ) (h : k < componentCount cs) where
   used-none e =
       let test : ℕ → Bool = λ j. eqb (component cs j .id) (component cs k .id) in
       ap isFound (first-nothing test 0 k (λ j a b. none-found test 0 (componentCount cs) e j a (omega arith)))
+
+-- a place that was found is below the number of components
+pub place-below : (cs : List ℤ) (id p : ℕ) → placeOf cs id ≡ At p → p < componentCount cs
+unfolding placeBelow
+place-below cs id p e = omega (arith, found-at (λ k. eqb (component cs k .id) id) 0 (componentCount cs) p e .below)

@@ -20,7 +20,7 @@ pub record Settled (cs ps : List ℤ) (f : ℕ) (members : List ℕ) : Type 0 wh
 
 -- ports are 0 to 255
 abbrev pub ports : ℕ
-ports = 256
+ports = 2 ^ 8
 
 -- a port of a member as one number
 abbrev pub slot : ℕ → ℕ → ℕ

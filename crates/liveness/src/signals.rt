@@ -36,7 +36,7 @@ pub(crate) fn settle(keys: &[u64], ports: &[i64], f: usize, members: &mut [usize
 }
 
 // A port of a member: ports are 0 to 255.
-pub(crate) const PORTS: usize = 256;
+pub(crate) const PORTS: usize = 1 << 8;
 
 // The port that each port connection feeds, as one number: its sink's member, then the port.
 pub(crate) fn settle_slots(ports: &[i64], sinks: &[usize], slots: &mut [usize])

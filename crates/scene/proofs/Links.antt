@@ -1,5 +1,4 @@
 -- What a connection's ports say of its ends.
---     place-below                       an id's place is that of a component
 --     between-none, between-some        the ports of a connection by the face of its step
 --     Linked, linked                    both ends are components, their ports are below seven, and the kind is not Support
 -- Assumes nothing.
@@ -13,8 +12,8 @@ use lib.ListN.{length}
 use lib.IntN.{ℤ}
 use borrow.Author.Tests.{eqb-true, ne-eqb}
 use Rattle.lists.specs.First.{isFound}
-use Rattle.lists.specs.Records.{Component, Connection, component, componentCount}
-use Rattle.lists.specs.Ids.{placeBelow, placeOf, hasComponent}
+use Rattle.lists.specs.Records.{Component, Connection, component}
+use Rattle.lists.specs.Ids.{placeOf, hasComponent}
 use Rattle.lists.specs.declared.Found.{Found}
 use Rattle.lists.specs.declared.Found.the-variants.{At, Nothing}
 use Rattle.lists.proofs.Search.{found-at, both}
@@ -25,10 +24,6 @@ use Rattle.scene.specs.Select.{supportKind, fits, serves, portAt, select
 use Rattle.scene.specs.Kept.{bothPorts, portsBetween, linkBetween, linkOf}
 use Rattle.scene.specs.declared.connections.Link.the-variants.{Ports, Dropped}
 use Rattle.scene.proofs.Sound.{ports-few, structural-down}
-
-pub place-below : (cs : List ℤ) (id p : ℕ) → placeOf cs id ≡ At p → p < componentCount cs
-unfolding placeBelow
-place-below cs id p e = omega (arith, found-at (λ k. eqb (component cs k .id) id) 0 (componentCount cs) p e .below)
 
 -- ---- between two components
 

@@ -11,12 +11,12 @@ use lib.IntN.{ℤ}
 use lib.Seq.{length-take-le}
 use Rattle.lists.specs.Limits.{componentLimit}
 use Rattle.lists.specs.Records.{componentCount}
-use Rattle.lists.specs.Ids.{placeBelow, placeOf}
+use Rattle.lists.specs.Ids.{placeOf}
 use Rattle.lists.specs.Refusals.{groupingLists}
 use Rattle.lists.specs.declared.Found.{Found}
 use Rattle.lists.specs.declared.Found.the-variants.{At, Nothing}
 use Rattle.lists.specs.declared.Checked.the-variants.{Accepted}
-use Rattle.lists.proofs.Search.{found-at}
+use Rattle.lists.proofs.Table.{place-below}
 use Rattle.lists.proofs.Accepted.{GroupingScene, grouping-accept, id-past}
 use Rattle.probe.specs.Places.{IsPlace}
 use Rattle.probe.proofs.find.Statement.{statement}
@@ -42,8 +42,7 @@ long c =
 
 -- a place that is found is a component's
 is-place : (cs : List ℤ) (id : ℕ) → componentCount cs ≤ componentLimit → (f : Found) → placeOf cs id ≡ f → IsPlace f
-unfolding placeBelow
-is-place cs id few (At k) e = let f = found-at _ 0 (componentCount cs) k e in omega (arith, f .below)
+is-place cs id few (At k) e = omega (arith, place-below cs id k e)
 is-place cs id few Nothing e = tt
 
 returns : tie.Need-returns

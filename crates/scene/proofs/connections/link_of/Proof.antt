@@ -9,7 +9,7 @@ use Rattle.lists.specs.Records.{connection}
 use Rattle.lists.specs.Ids.{placeOf}
 use Rattle.lists.proofs.Search.{record-within}
 use Rattle.lists.proofs.Fields.{first-nonNeg, first-most, field-nonNeg, field-most}
-use Rattle.scene.proofs.Links.{place-below}
+use Rattle.lists.proofs.Table.{place-below}
 use Rattle.scene.proofs.connections.link_of.Statement.{statement}
 use Rattle.scene.proofs.connections.link_of.Tie as tie
 
