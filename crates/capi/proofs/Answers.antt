@@ -28,7 +28,8 @@ use Rattle.lists.proofs.Chain.{both-accept}
 use Rattle.lists.proofs.Accepts.{refuse-none, whole-few, whole-all}
 use Rattle.lists.proofs.Small.{small-or-else, whole-small}
 use Rattle.lists.proofs.Accepted.{grouping-accept, room-places}
-use Rattle.circuit.specs.Topology.{answerOf, leftOf, netsOf, fragmentsOf, netCount, fragmentCount}
+use Rattle.lists.specs.Slices.{leftOf}
+use Rattle.circuit.specs.Topology.{answerOf, netsOf, fragmentsOf, netCount, fragmentCount}
 use Rattle.circuit.specs.declared.Counts.{Counts}
 use Rattle.circuit.specs.declared.Grouping.the-variants.{Groups, Refused}
 use Rattle.capi.specs.Bytes.{numberBytes, numbers, bytesOf}

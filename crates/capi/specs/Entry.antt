@@ -13,7 +13,8 @@ use Rattle.lists.specs.Limits.{componentLimit, connectionLimit, componentWidth,
 use Rattle.lists.specs.Refusals.{refuse, _or-else_, notWhole, groupingRefusal, packed}
 use Rattle.lists.specs.declared.Checked.{Checked}
 use Rattle.lists.specs.declared.Checked.the-variants.{Accepted, Refused}
-use Rattle.circuit.specs.Topology.{netsOf, fragmentsOf, netCount, fragmentCount, leftOf}
+use Rattle.lists.specs.Slices.{leftOf}
+use Rattle.circuit.specs.Topology.{netsOf, fragmentsOf, netCount, fragmentCount}
 use Rattle.capi.specs.Bytes.{numberBytes, numbers, bytesOf}
 
 -- 1: the bytes of both lists are whole records within their limits

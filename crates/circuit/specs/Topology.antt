@@ -16,7 +16,7 @@ use Rattle.lists.specs.Records.{connection, componentCount, connectionCount}
 use Rattle.lists.specs.First.{firstFrom, isFound}
 use Rattle.lists.specs.Ids.{placeOf}
 use Rattle.lists.specs.Refusals.{groupingRefusal}
-use Rattle.lists.specs.Slices.{laid}
+use Rattle.lists.specs.Slices.{laid, leftOf}
 use Rattle.lists.specs.declared.Found.{Found}
 use Rattle.lists.specs.declared.Found.the-variants.{At, Nothing}
 use Rattle.lists.specs.declared.Refusal.{Refusal}
@@ -74,11 +74,6 @@ fragmentCount cs ps = rootsBelow (forestOf cs ps fragmentKinds) (componentCount 
 abbrev pub answerOf : Checked → ℕ → ℕ → Grouping
 answerOf Accepted nets fragments = Groups (record { nets = nets; fragments = fragments })
 answerOf (CheckRefused refusal) nets fragments = Refused refusal
-
--- what a lent slice holds: the rows at its front where the scene is accepted, and else what it held
-abbrev pub leftOf : Checked → List ℕ → List ℕ → List ℕ
-leftOf Accepted rows old = laid rows old
-leftOf (CheckRefused refusal) rows old = old
 
 -- the groups of an accepted scene
 pub record GroupedBy (cs ps : List ℤ) (nets nets′ fragments fragments′ : List ℕ) (r : Counts) : Type 0 where

@@ -7,7 +7,7 @@ use mathlib.Core.List.{List, [], map}
 use lib.ListN.{length, getD}
 use lib.IntN.{ℤ, pos}
 use Rattle.lists.specs.Refusals.{portsRefusal, packed}
-use Rattle.lists.specs.Slices.{laid}
+use Rattle.lists.specs.Slices.{leftOf}
 use Rattle.lists.specs.declared.Checked.{Checked}
 use Rattle.lists.specs.declared.Checked.the-variants.{Accepted, Refused}
 use Rattle.scene.specs.Ports.{Port}
@@ -30,10 +30,6 @@ abbrev pub sentAs : Checked → ℕ → ℕ
 sentAs Accepted count = 65536 * count
 sentAs (Refused refusal) count = packed (Refused refusal)
 
-abbrev pub leftAs : Checked → List ℤ → List ℤ → List ℤ
-leftAs Accepted rows out = laid rows out
-leftAs (Refused refusal) rows out = out
-
 pub record Sent (cs ps out out′ : List ℤ) (r : ℕ) : Type 0 where
   pub answer : r ≡ sentAs (portsRefusal cs ps (length out)) (keptCount cs ps)
-  pub left : out′ ≡ leftAs (portsRefusal cs ps (length out)) (map pos (keptRows cs ps)) out
+  pub left : out′ ≡ leftOf (portsRefusal cs ps (length out)) (map pos (keptRows cs ps)) out

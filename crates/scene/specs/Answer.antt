@@ -8,7 +8,7 @@ use lib.ListN.{length, take, drop}
 use lib.IntN.{ℤ, pos}
 use Rattle.lists.specs.Limits.{portWidth}
 use Rattle.lists.specs.Refusals.{portsRefusal}
-use Rattle.lists.specs.Slices.{laid}
+use Rattle.lists.specs.Slices.{laid, leftOf}
 use Rattle.lists.specs.declared.Refusal.{Refusal}
 use Rattle.lists.specs.declared.Checked.{Checked}
 use Rattle.lists.specs.declared.Checked.the-variants as checked
@@ -53,5 +53,4 @@ portsAnswer cs ps n = answerBy (portsRefusal cs ps n) (keptCount cs ps)
 
 pub record Answered (cs ps out out′ : List ℤ) (r : Selected) : Type 0 where
   pub answer : answerOf r ≡ portsAnswer cs ps (length out)
-  pub refused : (x : Refusal) → r ≡ Refused x → out′ ≡ out
-  pub kept : (n : ℕ) → r ≡ Kept n → out′ ≡ laid (map pos (keptRows cs ps)) out
+  pub left : out′ ≡ leftOf (portsRefusal cs ps (length out)) (map pos (keptRows cs ps)) out

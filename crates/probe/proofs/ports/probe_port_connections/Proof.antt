@@ -57,14 +57,14 @@ returns c =
     let called = c .before .before .before .before in
     let e = c .before .selected .given .1 in
     let w = when-kept called _ e in
-    record { answer = rw (w .0) (ap (λ (n : ℕ). 65536 * n) (w .1)); left = rw (w .0) (called .port-connections .ensures .kept _ e) }
+    record { answer = rw (w .0) (ap (λ (n : ℕ). 65536 * n) (w .1)); left = called .port-connections .ensures .left }
 
 returns-2 : tie.Need-returns-2
 returns-2 c =
     let called = c .before .before .before .before .before in
     let e = c .before .before .selected2 .given .1 in
     let w = when-refused called _ e in
-    record { answer = rw w (c .pack .ensures); left = rw w (called .port-connections .ensures .refused _ e) }
+    record { answer = rw w (c .pack .ensures); left = called .port-connections .ensures .left }
 
 pub probe-port-connections-spec : {M : Type 1} → statement M
 probe-port-connections-spec =

@@ -65,11 +65,7 @@ refused c =
     let g = c .before .before .before .before in
     let s = g .before .before .before .before in
     let e = sym (checks g) ∙ c .before .checked .given .1 in
-    record {
-      answer = rw e;
-      refused = λ x p. refl;
-      kept = λ n p. let z : _≡_ {A = ℕ} 0 1 = cc in absurd (omega arith);
-    }
+    record { answer = rw e; left = rw e }
 
 share : tie.Need-array-share-prefix-keys
 share c = few c
@@ -96,11 +92,7 @@ kept : tie.Need-returns-2
 kept c =
     let all = c .before in
     let e = accept (all .before .before .before) in
-    record {
-      answer = rw (e, ← all .keep-all .ensures .count);
-      refused = λ x p. let z : _≡_ {A = ℕ} 0 1 = cc in absurd (omega arith);
-      kept = λ n p. all .keep-all .ensures .rows;
-    }
+    record { answer = rw (e, ← all .keep-all .ensures .count); left = rw e (all .keep-all .ensures .rows) }
 
 pub port-connections-spec : {M : Type 1} → statement M
 port-connections-spec =
