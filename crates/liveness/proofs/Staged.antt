@@ -1,6 +1,6 @@
 -- What the stages leave in their arrays is what the definitions say.
 --     regions-are, labels-long         the labels and the number of the regions
---     labels-below                     each label is below the number of nodes
+--     labels-below, regions-few        each label is below the number of nodes, and there are no more regions
 --     source-ends, sink-ends           the settled ends of signal connections are nodes
 --     cyclic-is, cyclic-flags          the flags of the cyclic regions
 --     members-below, labels-placed     members and labels by list place
@@ -77,6 +77,9 @@ module _ (cs ps : List ℤ) (keys : List ℕ) (graph : edges (componentCount cs)
         below = λ p l. ap-less (λ (g : Edges). at (Kosaraju.regionOf n g) p) graph
             (omega (arith, laws .below p (omega (arith, labels-long)), laws .few));
       }
+
+  pub regions-few : regionCount cs ps ≤ componentCount cs
+  regions-few = let n = componentCount cs in omega (arith, keys-regions n keys .few, ap (λ (g : Edges). Kosaraju.count n g) graph)
 
   module _ {sources sinks : List ℕ} (few : componentCount cs ≤ componentLimit) (s : Settled cs ps 0 sources) (t : Settled cs ps 2 sinks) where
     pub cyclic-is : (r : ℕ) → cyclicAt ps sources sinks (labels cs ps) r ≡ isCyclic cs ps r

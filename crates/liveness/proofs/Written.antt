@@ -1,5 +1,5 @@
 -- Rows written one after the other into a slice.
---     two-puts, three-puts      a row, stored number by number
+--     one-put, two-puts, ..     a row, stored number by number
 --     put-nothing, put-more     no row changes nothing; rows after rows
 -- Assumes nothing.
 use mathlib.Core.Path.{_≡_, sym, ap, _∙_}
@@ -11,6 +11,9 @@ use native.Mathlib.Omega.{arith}
 use lib.ListN.{length, set, take, drop, length-append, length-take, length-drop, take-append-drop}
 use lib.Seq.{sets-eq, take-at, drop-append-add, drop-drop}
 use Rattle.liveness.specs.Rows.{Put}
+
+pub one-put : (a : ℕ) (l : List ℕ) (i : ℕ) → i + 1 ≤ length l → Put (a ∷ []) i l (set l i a) (i + 1)
+one-put a l i h = record { place = omega arith; is = sets-eq (a ∷ []) l i h ∙ append-assoc (take i l) (a ∷ []) (drop (i + 1) l) }
 
 pub two-puts : (a b : ℕ) (l : List ℕ) (i : ℕ) → i + 2 ≤ length l → Put (a ∷ b ∷ []) i l (set (set l i a) (i + 1) b) (i + 2)
 two-puts a b l i h = record { place = omega arith; is = rw (add-one i) (sets-eq (a ∷ b ∷ []) l i h ∙ append-assoc (take i l) (a ∷ b ∷ []) (drop (i + 2) l)) }

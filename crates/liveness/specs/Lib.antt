@@ -4,8 +4,13 @@ pub mod Sources
 pub mod Regions
 pub mod Drive
 pub mod Verdicts
+pub mod Demand
+pub mod Sets
+pub mod Entry
+pub mod Query
 pub mod Keys
 pub mod Flags
 pub mod Seen
 pub mod Rows
 pub mod Stages
+pub mod Scene

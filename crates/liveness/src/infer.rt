@@ -20,7 +20,9 @@ ghost use Rattle.lists.specs.Within.{Components, PortConnections};
 ghost use Rattle.lists.specs.First.{some};
 ghost use Rattle.regions.specs.Graph.{marked};
 ghost use Rattle.regions.specs.Keys.{edges};
-ghost use Rattle.liveness.specs.Regions.{wire};
+ghost use mathlib.Core.List.{List};
+ghost use Rattle.liveness.specs.Regions.{wire, fedFromOutside};
+ghost use Rattle.liveness.specs.Scene.{Scene, Prepared};
 ghost use Rattle.liveness.specs.Flags.{Flags, Indices};
 ghost use Rattle.liveness.specs.Seen.{Rows, SignalEnds};
 ghost use Rattle.liveness.specs.Stages.{inferredBy};
@@ -52,4 +54,31 @@ pub(crate) fn infer(
         flags[p] = is_inferred(components, p, quiet, forward, backward, labels, members[p]);
         p += 1;
     }
+}
+
+// Flags the regions that get a connection from another region's component, Solid and Transparent sources left uncounted.
+pub(crate) fn outside_regions(
+    components: &[i64],
+    ports: &[i64],
+    sources: &[usize],
+    sinks: &[usize],
+    labels: &[usize],
+    members: &[usize],
+    fed: &mut [bool],
+)
+    requires { ⌜ Scene (now components) (now ports) ⌝ }
+    requires { ⌜ ((forward backward keys regionOf : List ℕ) × Prepared (now components) (now ports) (now sources) (now sinks) forward backward keys (now labels) (now members) regionOf) ⌝ }
+    requires { ⌜ length (now fed) ≡ componentLimit ⌝ }
+    ensures { λ _. ⌜ Flags componentLimit (fedFromOutside (now (components .entry)) (now (ports .entry))) (now (fed .exit)) ⌝ }
+{
+    let n = labels.len();
+    let mut passive_at = [false; COMPONENTS];
+    let mut passive = [false; COMPONENTS];
+    let mut outside = [false; CONNECTIONS];
+    let mut sink_at = [0usize; CONNECTIONS];
+    passive_flags(components, &mut passive_at);
+    gather(n, members, &passive_at, &mut passive[..n]);
+    outside_flags(ports, sources, sinks, labels, &passive, &mut outside);
+    sink_regions(ports, sinks, labels, &mut sink_at);
+    gather(ports.len() / PORT, &sink_at, &outside, fed);
 }

@@ -3,29 +3,17 @@
 use borrow.Author.Needs.{needs}
 use mathlib.Core.Path.{_≡_, refl, ap, _∙_}
 use mathlib.Core.Bool.{Bool, true, false, _&&_}
-use mathlib.Core.List.{List}
 use Prim.Native.Nat.{ℕ, _<_}
 use native.Mathlib.Omega.{arith}
 use lib.Dec.{eqb}
-use lib.ListN.{length, getD}
-use lib.IntN.{ℤ}
+use lib.ListN.{getD}
 use Rattle.lists.specs.Records.{portCount}
 use Rattle.lists.specs.First.{isFound}
 use Rattle.liveness.specs.Signals.{isSignal}
-use Rattle.liveness.specs.Flags.{Indices}
-use Rattle.liveness.specs.Seen.{SignalEnds, SinkRegions}
 use Rattle.liveness.proofs.Tabulated.{first-cong}
+use Rattle.liveness.proofs.Within.{sinks-below}
 use Rattle.liveness.proofs.stages.flag_selves.Statement.{statement}
 use Rattle.liveness.proofs.stages.flag_selves.Tie as tie
-
--- each number is that of a region
-regions-below : {ps : List ℤ} {sinks labels ends : List ℕ} {m : ℕ} → SignalEnds (length labels) ps sinks → Indices (length labels) m labels → 0 < m
-    → SinkRegions ps sinks labels ends → (k : ℕ) → k < portCount ps → getD ends k 0 < m
-regions-below {ps} {sinks} {labels} {ends} {m} s i pos e k h = go (isSignal ps k) refl
-  where
-    go : (t : Bool) → isSignal ps k ≡ t → getD ends k 0 < m
-    go true q = omega (arith, e .at k h q, i .below (getD sinks k 0) (s .below k h q))
-    go false q = omega (arith, e .support k h q)
 
 -- a support is no connection from a node to itself, so its number does not matter
 where-signal : (s t a b : Bool) → (s ≡ true → a ≡ b) → ((s && t) && a) ≡ ((s && t) && b)
@@ -39,7 +27,7 @@ gather-requires c κs =
     let s = c .before .before .before .before .before .before .before .before .before .before .before .before .before in (
       record {
         long = omega (arith, s .pre .0 .few, regions .sink-regions .kept .1 .1 .1 .0);
-        below = regions-below (s .pre .1 .0 .0) (s .pre .1 .1 .0) (s .pre .1 .1 .1) (regions .sink-regions .ensures);
+        below = sinks-below (s .pre .1 .0 .0) (s .pre .1 .1 .0) (s .pre .1 .1 .1) (regions .sink-regions .ensures);
       },
       selves .self-flags .ensures .long,
     )

@@ -1,0 +1,127 @@
+-- The regions fed from outside.
+--     some-only              a test that one place alone can pass is the test there
+--     passive-at             the mark of a used id's member is that of its component's kind
+--     fed-is                 the flags gathered by the regions of the sinks
+-- Assumes nothing.
+use mathlib.Core.Path.{_≡_, refl, sym, ap, _∙_}
+use mathlib.Core.Bool.{Bool, true, false, not, _&&_}
+use mathlib.Core.List.{List, _++_}
+use Prim.Native.Nat.{ℕ, _≤_, _<_}
+use native.Mathlib.Omega.{arith}
+use lib.Dec.{eqb}
+use lib.ListN.{length, getD, List·getD-append}
+use lib.IntN.{ℤ}
+use borrow.Author.Tests.{eqb-true, eq-eqb}
+use Rattle.lists.specs.Limits.{componentLimit}
+use Rattle.lists.specs.Records.{component, portConnection, componentCount, portCount}
+use Rattle.lists.specs.First.{firstFrom, isFound, some}
+use Rattle.lists.specs.Ids.{placeBelow, placeOf, hasComponent, smallerIds, memberOf, firstRepeated}
+use Rattle.lists.specs.declared.Found.{Found}
+use Rattle.lists.specs.declared.Found.the-variants.{At, Nothing}
+use Rattle.lists.proofs.Search.{never, found-at, none-found, first-nothing}
+use Rattle.lists.proofs.Members.{member-below, member-inj}
+use Rattle.regions.specs.Graph.{marked, at}
+use Rattle.liveness.specs.Signals.{isSignal, sourceMember, sinkMember}
+use Rattle.liveness.specs.Regions.{labels, isPassive, kindAt, fedFromOutside}
+use Rattle.liveness.specs.Keys.{Settled}
+use Rattle.liveness.specs.Flags.{Flags, Numbers, Gathered}
+use Rattle.liveness.specs.Seen.{SinkRegions, outsideAt}
+use Rattle.liveness.specs.Scene.{Scene}
+use Rattle.liveness.proofs.Tabulated.{first-cong}
+use Rattle.liveness.proofs.Ends.{ends-below}
+use Rattle.liveness.proofs.Graph.{source-at, sink-at}
+
+-- ---- tests
+
+pub some-found : (test : ℕ → Bool) (n p : ℕ) → p < n → test p ≡ true → some test n ≡ true
+some-found test n p h e = go (firstFrom test 0 n) refl
+  where
+    go : (x : Found) → firstFrom test 0 n ≡ x → isFound x ≡ true
+    go (At q) f = refl
+    go Nothing f = never (sym (none-found test 0 n f p (omega arith) (omega arith)) ∙ e)
+
+module _ (P same : ℕ → Bool) (n p : ℕ) (h : p < n) (here : same p ≡ true) (only : (q : ℕ) → q < n → same q ≡ true → q ≡ p) where
+  pub some-only : some (λ q. P q && same q) n ≡ P p
+  some-only = go (P p) refl
+    where
+      other : P p ≡ false → (q : ℕ) → q < n → (t : Bool) → same q ≡ t → (P q && t) ≡ false
+      other e q l true s = rw (only q l s, e)
+      other e q l false s = none (P q)
+        where
+          none : (b : Bool) → (b && false) ≡ false
+          none true = refl
+          none false = refl
+
+      go : (t : Bool) → P p ≡ t → some (λ q. P q && same q) n ≡ t
+      go true e = some-found (λ q. P q && same q) n p h (rw (e, here))
+      go false e = ap isFound (first-nothing (λ q. P q && same q) 0 n (λ q a b. other e q (omega arith) (same q) refl))
+
+-- ---- passive sources
+
+module _ (cs : List ℤ) (once : firstRepeated cs ≡ Nothing) {members : List ℕ} (numbers : Numbers (componentCount cs) (memberOf cs) members)
+    {flags marks : List Bool} (f : Flags (componentCount cs) (λ p. isPassive (component cs p .kind)) flags) (long : length marks ≡ componentCount cs)
+    (g : Gathered (componentCount cs) members flags marks) where
+  mark-at : (p : ℕ) → p < componentCount cs → marked marks (memberOf cs p) ≡ isPassive (component cs p .kind)
+  mark-at p h =
+      let n = componentCount cs in
+      let m = memberOf cs p in
+      g .at m (omega (arith, member-below cs p h))
+      ∙ ap isFound (first-cong _ (λ q. isPassive (component cs q .kind) && eqb (memberOf cs q) m) 0 n (λ q a b.
+      rw (f .at q (omega arith), numbers .at q (omega arith))))
+      ∙ some-only (λ q. isPassive (component cs q .kind)) (λ q. eqb (memberOf cs q) m) n p h (eq-eqb m m refl)
+      (λ q l e. member-inj cs once q p l h (eqb-true (memberOf cs q) m e))
+
+  pub passive-at : (id : ℕ) → hasComponent cs id ≡ true → marked marks (smallerIds cs id) ≡ isPassive (kindAt cs (placeOf cs id))
+  unfolding placeBelow
+  passive-at id e = go (placeOf cs id) refl e
+    where
+      go : (x : Found) → placeOf cs id ≡ x → isFound x ≡ true → marked marks (smallerIds cs id) ≡ isPassive (kindAt cs x)
+      go (At p) q t =
+          let found = found-at (λ k. eqb (component cs k .id) id) 0 (componentCount cs) p q in
+          ap (λ (i : ℕ). marked marks (smallerIds cs i)) (sym (eqb-true (component cs p .id) id (found .passes))) ∙ mark-at p (omega (arith, found .below))
+      go Nothing q t = never t
+
+-- ---- fed from outside
+
+-- the tests of a connection in another order, equal where it is a signal
+tests-same : (s x y y′ z z′ : Bool) → (s ≡ true → y ≡ y′) → (s ≡ true → z ≡ z′) → ((s && (x && not y)) && z) ≡ (s && (x && (z′ && not y′)))
+tests-same false x y y′ z z′ e f = refl
+tests-same true false y y′ z z′ e f = refl
+tests-same true true y y′ z z′ e f = turned y z ∙ rw (e refl, f refl)
+  where
+    turned : (a b : Bool) → (not a && b) ≡ (b && not a)
+    turned true true = refl
+    turned true false = refl
+    turned false true = refl
+    turned false false = refl
+
+module _ {cs ps : List ℤ} (scene : Scene cs ps) {sources sinks labelled members : List ℕ} (s : Settled cs ps 0 sources) (t : Settled cs ps 2 sinks)
+    (is : labelled ≡ labels cs ps) (numbers : Numbers (componentCount cs) (memberOf cs) members) where
+  pub fed-is : (rest : List Bool) {flags marks outside fed : List Bool} {ends : List ℕ} → Flags (componentCount cs) (λ p. isPassive (component cs p .kind)) flags
+      → length marks ≡ componentCount cs → Gathered (componentCount cs) members flags marks
+      → Flags (portCount ps) (outsideAt ps sources sinks labelled (marks ++ rest)) outside → SinkRegions ps sinks labelled ends
+      → length fed ≡ componentLimit → Gathered (portCount ps) ends outside fed → Flags componentLimit (fedFromOutside cs ps) fed
+  unfolding fedFromOutside
+  fed-is rest {flags} {marks} {outside} {fed} {ends} f long g o e room gathered = record {
+    long = omega arith;
+    at = λ r h. gathered .at r (omega arith) ∙ ap isFound (first-cong _ _ 0 (portCount ps) (λ k a b. tested r k (omega arith)));
+  }
+    where
+      few : componentCount cs ≤ componentLimit
+      few = scene .components .few
+
+      passive : (k : ℕ) → k < portCount ps → isSignal ps k ≡ true → marked (marks ++ rest) (getD sources k 0) ≡ isPassive (kindAt cs (placeOf cs (portConnection ps k .source)))
+      passive k h signal =
+          let there = ends-below cs ps (scene .ends) k h signal in
+          ap (marked (marks ++ rest)) (source-at few s t k h)
+          ∙ List·getD-append marks rest false (sourceMember cs ps k) (omega (arith, there .source-below))
+          ∙ passive-at cs (scene .distinct) numbers f long g (portConnection ps k .source) (there .source-found)
+
+      tested : (r k : ℕ) → k < portCount ps → (marked outside k && eqb (getD ends k 0) r)
+          ≡ (isSignal ps k && (not (eqb (at (labels cs ps) (sourceMember cs ps k)) (at (labels cs ps) (sinkMember cs ps k)))
+          && (eqb (at (labels cs ps) (sinkMember cs ps k)) r && not (isPassive (kindAt cs (placeOf cs (portConnection ps k .source)))))))
+      tested r k h =
+          ap (λ (b : Bool). b && eqb (getD ends k 0) r) (o .at k h)
+          ∙ tests-same (isSignal ps k) (not (eqb (getD labelled (getD sources k 0) 0) (getD labelled (getD sinks k 0) 0))) (marked (marks ++ rest) (getD sources k 0)) _
+          (eqb (getD ends k 0) r) _ (passive k h) (λ signal. ap (λ (x : ℕ). eqb x r) (e .at k h signal))
+          ∙ rw (is, source-at few s t k h, sink-at few s t k h)

@@ -1,0 +1,38 @@
+-- `liveness::steps::answer` meets its contract: the sets of the flags, and that of the cyclic regions.
+-- Assumes nothing.
+use borrow.Author.Needs.{needs}
+use mathlib.Core.Path.{_≡_, refl, _∙_}
+use mathlib.Core.Bool.{Bool, _&&_}
+use mathlib.Core.List.{List}
+use Prim.Native.Nat.{ℕ, _≤_}
+use native.Mathlib.Omega.{arith}
+use Rattle.liveness.proofs.Answers.{set-where}
+use Rattle.liveness.proofs.steps.answer.Statement.{statement}
+use Rattle.liveness.proofs.steps.answer.Tie as tie
+
+returns : tie.Need-returns
+returns c =
+    let s = c .before .before .before .before .before .before .before .before .before .before .before .before .before .before in
+    record {
+      checked-is = refl;
+      regions-is = refl;
+      sources-is = refl;
+      inputs-is = refl;
+      drive-set = c .before .before .before .before .set-of .ensures;
+      potential-set = c .before .before .before .set-of2 .ensures;
+      cyclic-set = set-where (s .pre .1 .0 .1 .1) (c .before .set-of3 .ensures) (c .before .before .before .before .before .before .find-cyclic .ensures);
+      has-drive-set = c .set-of4 .ensures;
+    }
+
+pub answer-spec : {M : Type 1} → statement M
+answer-spec =
+    tie.close
+    (tie.spec
+    (λ c. search needs)
+    (λ c κs. search needs)
+    (λ c κs. search needs)
+    (λ c κs. search needs)
+    (λ c. search needs)
+    (λ c κs. search needs)
+    (λ c κs. search needs)
+    returns)

@@ -1,0 +1,54 @@
+-- `liveness::steps::flag_inferred` meets its contract: the regions fed from outside, then the test of each component.
+-- Assumes nothing.
+use borrow.Author.Needs.{needs}
+use mathlib.Core.Path.{refl, sym, _∙_}
+use native.Mathlib.Omega.{arith}
+use Rattle.liveness.proofs.Lent.{indices-same}
+use Rattle.liveness.proofs.Staged.{members-below}
+use Rattle.liveness.proofs.Within.{places-under}
+use Rattle.liveness.proofs.Inferring.{labels-long, forward-rows, backward-rows, inferred-is}
+use Rattle.liveness.proofs.steps.flag_inferred.Statement.{statement}
+use Rattle.liveness.proofs.steps.flag_inferred.Tie as tie
+
+abbrev start : tie.After-outside-regions → tie.Start
+start c = c .before .before .before .before .before .before .before .before .before .before .before
+
+outside-regions-requires : tie.Need-outside-regions-requires
+outside-regions-requires c κs =
+    let s = c .before .before .before .before .before .before .before .before .before .before in
+    (s .pre .0, ((s .args .forward .now, s .args .backward .now, s .pre .1 .0 .0, s .args .region-at .now, s .pre .1 .0 .1), refl))
+
+infer-requires : tie.Need-infer-requires
+infer-requires c κs =
+    let fed = c .before .before .before in
+    let s = start fed in
+    let p = s .pre .1 .0 .1 in
+    let cs = s .args .components .now in
+    let ps = s .args .ports .now in (
+      (s .pre .0 .components, (forward-rows (s .pre .0) p, backward-rows (s .pre .0) p)),
+      (
+        (indices-same (sym (labels-long (s .pre .0) p)) (members-below cs (p .members-are)), s .pre .1 .1 .1),
+        (places-under cs ps (s .pre .0 .ends) _ (omega (arith, s .pre .0 .components .few, s .pre .1 .1 .0)) (p .regions-are), omega (arith, s .pre .1 .1 .0, fed .outside-regions .ensures .long)),
+      ),
+    )
+
+returns : tie.Need-returns
+returns c fs driven =
+    let called = c .before .before in
+    let fed = called .before .before .before .before in
+    let s = start fed in
+    record {
+      long = called .infer .ensures .long;
+      at = λ q h. called .infer .ensures .at q h ∙ inferred-is (s .pre .0) (s .pre .1 .0 .1) fs driven (fed .outside-regions .ensures) q h;
+    }
+
+pub flag-inferred-spec : {M : Type 1} → statement M
+flag-inferred-spec =
+    tie.close
+    (tie.spec
+    (λ c. search needs)
+    outside-regions-requires
+    (λ c. search needs)
+    infer-requires
+    (λ c. search needs)
+    returns)

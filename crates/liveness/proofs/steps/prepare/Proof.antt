@@ -1,0 +1,131 @@
+-- `liveness::steps::prepare` meets its contract: the tables are the graph of the signal connections, and its regions are those of the scene.
+-- Assumes nothing.
+use borrow.Author.Needs.{needs}
+use mathlib.Core.Path.{_≡_, _∙_}
+use Prim.Native.Nat.{ℕ, _≤_}
+use mathlib.Core.List.{List}
+use native.Mathlib.Omega.{arith}
+use lib.ListN.{length}
+use lib.IntN.{ℤ}
+use Rattle.lists.specs.Limits.{componentLimit}
+use Rattle.lists.specs.Records.{componentCount}
+use Rattle.lists.proofs.Table.{table-long}
+use Rattle.regions.specs.Keys.{edges}
+use Rattle.liveness.specs.Signals.{signals}
+use Rattle.liveness.specs.Flags.{Indices}
+use Rattle.liveness.specs.Stages.{Tables}
+use Rattle.liveness.proofs.Ends.{ends-within}
+use Rattle.liveness.proofs.Graph.{edges-signals, edges-turned}
+use Rattle.liveness.proofs.Staged.{regions-are, members-below, labels-placed}
+use Rattle.liveness.proofs.steps.prepare.Statement.{statement}
+use Rattle.liveness.proofs.steps.prepare.Tie as tie
+
+build-tables-requires : tie.Need-build-tables-requires
+build-tables-requires c κs =
+    let s = c .before .before .before .before .before .before .before .before .before .before .before .before .before .before .before in
+    let room = s .pre .1 in (
+      (s .pre .0 .0 .connections, (s .args .components .now, s .pre .0 .1)),
+      (
+        (omega (arith, table-long (s .pre .0 .1), s .pre .0 .0 .components .few), (room .sources-room, room .sinks-room)),
+        (room .forward-room, (room .backward-room, room .fed-room)),
+      ),
+    )
+
+-- ---- after the tables are built
+
+abbrev start : tie.After-build-tables → tie.Start
+start c = c .before .before .before .before .before .before .before .before .before .before .before .before .before .before .before .before
+
+abbrev cs : tie.After-build-tables → List ℤ
+cs c = start c .args .components .now
+
+abbrev ps : tie.After-build-tables → List ℤ
+ps c = start c .args .ports .now
+
+abbrev forward : tie.After-build-tables → List ℕ
+forward c = c .build-tables .last .1 .1 .1 .1 .0
+
+tables : (c : tie.After-build-tables)
+    → Tables (cs c) (ps c) (c .build-tables .last .1 .1 .0) (c .build-tables .last .1 .1 .1 .0) (forward c) (c .build-tables .last .1 .1 .1 .1 .1 .0) (c .build-tables .last .1 .1 .1 .1 .1 .1 .0)
+tables c = c .build-tables .ensures (cs c) (start c .pre .0 .1)
+
+few : (c : tie.After-build-tables) → componentCount (cs c) ≤ componentLimit
+few c = start c .pre .0 .0 .components .few
+
+graph : (c : tie.After-build-tables) → edges (componentCount (cs c)) (forward c) ≡ signals (cs c) (ps c)
+graph c =
+    let t = tables c in
+    edges-signals (few c) (t .source-members) (t .sink-members) (ends-within (cs c) (ps c) (start c .pre .0 .0 .ends)) (t .forward-keys)
+
+find-regions-requires : tie.Need-find-regions-requires
+find-regions-requires c κs =
+    let b = c .before .before .before .before .before .before .before .before .before .before .before .before .before .before in
+    let room = start b .pre .1 in
+    let t = tables b in (
+      (
+        t .forward-keys .sorted .ascending,
+        (
+          t .backward-keys .sorted .ascending,
+          rw (room .labels-room) (edges-turned (few b) (t .source-members) (t .sink-members) (ends-within (cs b) (ps b) (start b .pre .0 .0 .ends)) (t .forward-keys) (t .backward-keys)),
+        ),
+      ),
+      (omega (arith, room .labels-room, few b), (omega (arith, room .labels-room, room .stack-room), room .stack-zeros)),
+    )
+
+place-members-requires : tie.Need-place-members-requires
+place-members-requires c κs = let s = c .before .before .before .before .before .before .before .before .before .before .before .before .before .before .before .before .before .before .before .before .before .before .before .before .before .before .before .before .before .before .before .before .before .before .before .before in ((s .pre .0 .0 .components, s .pre .0 .1), s .pre .1 .members-room)
+
+-- the members of all components are nodes
+indices-at : {n m k : ℕ} {index : List ℕ} → n ≡ k → m ≡ k → Indices k k index → Indices n m index
+indices-at e f i = record { long = omega (arith, e, i .long); below = λ p h. omega (arith, f, i .below p (omega (arith, e))) }
+
+place-labels-requires : tie.Need-place-labels-requires
+place-labels-requires c κs =
+    let placed = c .before .before .before .before .before in
+    let found = c .before .before .before .before .before .before .before .before .before .before .before in
+    let b = c .before .before .before .before .before .before .before .before .before .before .before .before .before .before .before .before .before .before .before .before .before .before .before .before .before .before in
+    let room = start b .pre .1 in
+    let long = found .find-regions .kept .1 .1 .0 ∙ room .labels-room in
+    (indices-at long long (members-below (cs b) (placed .place-members .ensures)), omega (arith, long, room .regions-room))
+
+returns : tie.Need-returns
+returns c =
+    let labelled = c .before .before in
+    let placed = c .before .before .before .before .before .before .before .before in
+    let found = c .before .before .before .before .before .before .before .before .before .before .before .before .before .before in
+    let b = c .before .before .before .before .before .before .before .before .before .before .before .before .before .before .before .before .before .before .before .before .before .before .before .before .before .before .before .before .before in
+    let room = start b .pre .1 in
+    let long = found .find-regions .kept .1 .1 .0 ∙ room .labels-room in
+    let regions = regions-are (cs b) (ps b) (forward b) (graph b) (rw (room .labels-room) at (found .find-regions .ensures)) in
+    let numbers = placed .place-members .ensures in
+    record {
+      prepared = record {
+        tables = tables b;
+        sources-long = omega (arith, b .build-tables .kept .1 .1 .0, room .sources-room);
+        sinks-long = omega (arith, b .build-tables .kept .1 .1 .1 .0, room .sinks-room);
+        labels-are = regions .0;
+        members-are = numbers;
+        regions-are = labels-placed (cs b) numbers (ps b) (rw (long, regions .0) at (labelled .place-labels .ensures));
+      };
+      count = regions .1;
+      stack-zeros = found .find-regions .ensures .stack-zeros;
+    }
+
+pub prepare-spec : {M : Type 1} → statement M
+prepare-spec =
+    tie.close
+    (tie.spec
+    build-tables-requires
+    find-regions-requires
+    place-members-requires
+    place-labels-requires
+    (λ c. search needs)
+    (λ c. search needs)
+    (λ c. search needs)
+    (λ c. search needs)
+    (λ c. search needs)
+    (λ c. search needs)
+    (λ c. search needs)
+    (λ c. search needs)
+    (λ c. search needs)
+    returns)

@@ -1,0 +1,241 @@
+-- `liveness::steps::report` meets its contract: marks, then rows, then sets, each by its law.
+-- Assumes nothing.
+use borrow.Author.Needs.{needs}
+use mathlib.Core.Path.{_≡_, sym, ap, _∙_}
+use mathlib.Core.Bool.{Bool, false}
+use mathlib.Core.List.{List, _++_}
+use Prim.Native.Nat.{ℕ, _*_, _≤_}
+use native.Mathlib.Omega.{arith}
+use lib.ListN.{length, getD, take, drop, replicate}
+use lib.Seq.{length-take-le}
+use lib.IntN.{ℤ}
+use Rattle.lists.specs.Limits.{componentLimit}
+use Rattle.lists.specs.Records.{componentCount}
+use Rattle.lists.specs.First.{tabulate}
+use Rattle.lists.specs.Slices.{laid}
+use Rattle.regions.specs.Keys.{edges}
+use Rattle.regions.proofs.Fill.{zeros-cleared}
+use Rattle.liveness.specs.Signals.{signals}
+use Rattle.liveness.specs.Regions.{regionAt, regionsOf}
+use Rattle.liveness.specs.Drive.{drive, potential}
+use Rattle.liveness.specs.Verdicts.{sourceRowsBelow, verdictRows}
+use Rattle.liveness.specs.Rows.{FedWithin, sourcesBelow, verdictsBelow}
+use Rattle.liveness.specs.Seen.{SignalEnds}
+use Rattle.liveness.specs.Stages.{cyclicAt}
+use Rattle.liveness.specs.Scene.{MarkRoom}
+use Rattle.liveness.proofs.Lent.{front, front-long}
+use Rattle.liveness.proofs.Ends.{ends-within}
+use Rattle.liveness.proofs.Graph.{edges-signals}
+use Rattle.liveness.proofs.Staged.{labels-long, labels-below, regions-few, cyclic-is, sink-ends}
+use Rattle.liveness.proofs.Statuses.{fed-within}
+use Rattle.liveness.proofs.RowLaws.{members-within, sources-are, inferred-alone, verdicts-are}
+use Rattle.liveness.proofs.Answers.{set-all, set-where, set-same, tabulated-same}
+use Rattle.liveness.proofs.steps.report.Statement.{statement}
+use Rattle.liveness.proofs.steps.report.Tie as tie
+
+-- ---- the prepared scene
+
+abbrev cs : tie.Start → List ℤ
+cs s = s .args .components .now
+
+abbrev ps : tie.Start → List ℤ
+ps s = s .args .ports .now
+
+abbrev fs : tie.Start → List ℤ
+fs s = s .args .frontiers .now
+
+abbrev nodes : tie.Start → ℕ
+nodes s = length (s .args .labels .now)
+
+few : (s : tie.Start) → componentCount (cs s) ≤ componentLimit
+few s = s .pre .0 .components .few
+
+graph : (s : tie.Start) → edges (componentCount (cs s)) (s .args .forward .now) ≡ signals (cs s) (ps s)
+graph s =
+    let t = s .pre .1 .0 .tables in
+    edges-signals (few s) (t .source-members) (t .sink-members) (ends-within (cs s) (ps s) (s .pre .0 .ends)) (t .forward-keys)
+
+all : (s : tie.Start) → nodes s ≡ componentCount (cs s)
+all s = ap length (s .pre .1 .0 .labels-are) ∙ labels-long (cs s) (ps s) (s .args .forward .now) (graph s)
+
+small : (s : tie.Start) → nodes s ≤ 1024
+small s = omega (arith, all s, few s)
+
+count-small : (s : tie.Start) → s .args .count ≤ componentLimit
+count-small s = omega (arith, s .pre .1 .1 .0, regions-few (cs s) (ps s) (s .args .forward .now) (graph s), few s)
+
+lent : (s : tie.Start) → length (take (nodes s) (replicate componentLimit false)) ≡ nodes s
+lent s = length-take-le _ _ (small s)
+
+-- ---- marks
+
+mark-requires : tie.Need-mark-requires
+mark-requires c κs =
+    let s = c .before .before .before .before .before .before .before .before .before .before .before .before .before .before .before .before .before .before in
+    let room = s .pre .1 .1 .1 .0 in (
+      s .pre .0,
+      (
+        (s .args .fed .now, s .pre .1 .0),
+        record {
+          frontier-room = few s;
+          inferred-room = few s;
+          regions-room = omega arith;
+          drive-room = lent s ∙ all s;
+          potential-room = lent s ∙ all s;
+          stack-room = room .stack-room;
+          stack-zeros = s .pre .1 .1 .1 .1;
+        },
+      ),
+    )
+
+abbrev start : tie.After-mark → tie.Start
+start c = c .before .before .before .before .before .before .before .before .before .before .before .before .before .before .before .before .before .before .before
+
+abbrev driven : tie.After-mark → List Bool
+driven c = c .mark .last .1 .1 .1 .1 .1 .1 .1 .1 .1 .1 .1 .1 .1 .0
+
+abbrev possible : tie.After-mark → List Bool
+possible c = c .mark .last .1 .1 .1 .1 .1 .1 .1 .1 .1 .1 .1 .1 .1 .1 .0
+
+abbrev rest : tie.After-mark → List Bool
+rest c = drop (nodes (start c)) (replicate componentLimit false)
+
+driven-long : (c : tie.After-mark) → length (driven c) ≡ nodes (start c)
+driven-long c = c .mark .kept .1 .1 .1 .1 .1 .1 .1 .1 .1 .1 .1 .1 .1 .0 ∙ lent (start c)
+
+possible-long : (c : tie.After-mark) → length (possible c) ≡ nodes (start c)
+possible-long c = c .mark .kept .1 .1 .1 .1 .1 .1 .1 .1 .1 .1 .1 .1 .1 .1 .0 ∙ lent (start c)
+
+driven-front : (c : tie.After-mark) → take (nodes (start c)) (driven c ++ rest c) ≡ driven c
+driven-front c = front _ (driven c) (rest c) (driven-long c)
+
+possible-front : (c : tie.After-mark) → take (nodes (start c)) (possible c ++ rest c) ≡ possible c
+possible-front c = front _ (possible c) (rest c) (possible-long c)
+
+driven-lent : (c : tie.After-mark) → length (take (nodes (start c)) (driven c ++ rest c)) ≡ nodes (start c)
+driven-lent c = ap length (driven-front c) ∙ driven-long c
+
+possible-lent : (c : tie.After-mark) → length (take (nodes (start c)) (possible c ++ rest c)) ≡ nodes (start c)
+possible-lent c = ap length (possible-front c) ∙ possible-long c
+
+-- ---- rows
+
+put-regions-requires : tie.Need-put-regions-requires
+put-regions-requires c κs =
+    let s = c .before .before .before .before .before .before .before .before .before .before .before .before .before .before .before .before .before .before .before .before .before .before .before .before .before .before .before in
+    (omega (arith, all s, s .pre .1 .0 .regions-are .long), omega (arith, all s, s .pre .1 .1 .1 .0 .regions-room))
+
+put-sources-requires : tie.Need-put-sources-requires
+put-sources-requires c κs =
+    let m = c .before .before .before .before .before .before .before .before .before .before .before .before .before .before in
+    let s = start m in
+    let e = m .mark .ensures in (
+      s .pre .0 .components,
+      (
+        (e .frontier-flags .long, e .inferred-flags .long),
+        (inferred-alone (cs s) (ps s) (fs s) (e .frontier-flags) (e .inferred-flags), s .pre .1 .1 .1 .0 .sources-room),
+      ),
+    )
+
+fed-as : {keys : List ℕ} {n m : ℕ} → n ≡ m → FedWithin keys m → FedWithin keys n
+fed-as e f = record { below = λ i h l. omega (arith, e, f .below i h l) }
+
+put-verdicts-requires : tie.Need-put-verdicts-requires
+put-verdicts-requires c κs =
+    let m = c .before .before .before .before .before .before .before .before .before .before .before .before .before .before .before .before .before .before .before .before in
+    let s = start m in
+    let t = s .pre .1 .0 .tables in
+    let within = fed-within (few s) (s .pre .0 .connections) (t .source-members) (t .sink-members) (t .slots-are) (t .fed-keys) (s .pre .0 .ends) in (
+      (s .pre .0 .components, members-within (cs s) (few s) (s .pre .1 .0 .members-are)),
+      ((t .fed-keys .sorted .ascending, fed-as (driven-lent m ∙ all s) within, fed-as (possible-lent m ∙ all s) within), s .pre .1 .1 .1 .0 .inputs-room),
+    )
+
+-- ---- the answer
+
+ends-as : {n m : ℕ} {l : List ℤ} {members : List ℕ} → n ≡ m → SignalEnds m l members → SignalEnds n l members
+ends-as e f = record { long = f .long; below = λ k h i. omega (arith, e, f .below k h i) }
+
+answer-requires : tie.Need-answer-requires
+answer-requires c κs =
+    let m = c .before .before .before .before .before .before .before .before .before .before .before .before .before .before .before .before .before .before .before .before .before .before .before .before .before .before in
+    let s = start m in
+    let p = s .pre .1 .0 in
+    let t = p .tables in (
+      (s .pre .0 .connections, (ends-as (all s) (sink-ends (few s) (t .source-members) (t .sink-members) (ends-within (cs s) (ps s) (s .pre .0 .ends)) (p .sinks-long)), p .sources-long)),
+      (
+        (rw (p .labels-are) (labels-below (cs s) (ps s) (s .args .forward .now) (graph s) componentLimit (few s)), (small s, count-small s)),
+        (omega (arith, driven-lent m), (omega (arith, possible-lent m), omega (arith, count-small s, m .mark .kept .1 .1 .1 .1 .1 .1 .1 .1 .1 .1 .1 .1 .0))),
+      ),
+    )
+
+returns : tie.Need-returns
+returns c =
+    let verdicts = c .before .before .before .before .before .before in
+    let sources = c .before .before .before .before .before .before .before .before .before .before .before .before in
+    let regions = c .before .before .before .before .before .before .before .before .before .before .before .before .before .before .before .before .before .before in
+    let m = c .before .before .before .before .before .before .before .before .before .before .before .before .before .before .before .before .before .before .before .before .before .before .before .before .before .before .before in
+    let s = start m in
+    let a = c .answer .ensures in
+    let p = s .pre .1 .0 in
+    let t = p .tables in
+    let e = m .mark .ensures in
+    let n = componentCount (cs s) in
+    let region-rows : tabulate (λ q. getD (s .args .region-at .now) q 0) (nodes s) ≡ regionsOf (cs s) (ps s) =
+    tabulated-same (λ q. getD (s .args .region-at .now) q 0) (regionAt (cs s) (ps s)) (nodes s) (λ q h. p .regions-are .at q (omega (arith, all s)))
+    ∙ ap (tabulate (regionAt (cs s) (ps s))) (all s) in
+    let source-rows : sourcesBelow (cs s) (m .mark .last .1 .1 .1 .1 .1 .1 .1 .1 .1 .1 .0) (m .mark .last .1 .1 .1 .1 .1 .1 .1 .1 .1 .1 .1 .0) n ≡ sourceRowsBelow (cs s) (ps s) (fs s) n =
+    sources-are (cs s) (ps s) (fs s) (e .frontier-flags) (e .inferred-flags) n (omega arith) in
+    let live : take (nodes s) (driven m ++ rest m) ≡ drive (cs s) (ps s) (fs s) = driven-front m ∙ e .drive-is in
+    let may : take (nodes s) (possible m ++ rest m) ≡ potential (cs s) (ps s) (fs s) = possible-front m ∙ e .potential-is in
+    let verdict-rows : verdictsBelow (cs s) (s .args .members .now) (s .args .fed .now) (take (nodes s) (driven m ++ rest m)) (take (nodes s) (possible m ++ rest m)) n ≡ verdictRows (cs s) (ps s) (fs s) n =
+    rw (live, may)
+    (verdicts-are (few s) (s .pre .0 .connections) (t .source-members) (t .sink-members) (t .slots-are) (t .fed-keys) (s .pre .0 .ends) (fs s) (p .members-are) n (omega arith)) in
+    record {
+      answer = a .checked-is;
+      regions-left = regions .put-regions .ensures ∙ ap (λ (l : List ℕ). laid l (s .args .regions .now)) region-rows;
+      sources-left = sources .put-sources .ensures .is ∙ ap (λ (l : List ℕ). laid l (s .args .sources .now)) source-rows;
+      inputs-left = verdicts .put-verdicts .ensures .is ∙ ap (λ (l : List ℕ). laid l (s .args .inputs .now)) verdict-rows;
+      stack-left = zeros-cleared _ (e .stack-zeros) ∙ ap (λ (k : ℕ). replicate k 0) (m .mark .kept .1 .1 .1 .1 .1 .1 .1 .1 .1 .1 .1 .1 .1 .1 .1 .0);
+      region-count = a .regions-is ∙ s .pre .1 .1 .0;
+      source-count = ap (λ (k : ℕ). k * 2) (a .sources-is) ∙ sources .put-sources .ensures .count ∙ ap length source-rows;
+      input-count = ap (λ (k : ℕ). k * 3) (a .inputs-is) ∙ verdicts .put-verdicts .ensures .count ∙ ap length verdict-rows;
+      drive-set = set-all (all s) live (a .drive-set);
+      potential-set = set-all (all s) may (a .potential-set);
+      cyclic-set = set-same (s .pre .1 .1 .0)
+          (λ r. ap (λ (l : List ℕ). cyclicAt (ps s) (s .args .source-at .now) (s .args .sink-at .now) l r) (p .labels-are)
+          ∙ cyclic-is (cs s) (ps s) (s .args .forward .now) (graph s) (few s) (t .source-members) (t .sink-members) r) (a .cyclic-set);
+      has-drive-set = rw (s .pre .1 .1 .0) at (set-where (count-small s) (a .has-drive-set) (e .region-flags));
+    }
+
+pub report-spec : {M : Type 1} → statement M
+report-spec =
+    tie.close
+    (tie.spec
+    (λ c. search needs)
+    (λ c. search needs)
+    (λ c. search needs)
+    (λ c. small (c .before .before .before .before .before .before .before .before .before .before .before .before .before .before .before))
+    (λ c. sym (lent (c .before .before .before .before .before .before .before .before .before .before .before .before .before .before .before .before)))
+    (λ c. small (c .before .before .before .before .before .before .before .before .before .before .before .before .before .before .before .before))
+    (λ c. sym (lent (c .before .before .before .before .before .before .before .before .before .before .before .before .before .before .before .before .before)))
+    mark-requires
+    put-regions-requires
+    (λ c. search needs)
+    (λ c. search needs)
+    put-sources-requires
+    (λ c. let m = c .before .before .before .before .before .before .before .before .before .before .before .before .before .before .before .before .before in front-long _ (driven m) (rest m) (driven-long m))
+    (λ c. let m = c .before .before .before .before .before .before .before .before .before .before .before .before .before .before .before .before .before .before in sym (driven-lent m))
+    (λ c. let m = c .before .before .before .before .before .before .before .before .before .before .before .before .before .before .before .before .before .before in front-long _ (possible m) (rest m) (possible-long m))
+    (λ c. let m = c .before .before .before .before .before .before .before .before .before .before .before .before .before .before .before .before .before .before .before in sym (possible-lent m))
+    put-verdicts-requires
+    (λ c. let m = c .before .before .before .before .before .before .before .before .before .before .before .before .before .before .before .before .before .before .before .before .before .before .before in front-long _ (driven m) (rest m) (driven-long m))
+    (λ c. let m = c .before .before .before .before .before .before .before .before .before .before .before .before .before .before .before .before .before .before .before .before .before .before .before .before in sym (driven-lent m))
+    (λ c. let m = c .before .before .before .before .before .before .before .before .before .before .before .before .before .before .before .before .before .before .before .before .before .before .before .before in front-long _ (possible m) (rest m) (possible-long m))
+    (λ c. let m = c .before .before .before .before .before .before .before .before .before .before .before .before .before .before .before .before .before .before .before .before .before .before .before .before .before in sym (possible-lent m))
+    (λ c. search needs)
+    answer-requires
+    (λ c. c .before .before .before .before .before .before .before .before .before .before .before .before .before .before .before .before .before .before .put-regions .kept .1 .1 .0)
+    (λ c. c .before .before .before .before .before .before .before .before .before .before .before .before .put-sources .kept .1 .1 .1 .0)
+    (λ c. c .before .before .before .before .before .before .put-verdicts .kept .1 .1 .1 .1 .1 .0)
+    (λ c. c .before .before .before .before .before .before .before .before .before .before .before .before .before .before .before .before .before .before .before .before .before .before .before .before .before .before .before .mark .kept .1 .1 .1 .1 .1 .1 .1 .1 .1 .1 .1 .1 .1 .1 .1 .0)
+    returns)

@@ -1,0 +1,388 @@
+// The analysis of an accepted scene, stage by stage: tables and regions, marks, rows, sets.
+use super::Analysis;
+use super::flags::gather;
+use super::flags::or_flags;
+use super::flags::set_of;
+use super::infer::infer;
+use super::infer::outside_regions;
+use super::sources::drive_flags;
+use super::sources::frontier_flags;
+use super::stages::build_tables;
+use super::stages::find_cyclic;
+use super::stages::find_reach;
+use super::stages::find_regions;
+use super::stages::place_labels;
+use super::stages::place_members;
+use super::verdicts::put_sources;
+use super::verdicts::put_verdicts;
+use lists::COMPONENT;
+use lists::COMPONENTS;
+use lists::CONNECTIONS;
+use lists::Checked;
+use lists::PORT;
+ghost use mathlib.Core.Path.{_≡_};
+ghost use mathlib.Core.List.{List};
+ghost use Prim.Native.Nat.{ℕ, _*_, _≤_, _<_};
+ghost use lib.ListN.{length, getD};
+ghost use lib.IntN.{ℤ};
+ghost use Rattle.lists.specs.Limits.{componentLimit};
+ghost use Rattle.lists.specs.Records.{componentCount, portCount};
+ghost use Rattle.lists.specs.Ids.{IdTable, memberOf};
+ghost use Rattle.lists.specs.Within.{PortConnections};
+ghost use Rattle.lists.specs.First.{tabulate};
+ghost use Rattle.lists.specs.Slices.{laid};
+ghost use Rattle.lists.specs.declared.Checked.the-variants.{Accepted};
+ghost use Rattle.regions.specs.Search.{Zeros};
+ghost use Rattle.regions.specs.Keys.{edges};
+ghost use Rattle.liveness.specs.Regions.{regionCount, regionAt, hasDrive, isInferred};
+ghost use Rattle.liveness.specs.Signals.{signals};
+ghost use Rattle.liveness.specs.Sources.{isDrive};
+ghost use Rattle.liveness.specs.Flags.{Flags, Numbers, Indices};
+ghost use Rattle.liveness.specs.Entry.{AnalyzedBy};
+ghost use Rattle.liveness.specs.Seen.{SignalEnds};
+ghost use Rattle.liveness.specs.Stages.{cyclicAt};
+ghost use Rattle.liveness.specs.Scene.{Scene, Prepared, PreparedRoom, Prepares, Driven, Alive, Marked, MarkRoom, ReachRoom, RowsRoom, AnswerBy};
+
+// How many source rows and verdict rows were written.
+pub(crate) struct RowCounts {
+    pub sources: usize,
+    pub inputs: usize,
+}
+
+// Builds the tables of a scene and finds its regions; answers how many there are.
+pub(crate) fn prepare(
+    keys: &[u64],
+    components: &[i64],
+    ports: &[i64],
+    sources: &mut [usize],
+    sinks: &mut [usize],
+    forward: &mut [u64],
+    backward: &mut [u64],
+    fed: &mut [u64],
+    labels: &mut [usize],
+    members: &mut [usize],
+    region_at: &mut [usize],
+    stack: &mut [usize],
+) -> usize
+    requires { ⌜ Scene (now components) (now ports) × IdTable (now components) (now keys) ⌝ }
+    requires { ⌜ PreparedRoom (now components) (now ports) (now sources) (now sinks) (now forward) (now backward) (now fed) (now labels) (now members) (now «region_at») (now stack) ⌝ }
+    ensures { λ r. ⌜ Prepares (now (components .entry)) (now (ports .entry)) (now (sources .exit)) (now (sinks .exit)) (now (forward .exit)) (now (backward .exit)) (now (fed .exit)) (now (labels .exit)) (now (members .exit)) (now («region_at» .exit)) (now (stack .exit)) r ⌝ }
+{
+    build_tables(keys, ports, sources, sinks, forward, backward, fed);
+    let count = find_regions(forward, backward, labels, stack);
+    place_members(keys, components, members);
+    place_labels(labels.len(), members, labels, region_at);
+    count
+}
+
+// Flags the components on frontiers, the drive sources, and the regions that hold one.
+pub(crate) fn flag_drive(
+    components: &[i64],
+    frontiers: &[i64],
+    region_at: &[usize],
+    on_frontier: &mut [bool],
+    drive_at: &mut [bool],
+    has_drive: &mut [bool],
+)
+    requires { ⌜ ((ps : List ℤ) × (Scene (now components) ps × Numbers (componentCount (now components)) (regionAt (now components) ps) (now «region_at»))) ⌝ }
+    requires { ⌜ (componentCount (now components) ≤ length (now «on_frontier»)) × ((componentCount (now components) ≤ length (now «drive_at»)) × (length (now «has_drive») ≡ componentLimit)) ⌝ }
+    ensures { λ _. ⌜ ((ps : List ℤ) → Numbers (componentCount (now (components .entry))) (regionAt (now (components .entry)) ps) (now («region_at» .entry)) →
+        Driven (now (components .entry)) ps (now (frontiers .entry)) (now («on_frontier» .exit)) (now («drive_at» .exit)) (now («has_drive» .exit))) ⌝ }
+{
+    frontier_flags(components, frontiers, on_frontier);
+    drive_flags(components, on_frontier, drive_at);
+    gather(components.len() / COMPONENT, region_at, drive_at, has_drive);
+}
+
+// Flags the inferred inputs, by list place.
+pub(crate) fn flag_inferred(
+    components: &[i64],
+    ports: &[i64],
+    sources: &[usize],
+    sinks: &[usize],
+    forward: &[u64],
+    backward: &[u64],
+    labels: &[usize],
+    members: &[usize],
+    region_at: &[usize],
+    has_drive: &[bool],
+    inferred: &mut [bool],
+)
+    requires { ⌜ Scene (now components) (now ports) ⌝ }
+    requires { ⌜ ((fed : List ℕ) × Prepared (now components) (now ports) (now sources) (now sinks) (now forward) (now backward) fed (now labels) (now members) (now «region_at»)) ⌝ }
+    requires { ⌜ (length (now «has_drive») ≡ componentLimit) × (componentCount (now components) ≤ length (now inferred)) ⌝ }
+    ensures { λ _. ⌜ ((fs : List ℤ) → Flags componentLimit (hasDrive (now (components .entry)) (now (ports .entry)) fs) (now («has_drive» .entry)) →
+        Flags (componentCount (now (components .entry))) (isInferred (now (components .entry)) (now (ports .entry)) fs) (now (inferred .exit))) ⌝ }
+{
+    let mut fed = [false; COMPONENTS];
+    outside_regions(components, ports, sources, sinks, labels, members, &mut fed);
+    infer(
+        components,
+        members,
+        region_at,
+        has_drive,
+        &fed,
+        forward,
+        backward,
+        labels,
+        inferred,
+    );
+}
+
+// Marks what the drive sources reach, and what these and the inferred inputs reach.
+fn flag_alive(
+    forward: &[u64],
+    members: &[usize],
+    drive_at: &[bool],
+    inferred: &[bool],
+    drive: &mut [bool],
+    potential: &mut [bool],
+    stack: &mut [usize],
+)
+    requires { ⌜ ReachRoom (now forward) (now members) (now «drive_at») (now inferred) (now drive) (now potential) (now stack) ⌝ }
+    ensures { λ _. ⌜ ((cs ps fs : List ℤ) → edges (componentCount cs) (now (forward .entry)) ≡ signals cs ps → length (now (drive .entry)) ≡ componentCount cs →
+        Numbers (componentCount cs) (memberOf cs) (now (members .entry)) →
+        Flags (componentCount cs) (isDrive cs fs) (now («drive_at» .entry)) → Flags (componentCount cs) (isInferred cs ps fs) (now (inferred .entry)) →
+        Alive cs ps fs (now (drive .exit)) (now (potential .exit)) (now (stack .exit))) ⌝ }
+{
+    let n = drive.len();
+    let mut either = [false; COMPONENTS];
+    find_reach(forward, members, drive_at, drive, stack);
+    or_flags(n, drive_at, inferred, &mut either);
+    find_reach(forward, members, &either, potential, stack);
+}
+
+// All marks of a scene.
+fn mark(
+    components: &[i64],
+    ports: &[i64],
+    frontiers: &[i64],
+    sources: &[usize],
+    sinks: &[usize],
+    forward: &[u64],
+    backward: &[u64],
+    labels: &[usize],
+    members: &[usize],
+    region_at: &[usize],
+    on_frontier: &mut [bool],
+    inferred: &mut [bool],
+    has_drive: &mut [bool],
+    drive: &mut [bool],
+    potential: &mut [bool],
+    stack: &mut [usize],
+)
+    requires { ⌜ Scene (now components) (now ports) ⌝ }
+    requires { ⌜ ((fed : List ℕ) × Prepared (now components) (now ports) (now sources) (now sinks) (now forward) (now backward) fed (now labels) (now members) (now «region_at»)) ⌝ }
+    requires { ⌜ MarkRoom (now components) (now «on_frontier») (now inferred) (now «has_drive») (now drive) (now potential) (now stack) ⌝ }
+    ensures { λ _. ⌜ Marked (now (components .entry)) (now (ports .entry)) (now (frontiers .entry)) (now («on_frontier» .exit)) (now (inferred .exit)) (now («has_drive» .exit)) (now (drive .exit)) (now (potential .exit)) (now (stack .exit)) ⌝ }
+{
+    let mut drive_at = [false; COMPONENTS];
+    flag_drive(
+        components,
+        frontiers,
+        region_at,
+        on_frontier,
+        &mut drive_at,
+        has_drive,
+    );
+    flag_inferred(
+        components,
+        ports,
+        sources,
+        sinks,
+        forward,
+        backward,
+        labels,
+        members,
+        region_at,
+        has_drive,
+        inferred,
+    );
+    flag_alive(
+        forward,
+        members,
+        &drive_at,
+        inferred,
+        drive,
+        potential,
+        stack,
+    );
+}
+
+// Writes the region of each component, in list order.
+fn put_regions(n: usize, region_at: &[usize], regions: &mut [u64])
+    requires { ⌜ (n ≤ length (now «region_at»)) × (n ≤ length (now regions)) ⌝ }
+    ensures { λ _. ⌜ now (regions .exit) ≡ laid (tabulate (λ p. getD (now («region_at» .entry)) p 0) n) (now (regions .entry)) ⌝ }
+{
+    let mut p: usize = 0;
+    while p < n {
+        regions[p] = region_at[p] as u64;
+        p += 1;
+    }
+}
+
+// The answer: the counts as given, and the sets of the flags.
+fn answer(
+    ports: &[i64],
+    sources: &[usize],
+    sinks: &[usize],
+    labels: &[usize],
+    drive: &[bool],
+    potential: &[bool],
+    has_drive: &[bool],
+    counts: RowCounts,
+    count: usize,
+) -> Analysis
+    requires { ⌜ PortConnections (now ports) × (SignalEnds (length (now labels)) (now ports) (now sinks) × (portCount (now ports) ≤ length (now sources))) ⌝ }
+    requires { ⌜ Indices (length (now labels)) componentLimit (now labels) × ((length (now labels) ≤ componentLimit) × (count ≤ componentLimit)) ⌝ }
+    requires { ⌜ (length (now labels) ≤ length (now drive)) × ((length (now labels) ≤ length (now potential)) × (count ≤ length (now «has_drive»))) ⌝ }
+    ensures { λ r. ⌜ AnswerBy (length (now (labels .entry))) count (counts .sources) (counts .inputs) (now (drive .entry)) (now (potential .entry)) (now («has_drive» .entry))
+        (cyclicAt (now (ports .entry)) (now (sources .entry)) (now (sinks .entry)) (now (labels .entry))) r ⌝ }
+{
+    let n = labels.len();
+    let mut cyclic = [false; COMPONENTS];
+    find_cyclic(ports, sources, sinks, labels, &mut cyclic);
+    Analysis {
+        checked: Checked::Accepted,
+        regions: count,
+        sources: counts.sources,
+        inputs: counts.inputs,
+        drive: set_of(n, drive),
+        potential: set_of(n, potential),
+        cyclic: set_of(count, &cyclic),
+        has_drive: set_of(count, has_drive),
+    }
+}
+
+// Marks a prepared scene, writes its rows and answers.
+fn report(
+    components: &[i64],
+    ports: &[i64],
+    frontiers: &[i64],
+    source_at: &[usize],
+    sink_at: &[usize],
+    forward: &[u64],
+    backward: &[u64],
+    fed: &[u64],
+    labels: &[usize],
+    members: &[usize],
+    region_at: &[usize],
+    count: usize,
+    regions: &mut [u64],
+    sources: &mut [u64],
+    inputs: &mut [u64],
+    stack: &mut [usize],
+) -> Analysis
+    requires { ⌜ Scene (now components) (now ports) ⌝ }
+    requires { ⌜ Prepared (now components) (now ports) (now «source_at») (now «sink_at») (now forward) (now backward) (now fed) (now labels) (now members) (now «region_at») ⌝ }
+    requires { ⌜ (count ≡ regionCount (now components) (now ports)) × (RowsRoom (now components) (now regions) (now sources) (now inputs) (now stack) × Zeros (now stack)) ⌝ }
+    ensures { λ r. ⌜ AnalyzedBy Accepted (now (components .entry)) (now (ports .entry)) (now (frontiers .entry)) (now (regions .entry)) (now (regions .exit)) (now (sources .entry)) (now (sources .exit)) (now (inputs .entry)) (now (inputs .exit)) (now (stack .entry)) (now (stack .exit)) r ⌝ }
+{
+    let n = labels.len();
+    let mut on_frontier = [false; COMPONENTS];
+    let mut inferred = [false; COMPONENTS];
+    let mut has_drive = [false; COMPONENTS];
+    let mut drive = [false; COMPONENTS];
+    let mut potential = [false; COMPONENTS];
+    mark(
+        components,
+        ports,
+        frontiers,
+        source_at,
+        sink_at,
+        forward,
+        backward,
+        labels,
+        members,
+        region_at,
+        &mut on_frontier,
+        &mut inferred,
+        &mut has_drive,
+        &mut drive[..n],
+        &mut potential[..n],
+        stack,
+    );
+    put_regions(n, region_at, regions);
+    let counts = RowCounts {
+        sources: put_sources(components, &on_frontier, &inferred, sources),
+        inputs: put_verdicts(
+            components,
+            members,
+            fed,
+            &drive[..n],
+            &potential[..n],
+            inputs,
+        ),
+    };
+    answer(
+        ports,
+        source_at,
+        sink_at,
+        labels,
+        &drive[..n],
+        &potential[..n],
+        &has_drive,
+        counts,
+        count,
+    )
+}
+
+// Analyzes an accepted scene, given its table of ids.
+pub(crate) fn analyze(
+    keys: &[u64],
+    components: &[i64],
+    ports: &[i64],
+    frontiers: &[i64],
+    regions: &mut [u64],
+    sources: &mut [u64],
+    inputs: &mut [u64],
+    stack: &mut [usize],
+) -> Analysis
+    requires { ⌜ Scene (now components) (now ports) × IdTable (now components) (now keys) ⌝ }
+    requires { ⌜ RowsRoom (now components) (now regions) (now sources) (now inputs) (now stack) ⌝ }
+    ensures { λ r. ⌜ AnalyzedBy Accepted (now (components .entry)) (now (ports .entry)) (now (frontiers .entry)) (now (regions .entry)) (now (regions .exit)) (now (sources .entry)) (now (sources .exit)) (now (inputs .entry)) (now (inputs .exit)) (now (stack .entry)) (now (stack .exit)) r ⌝ }
+{
+    let n = keys.len();
+    let m = ports.len() / PORT;
+    let mut source_at = [0usize; CONNECTIONS];
+    let mut sink_at = [0usize; CONNECTIONS];
+    let mut forward = [0u64; CONNECTIONS];
+    let mut backward = [0u64; CONNECTIONS];
+    let mut fed = [0u64; CONNECTIONS];
+    let mut labels = [0usize; COMPONENTS];
+    let mut members = [0usize; COMPONENTS];
+    let mut region_at = [0usize; COMPONENTS];
+    regions::clear(stack);
+    let count = prepare(
+        keys,
+        components,
+        ports,
+        &mut source_at,
+        &mut sink_at,
+        &mut forward[..m],
+        &mut backward[..m],
+        &mut fed[..m],
+        &mut labels[..n],
+        &mut members,
+        &mut region_at,
+        stack,
+    );
+    report(
+        components,
+        ports,
+        frontiers,
+        &source_at,
+        &sink_at,
+        &forward[..m],
+        &backward[..m],
+        &fed[..m],
+        &labels[..n],
+        &members,
+        &region_at,
+        count,
+        regions,
+        sources,
+        inputs,
+        stack,
+    )
+}
