@@ -1,24 +1,20 @@
--- The ports of each kind and each facing, from the tests that the code makes on the numbers.
+-- Faces by their numbers.
 --     faceOr-named, faceOr-zero, faceOr-above     which numbers name a face
 --     north-faced                                 those that face North, none among them
 --     opposite-none                               those that have no opposite
---     repeater-five, repeater-seven               how many ports a repeater has
---     repeater-kind, lever-kind, solid-kind       kinds that have their ports in common
---     no-kind                                     Air, and numbers that are no kind
+--     each-face                                   what holds at each face that can be named holds of every number
 -- Assumes nothing.
-use mathlib.Core.Path.{_≡_, refl, sym, _∙_}
-use mathlib.Core.List.{List, [], _∷_, _++_}
-use Prim.Native.Nat.{ℕ, zero, suc, _+_, _-_, _≤_, _<_}
+use mathlib.Core.Path.{_≡_, refl, sym}
+use mathlib.Core.Bool.{Bool, true, false}
+use mathlib.Core.List.{[], _∷_}
+use Prim.Native.Nat.{ℕ, zero, suc, _<_}
 use native.Mathlib.Omega.{arith}
-use lib.Dec.{eqb}
-use lib.ListN.{length, getD, drop, replicate, length-replicate, getD-replicate, List·getD-append, List·getD-eq-default}
-use lib.Seq.{getD-drop}
-use borrow.Author.Tests.{le-leb, lt-leb, eqb-true}
+use lib.Dec.{ltb}
+use lib.ListN.{List·getD-eq-default}
+use borrow.Author.Tests.{le-leb, lt-leb, ltb-true, ltb-false}
 use Rattle.lists.specs.First.{allFrom}
 use Rattle.lists.proofs.Search.{all-at}
-use Rattle.scene.specs.Ports.{Port, opposite, faceOr, neither, North, leverPorts, repeaterPorts, solidPorts, portsByKind, portsFor}
-
--- ---- faces
+use Rattle.scene.specs.Ports.{opposite, faceOr, North}
 
 pub faceOr-named : (none face : ℕ) → 0 < face → face < 7 → faceOr none face ≡ face
 unfolding faceOr
@@ -44,45 +40,13 @@ unfolding opposite
 opposite-none zero h₁ h₂ h₃ h₄ h₅ h₆ = refl
 opposite-none (suc n) h₁ h₂ h₃ h₄ h₅ h₆ = sym (List·getD-eq-default (0 ∷ 3 ∷ 4 ∷ 1 ∷ 2 ∷ 6 ∷ 5 ∷ []) 0 {n = suc n} (omega arith))
 
--- ---- repeaters
+-- a test of faces that holds at each that can be named, holds of every number
+pub each-face : (test : ℕ → Bool) (none : ℕ) → allFrom (λ f. test (faceOr none f)) 0 7 ≡ true → (face : ℕ) → test (faceOr none face) ≡ true
+each-face test none e face = go (ltb face 7) refl
+  where
+    at : (f : ℕ) → f < 7 → test (faceOr none f) ≡ true
+    at f h = all-at (λ g. test (faceOr none g)) 0 7 e f (omega arith) (omega arith)
 
-pub repeater-five : (face : ℕ) → (face < 5) → length (repeaterPorts (faceOr North face)) ≡ 5
-unfolding allFrom faceOr repeaterPorts neither opposite
-repeater-five face p = eqb-true _ _ (all-at (λ f. eqb (length (repeaterPorts (faceOr North f))) 5) 0 5 refl face (omega arith) (omega arith))
-
-pub repeater-seven : (face : ℕ) → 5 ≤ face → face < 7 → length (repeaterPorts (faceOr North face)) ≡ 7
-unfolding allFrom faceOr repeaterPorts neither opposite
-repeater-seven face p q = eqb-true _ _ (all-at (λ f. eqb (length (repeaterPorts (faceOr North f))) 7) 5 2 refl face p (omega arith))
-
--- ---- kinds
-
--- a run of n times x in a list
-at-run : {A : Type 0} (l : List A) (from n : ℕ) (x d : A) → drop from l ≡ replicate n x ++ drop (from + n) l
-    → (k : ℕ) → from ≤ k → k < from + n → getD l k d ≡ x
-at-run l from n x d e k p q =
-    let i : k ≡ from + (k - from) = omega arith in
-    let long : k - from < length (replicate n x) = omega (arith, length-replicate n x) in
-    rw (i, ← getD-drop, e, List·getD-append (replicate n x) (drop (from + n) l) d (k - from) long) (getD-replicate n (k - from) x d (omega arith))
-
-module _ (kind facing support conducts : ℕ) where
-  pub repeater-kind : 0 < kind → kind < 3 → portsFor kind facing support conducts ≡ repeaterPorts (faceOr North facing)
-  unfolding portsFor
-  repeater-kind p q = at-run (portsByKind facing support conducts) 1 2 (repeaterPorts (faceOr North facing)) [] refl kind p q
-
-  pub lever-kind : 3 < kind → kind < 8 → portsFor kind facing support conducts ≡ leverPorts
-  unfolding portsFor
-  lever-kind p q = at-run (portsByKind facing support conducts) 4 4 leverPorts [] refl kind p q
-
-  pub solid-kind : 8 < kind → kind < 12 → portsFor kind facing support conducts ≡ solidPorts conducts
-  unfolding portsFor
-  solid-kind p q = at-run (portsByKind facing support conducts) 9 3 (solidPorts conducts) [] refl kind p q
-
-  last-or-none : (n : ℕ) → getD {A = List Port} ([] ∷ []) n [] ≡ []
-  last-or-none zero = refl
-  last-or-none (suc n) = refl
-
-  pub no-kind : 11 < kind → portsFor kind facing support conducts ≡ []
-  unfolding portsFor
-  no-kind p =
-      let e : kind ≡ 12 + (kind - 12) = omega arith in
-      rw e (sym (getD-drop 12 (portsByKind facing support conducts) (kind - 12) []) ∙ last-or-none (kind - 12))
+    go : (t : Bool) → ltb face 7 ≡ t → test (faceOr none face) ≡ true
+    go true h = at face (ltb-true face 7 h)
+    go false h = rw (faceOr-above none face (ltb-false face 7 h), ← faceOr-zero none) (at 0 (omega arith))

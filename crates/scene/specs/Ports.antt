@@ -1,7 +1,7 @@
 -- The ports of a component (document 01, "scene.rs: ports"). Role and channel are coded in the Rust's order, the face as in "The scene taken in".
 -- Assumes nothing: these are definitions.
 use Prim.Native.Nat.{ℕ}
-use mathlib.Core.Bool.{cond, _&&_, _||_}
+use mathlib.Core.Bool.{Bool, cond, _&&_, _||_}
 use mathlib.Core.List.{List, [], _∷_, _++_}
 use lib.Dec.{eqb, leb}
 use lib.ListN.{getD}
@@ -119,25 +119,25 @@ abbrev pub pistonPorts : ℕ → List Port
 pistonPorts facing = four Input RedstoneSignal ++ (port Output facing Mechanical ∷ [])
 
 -- if it conducts, four, Up, Down Bidirectional; else none
-abbrev pub solidPorts : ℕ → List Port
-solidPorts conducts = cond (eqb conducts 1) (four Bidirectional WeakPower ++ upDown Bidirectional WeakPower) []
+abbrev pub solidPorts : Bool → List Port
+solidPorts conducts = cond conducts (four Bidirectional WeakPower ++ upDown Bidirectional WeakPower) []
 
--- each kind's, in the order of the kinds. A facing of none is North, a support of none is Down.
-abbrev pub portsByKind : ℕ → ℕ → ℕ → List (List Port)
+-- each kind's, in the order of the kinds
+abbrev pub portsByKind : ℕ → ℕ → Bool → List (List Port)
 portsByKind facing support conducts =
-    let repeater = repeaterPorts (faceOr North facing) in
+    let repeater = repeaterPorts facing in
     let solid = solidPorts conducts in
     wirePorts  -- RedstoneWire
     ∷ repeater ∷ repeater  -- Repeater, Comparator
-    ∷ torchPorts (faceOr Down support)  -- RedstoneTorch
+    ∷ torchPorts support  -- RedstoneTorch
     ∷ leverPorts ∷ leverPorts ∷ leverPorts ∷ leverPorts  -- Lever, Button, PressurePlate, RedstoneBlock
-    ∷ pistonPorts (faceOr North facing)  -- Piston
+    ∷ pistonPorts facing  -- Piston
     ∷ solid ∷ solid ∷ solid  -- Solid, Transparent, RedstoneLamp
     ∷ [] ∷ []  -- Air
 
--- a number that is no kind has no port
+-- A facing of none is North, a support of none is Down. A number that is no kind has no port.
 unfoldable pub portsFor : ℕ → ℕ → ℕ → ℕ → List Port
-portsFor kind facing support conducts = getD (portsByKind facing support conducts) kind []
+portsFor kind facing support conducts = getD (portsByKind (faceOr North facing) (faceOr Down support) (eqb conducts 1)) kind []
 
 abbrev pub portsOf : Component → List Port
 portsOf c = portsFor (c .kind) (c .facing) (c .support) (c .conducts)

@@ -1,36 +1,36 @@
--- `scene::ports::repeater_ports` meets its contract: each arm's rows are those of its facing.
+-- `scene::ports::repeater_ports` meets its contract: each arm's rows are those of its facing in the table.
 -- Assumes nothing.
 use borrow.Author.Needs.{needs}
-use Rattle.scene.specs.Ports.{opposite, faceOr, neither, repeaterPorts}
+use Rattle.scene.specs.Ports.{faceOr}
 use Rattle.scene.proofs.Faces.{north-faced}
+use Rattle.scene.proofs.Computed.{repeater-rows}
 use Rattle.scene.proofs.ports.repeater_ports.Statement.{statement}
 use Rattle.scene.proofs.ports.repeater_ports.Tie as tie
 
 east : tie.Need-returns
-unfolding opposite faceOr neither repeaterPorts
-east c = rw (c .before .before .match .keys1, c .with-face2 .ensures, c .before .with-face .ensures)
+unfolding faceOr
+east c = rw (repeater-rows, c .before .before .match .keys1, c .with-face2 .ensures, c .before .with-face .ensures)
 
 south : tie.Need-returns-2
-unfolding opposite faceOr neither repeaterPorts
-south c = rw (c .before .before .match .keys2, c .with-face4 .ensures, c .before .with-face3 .ensures)
+unfolding faceOr
+south c = rw (repeater-rows, c .before .before .match .keys2, c .with-face4 .ensures, c .before .with-face3 .ensures)
 
 west : tie.Need-returns-3
-unfolding opposite faceOr neither repeaterPorts
-west c = rw (c .before .before .match .keys3, c .with-face6 .ensures, c .before .with-face5 .ensures)
+unfolding faceOr
+west c = rw (repeater-rows, c .before .before .match .keys3, c .with-face6 .ensures, c .before .with-face5 .ensures)
 
 up : tie.Need-returns-4
-unfolding opposite faceOr neither repeaterPorts
-up c = rw (c .before .before .match .keys4, c .with-face8 .ensures, c .before .with-face7 .ensures)
+unfolding faceOr
+up c = rw (repeater-rows, c .before .before .match .keys4, c .with-face8 .ensures, c .before .with-face7 .ensures)
 
 down : tie.Need-returns-5
-unfolding opposite faceOr neither repeaterPorts
-down c = rw (c .before .before .match .keys5, c .with-face10 .ensures, c .before .with-face9 .ensures)
+unfolding faceOr
+down c = rw (repeater-rows, c .before .before .match .keys5, c .with-face10 .ensures, c .before .with-face9 .ensures)
 
 north : tie.Need-returns-6
-unfolding opposite neither repeaterPorts
 north c =
     let r = c .before .before .match .rest in
-    rw (north-faced _ (r .0 .0 .0 .0 .1) (r .0 .0 .0 .1) (r .0 .0 .1) (r .0 .1) (r .1), c .with-face12 .ensures, c .before .with-face11 .ensures)
+    rw (repeater-rows, north-faced _ (r .0 .0 .0 .0 .1) (r .0 .0 .0 .1) (r .0 .0 .1) (r .0 .1) (r .1), c .with-face12 .ensures, c .before .with-face11 .ensures)
 
 pub repeater-ports-spec : {M : Type 1} → statement M
 repeater-ports-spec =
