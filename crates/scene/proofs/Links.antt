@@ -16,8 +16,8 @@ use Rattle.lists.specs.Records.{Component, Connection, component}
 use Rattle.lists.specs.Ids.{placeOf, hasComponent}
 use Rattle.lists.specs.declared.Found.{Found}
 use Rattle.lists.specs.declared.Found.the-variants.{At, Nothing}
-use Rattle.lists.proofs.Search.{found-at, both}
-use Rattle.scene.specs.Ports.{NoFace, Down, Structural, opposite, portsOf}
+use Rattle.lists.proofs.Search.{FoundAt, found-at, both}
+use Rattle.scene.specs.Ports.{Port, NoFace, Down, Structural, opposite, portsOf}
 use Rattle.scene.specs.Rows.{portPlaces}
 use Rattle.scene.specs.Step.{stepFace}
 use Rattle.scene.specs.Select.{supportKind, fits, serves, portAt, selectPort}
@@ -61,10 +61,15 @@ pub record Picked (c : Component) (face : ℕ) (outgoing : Bool) (kind i : ℕ) 
   pub faces : portAt (portsOf c) i .face ≡ face
   pub fit : fits (portAt (portsOf c) i) outgoing kind ≡ true
 
-picked : (c : Component) (face : ℕ) (outgoing : Bool) (kind i : ℕ) → selectPort (portsOf c) face outgoing kind ≡ At i → Picked c face outgoing kind i
+first-fitting : (ports : List Port) (face : ℕ) (outgoing : Bool) (kind i : ℕ) → selectPort ports face outgoing kind ≡ At i
+    → FoundAt (λ k. serves (portAt ports k) face outgoing kind) 0 (length ports) i
 unfolding selectPort
+first-fitting ports face outgoing kind i e = found-at (λ k. serves (portAt ports k) face outgoing kind) 0 (length ports) i e
+
+picked : (c : Component) (face : ℕ) (outgoing : Bool) (kind i : ℕ) → selectPort (portsOf c) face outgoing kind ≡ At i → Picked c face outgoing kind i
+unfolding serves
 picked c face outgoing kind i e =
-    let f = found-at (λ k. serves (portAt (portsOf c) k) face outgoing kind) 0 (length (portsOf c)) i e in
+    let f = first-fitting (portsOf c) face outgoing kind i e in
     let t = both (eqb (portAt (portsOf c) i .face) face) (fits (portAt (portsOf c) i) outgoing kind) (f .passes) in
     record { below = omega (arith, f .below); faces = eqb-true _ face (t .0); fit = t .1 }
 

@@ -26,7 +26,7 @@ fits p outgoing kind =
     (cond (eqb kind controlKind) (eqb (p .role) Control)
     (eqb (p .role) Input || (eqb (p .role) Bidirectional || eqb (p .role) Control))))
 
-abbrev pub serves : Port → ℕ → Bool → ℕ → Bool
+unfoldable pub serves : Port → ℕ → Bool → ℕ → Bool
 serves p face outgoing kind = eqb (p .face) face && fits p outgoing kind
 
 -- port k of a list

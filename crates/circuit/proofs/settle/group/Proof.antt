@@ -93,10 +93,10 @@ returns c cs t =
     let nets = first-call c .groups .ensures in
     let fragments = c .before .before .groups2 .ensures in
     record {
-      nets-laid = rw (same netKinds, table-long t) at (nets .numbers);
-      fragments-laid = rw (same fragmentKinds, table-long t) at (fragments .numbers);
-      net-count = rw (same netKinds, table-long t) at (nets .count);
-      fragment-count = rw (same fragmentKinds, table-long t) at (fragments .count);
+      nets-laid = rw (← same netKinds, ← table-long t) (nets .numbers);
+      fragments-laid = rw (← same fragmentKinds, ← table-long t) (fragments .numbers);
+      net-count = rw (← same netKinds, ← table-long t) (nets .count);
+      fragment-count = rw (← same fragmentKinds, ← table-long t) (fragments .count);
     }
 
 pub group-spec : {M : Type 1} → statement M

@@ -1,7 +1,7 @@
 -- `scene::select::select_port` meets its contract: what is left to search below the count has the answer.
 -- Assumes nothing.
 use borrow.Author.Needs.{needs}
-use mathlib.Core.Path.{_≡_, sym, _∙_}
+use mathlib.Core.Path.{_≡_, sym, ap, _∙_}
 use mathlib.Core.Bool.{Bool}
 use mathlib.Core.List.{List}
 use Prim.Native.Nat.{ℕ, _-_, _<_}
@@ -29,12 +29,17 @@ abbrev μ-loop : tie.MeasureT-loop
 long : (s : tie.Start Inv-loop μ-loop) → length (s .args .t1) ≡ 7
 long s = search needs
 
-loop-holds : tie.Need-loop-holds Inv-loop μ-loop
+-- all ports are searched from the first
+whole : (ports : List (List ℕ)) (count face : ℕ) (outgoing : Bool) (kind n : ℕ) → n ≡ length (portsIn ports count)
+    → firstFrom (test ports count face outgoing kind) 0 n ≡ selectPort (portsIn ports count) face outgoing kind
 unfolding selectPort
+whole ports count face outgoing kind n e = ap (firstFrom (test ports count face outgoing kind) 0) e
+
+loop-holds : tie.Need-loop-holds Inv-loop μ-loop
 loop-holds c =
     let s = c .before in
-    let e : c .least .result - 0 ≡ length (portsIn (s .args .t1) (s .args .count)) = omega (arith, ports-long (s .args .t1) (s .args .count), long s, c .least .ensures) in
-    rw e
+    let a = s .args in
+    whole (a .t1) (a .count) (a .face) (a .outgoing) (a .kind) (c .least .result - 0) (omega (arith, ports-long (a .t1) (a .count), long s, c .least .ensures))
 
 -- what the call says of the port at i
 tested : (c : tie.After-port-serves Inv-loop μ-loop)

@@ -14,8 +14,13 @@ returns c =
     let s = c .before .before .before .before in
     let a = s .args in
     let f = s .fits in
-    let e : c .face-of .result ≡ faceOf (shiftBetween (a .x) (a .to-x)) (shiftBetween (a .y) (a .to-y)) (shiftBetween (a .z) (a .to-z)) =
-    cc (toZ-ofZ {w = w64} (f .x), toZ-ofZ {w = w64} (f .y), toZ-ofZ {w = w64} (f .z), toZ-ofZ {w = w64} (f .to-x), toZ-ofZ {w = w64} (f .to-y), toZ-ofZ {w = w64} (f .to-z)) in
+    let x : c .before .before .before .shift-between .result ≡ shiftBetween (a .x) (a .to-x) =
+    rw (toZ-ofZ {w = w64} (f .x), toZ-ofZ {w = w64} (f .to-x)) at (c .before .before .before .shift-between .ensures) in
+    let y : c .before .before .shift-between2 .result ≡ shiftBetween (a .y) (a .to-y) =
+    rw (toZ-ofZ {w = w64} (f .y), toZ-ofZ {w = w64} (f .to-y)) at (c .before .before .shift-between2 .ensures) in
+    let z : c .before .shift-between3 .result ≡ shiftBetween (a .z) (a .to-z) =
+    rw (toZ-ofZ {w = w64} (f .z), toZ-ofZ {w = w64} (f .to-z)) at (c .before .shift-between3 .ensures) in
+    let e : c .face-of .result ≡ faceOf (shiftBetween (a .x) (a .to-x)) (shiftBetween (a .y) (a .to-y)) (shiftBetween (a .z) (a .to-z)) = cc (x, y, z) in
     e ∙ sym (facing-by-shifts (a .x) (a .y) (a .z) (a .to-x) (a .to-y) (a .to-z))
 
 pub facing-between-spec : {M : Type 1} → statement M
