@@ -1,13 +1,13 @@
--- Signed numbers of a list: a cast after the check, and ranges as bounds of natural numbers.
+-- Signed numbers of a list: a cast after the check, ranges as bounds of natural numbers, and the tests of order and of sameness.
 -- Assumes nothing.
-use mathlib.Core.Path.{_≡_, refl, sym, subst}
+use mathlib.Core.Path.{_≡_, refl, sym, ap, subst}
 use mathlib.Core.Bool.{Bool, true, false}
 use Prim.Native.Nat.{ℕ, suc, _-_, _≤_}
 use native.Mathlib.Omega.{arith}
 use lib.Dec.{T, leb, eqb}
 use lib.IntN.{ℤ, pos, negsuc, natAbs}
-use lib.Signed.{nonNeg}
-use borrow.Author.Tests.{leb-true, eqb-true, eqb-false, eq-eqb, ne-eqb}
+use lib.Signed.{nonNeg, ltZ}
+use borrow.Author.Tests.{leb-true, eqb-true, eqb-false, eq-eqb, ne-eqb, ltb-true, ltb-false, lt-ltb, le-ltb}
 use mir.Syntax.{w64}
 use mir.Val.{toZ, ofZ, SFits, Fits}
 use mir.Facts.{toZ-ofZ, fits-natAbs}
@@ -38,3 +38,34 @@ eqZ-bits (pos a) (negsuc b) f g = ne-eqb _ _ (λ (e : a ≡ 18446744073709551616
 eqZ-bits (negsuc a) (pos b) f g = ne-eqb _ _ (λ (e : 18446744073709551616 - suc a ≡ b). omega (arith, f .sfits, g .sfits))
 eqZ-bits (negsuc a) (negsuc b) f g =
     same-test (18446744073709551616 - suc a) (18446744073709551616 - suc b) a b (λ e. omega (arith, f .sfits, g .sfits)) (λ e. omega arith) (eqb a b) refl
+
+-- ---- order and sameness
+
+pub ltZ-self : (a : ℤ) → ltZ a a ≡ false
+ltZ-self (pos a) = le-ltb a a (omega arith)
+ltZ-self (negsuc a) = le-ltb a a (omega arith)
+
+pub ltZ-trans : (a b c : ℤ) → ltZ a b ≡ true → ltZ b c ≡ true → ltZ a c ≡ true
+ltZ-trans (pos a) (pos b) (pos c) e f = lt-ltb a c (omega (arith, ltb-true a b e, ltb-true b c f))
+ltZ-trans (pos a) (pos b) (negsuc c) e f = f
+ltZ-trans (pos a) (negsuc b) c e f = never e
+ltZ-trans (negsuc a) b (pos c) e f = refl
+ltZ-trans (negsuc a) (pos b) (negsuc c) e f = never f
+ltZ-trans (negsuc a) (negsuc b) (negsuc c) e f = lt-ltb c a (omega (arith, ltb-true b a e, ltb-true c b f))
+
+-- neither is less
+pub ltZ-neither : (a b : ℤ) → ltZ a b ≡ false → ltZ b a ≡ false → a ≡ b
+ltZ-neither (pos a) (pos b) e f = ap pos (omega (arith, ltb-false a b e, ltb-false b a f))
+ltZ-neither (pos a) (negsuc b) e f = never (sym f)
+ltZ-neither (negsuc a) (pos b) e f = never (sym e)
+ltZ-neither (negsuc a) (negsuc b) e f = ap negsuc (omega (arith, ltb-false b a e, ltb-false a b f))
+
+pub eqZ-same : (a b : ℤ) → eqZ a b ≡ true → a ≡ b
+eqZ-same (pos a) (pos b) e = ap pos (eqb-true a b e)
+eqZ-same (pos a) (negsuc b) e = never e
+eqZ-same (negsuc a) (pos b) e = never e
+eqZ-same (negsuc a) (negsuc b) e = ap negsuc (eqb-true a b e)
+
+pub eqZ-self : (a : ℤ) → eqZ a a ≡ true
+eqZ-self (pos a) = eq-eqb a a refl
+eqZ-self (negsuc a) = eq-eqb a a refl

@@ -7,12 +7,12 @@ ghost use lib.Signed.{ltZ, nonNeg};
 ghost use Rattle.lists.specs.Signed.{at, eqZ};
 ghost use Rattle.lists.specs.Records.{naturalAt};
 
-// Whether list[i] < list[j].
-pub fn number_less(list: &[i64], i: usize, j: usize) -> bool
-    requires { ⌜ (i < length (now list)) × (j < length (now list)) ⌝ }
-    ensures { λ r. ⌜ r ≡ ltZ (at (now (list .entry)) i) (at (now (list .entry)) j) ⌝ }
+// Whether a[i] < b[j].
+pub fn number_less(a: &[i64], i: usize, b: &[i64], j: usize) -> bool
+    requires { ⌜ (i < length (now a)) × (j < length (now b)) ⌝ }
+    ensures { λ r. ⌜ r ≡ ltZ (at (now (a .entry)) i) (at (now (b .entry)) j) ⌝ }
 {
-    list[i] < list[j]
+    a[i] < b[j]
 }
 
 // list[i], which is not negative: an id or a code.

@@ -18,10 +18,10 @@ fn record_before(fields: &[usize], width: usize, list: &[i64], a: usize, b: usiz
     let mut k: usize = 0;
     while k < fields.len() {
         let f = fields[k];
-        if number_less(list, a + f, b + f) {
+        if number_less(list, a + f, list, b + f) {
             return true;
         }
-        if number_less(list, b + f, a + f) {
+        if number_less(list, b + f, list, a + f) {
             return false;
         }
         k += 1;
