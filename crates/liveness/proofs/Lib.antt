@@ -1,5 +1,6 @@
 -- Laws of the definitions, for the proofs of this crate and of those above it.
 --     Tabulated, Ends, Graph            the tables of keys are the graph of `signals`
+--     Positions                         where components that ascend part
 --     Marks, Frontiers, Stores, Lent    flags and numbers, stored place by place
 --     Neighbours                        the neighbours seen
 --     Staged                            the stages give `labels`, `isCyclic`, `drive`, `potential`
@@ -14,6 +15,7 @@ pub mod Tabulated
 pub mod Ends
 pub mod Graph
 pub mod Marks
+pub mod Positions
 pub mod Frontiers
 pub mod Neighbours
 pub mod Stores

@@ -1,13 +1,15 @@
 -- Drive sources (document 01, "liveness.rs"): kinds 4, 5, 6 (source kind 0), 7, 3 (source kind 1), and the first listed component at each
 -- frontier's position (2). Components are named by their list place.
 -- Assumes nothing: these are definitions.
-use Prim.Native.Nat.{ℕ}
+use Prim.Native.Nat.{ℕ, _≤_, _<_}
+use mathlib.Core.Path.{_≡_}
 use mathlib.Core.Bool.{Bool, true, false, _&&_, _||_}
 use mathlib.Core.List.{List, [], _∷_}
 use lib.Dec.{eqb}
 use lib.ListN.{getD}
 use lib.IntN.{ℤ}
-use Rattle.lists.specs.Signed.{eqZ}
+use lib.Signed.{ltZ}
+use Rattle.lists.specs.Signed.{eqZ, lessThen}
 use Rattle.lists.specs.Records.{Component, Position, component, frontier, componentCount, frontierCount}
 use Rattle.lists.specs.First.{firstFrom, isFound, some}
 use Rattle.lists.specs.declared.Found.{Found}
@@ -19,6 +21,16 @@ sourceKind kind = getD (Nothing ∷ Nothing ∷ Nothing ∷ At 1 ∷ At 0 ∷ At
 
 abbrev pub samePosition : Component → Position → Bool
 samePosition c at = eqZ (c .x) (at .x) && (eqZ (c .y) (at .y) && eqZ (c .z) (at .z))
+
+-- a component stands before a position, by x, then y, then z
+abbrev pub beforePosition : Component → Position → Bool
+beforePosition c at = lessThen (c .x) (at .x) (lessThen (c .y) (at .y) (ltZ (c .z) (at .z)))
+
+-- the components below r stand before the position, and no other does
+pub record Parted (cs : List ℤ) (at : Position) (r : ℕ) : Type 0 where
+  pub within : r ≤ componentCount cs
+  pub before : (p : ℕ) → p < r → beforePosition (component cs p) at ≡ true
+  pub from : (p : ℕ) → r ≤ p → p < componentCount cs → beforePosition (component cs p) at ≡ false
 
 -- the first listed component at a position
 unfoldable pub firstAt : List ℤ → Position → Found

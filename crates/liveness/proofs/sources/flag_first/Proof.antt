@@ -14,7 +14,7 @@ slice-write-flags : tie.Need-slice-write-flags
 slice-write-flags c =
     let b = c .before .before .before in
     let s = b .before .before in
-    lt-of-lt-of-le (first-below (s .args .components .now) (frontier (s .args .frontiers .now) (s .args .j)) _ (sym (b .first-at .ensures) ∙ c .before .found .given .1)) (s .pre .1)
+    lt-of-lt-of-le (first-below (s .args .components .now) (frontier (s .args .frontiers .now) (s .args .j)) _ (sym (b .first-at .ensures) ∙ c .before .found .given .1)) (s .pre .1 .1)
 
 returns : tie.Need-returns
 returns c =

@@ -25,10 +25,10 @@ start c = c .before .before .before .before .before .before
 loop-holds : tie.Need-loop-holds Inv-loop μ-loop
 loop-holds c =
     let s = c .before .before .before .before .before in
-    (omega arith, refl, rw (c .before .before .clear-flags .ensures) (frontier-none (s .args .components .now) (s .args .frontiers .now) _ (s .pre)))
+    (omega arith, refl, rw (c .before .before .clear-flags .ensures) (frontier-none (s .args .components .now) (s .args .frontiers .now) _ (s .pre .1)))
 
 flag-first-requires : tie.Need-flag-first-requires Inv-loop μ-loop
-flag-first-requires c κs = (c .before .loop-test .taken, c .before .before .loop .inv .2 .long)
+flag-first-requires c κs = (start (c .before .before) .pre .0, (c .before .loop-test .taken, c .before .before .loop .inv .2 .long))
 
 loop-again : tie.Need-loop-again Inv-loop μ-loop
 loop-again c =

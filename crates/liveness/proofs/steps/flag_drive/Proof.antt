@@ -67,7 +67,7 @@ pub flag-drive-spec : {M : Type 1} → statement M
 flag-drive-spec =
     tie.close
     (tie.spec
-    (λ c κs. search needs)
+    (λ c κs. let s = c .before .before .before .before .before in (s .pre .0 .1 .0 .ascending, s .pre .1 .0))
     drive-flags-requires
     gather-requires
     (λ c. search needs)
