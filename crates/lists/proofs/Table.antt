@@ -7,6 +7,7 @@
 --     table-place, table-id          what a key says: a list place, and the id there
 --     place-found, place-none        the lower bound of an id gives its list place, or that it has none
 --     used-found, used-none          and whether an earlier component has it
+--     unrepeated-none                where no neighbours in the table have one id, no id is used twice
 -- Assumes nothing.
 use mathlib.Core.Path.{_≡_, refl, sym, ap, _∙_}
 use mathlib.Core.Bool.{Bool, true, false}
@@ -25,7 +26,7 @@ use Rattle.tables.specs.Laws.{order?, at-member, member-at, member-rearranged}
 use Rattle.tables.specs.Pairs.{pair, span}
 use Rattle.lists.specs.Records.{component, componentCount}
 use Rattle.lists.specs.First.{isFound}
-use Rattle.lists.specs.Ids.{placeBelow, placeOf, usedEarlier, idKey, keysBelow, idKeys, IdTable}
+use Rattle.lists.specs.Ids.{placeBelow, placeOf, usedEarlier, idKey, keysBelow, idKeys, IdTable, Unrepeated, firstRepeated}
 use Rattle.lists.specs.declared.Found.the-variants.{At, Nothing}
 use Rattle.lists.proofs.Search.{first-is, first-nothing, found-at, none-found}
 
@@ -135,6 +136,20 @@ module _ (cs : List ℤ) (k : ℕ) (h : k < componentCount cs) where
   used-none e =
       let test : ℕ → Bool = λ j. eqb (component cs j .id) (component cs k .id) in
       ap isFound (first-nothing test 0 k (λ j a b. none-found test 0 (componentCount cs) e j a (omega arith)))
+
+-- an id that is used twice has two keys, and all between them have it too
+pub unrepeated-none : {cs : List ℤ} {keys : List ℕ} → IdTable cs keys → Unrepeated keys → firstRepeated cs ≡ Nothing
+unfolding firstRepeated placeBelow
+unrepeated-none {cs} {keys} t u = first-nothing (usedEarlier cs) 0 (componentCount cs) (λ k _ b.
+    ap isFound (first-nothing (λ j. eqb (component cs j .id) (component cs k .id)) 0 k (λ j _ l.
+    ne-eqb (component cs j .id) (component cs k .id) (λ same.
+    let first = member-at (idKey cs j) keys (table-holds t j (omega arith)) in
+    let later = member-at (idKey cs k) keys (table-holds t k (omega arith)) in
+    let before : first .0 < later .0 =
+    ⊎-elim (λ q. absurd (omega (arith, table-rising t .at (later .0) (first .0) q (first .1), first .2, later .2))) (λ q. q) (order? (later .0) (first .0)) in
+    let here = table-rising t .at (first .0) (first .0 + 1) (omega arith) (omega (arith, later .1)) in
+    let there = table-rising t .at (first .0 + 1) (later .0) (omega arith) (later .1) in
+    u .at (first .0) (omega (arith, later .1)) (omega (arith, first .2, later .2, t .few))))))
 
 -- a place that was found is below the number of components
 pub place-below : (cs : List ℤ) (id p : ℕ) → placeOf cs id ≡ At p → p < componentCount cs

@@ -1,6 +1,7 @@
 -- Ids: the list place of an id, ids used twice (refusal 5), endpoints of port connections (refusal 7), the table of ids, and members.
 -- Assumes nothing: these are definitions.
-use Prim.Native.Nat.{ℕ, zero, suc, _≤_, _<_}
+use Prim.Native.Nat.{ℕ, zero, suc, _+_, _/_, _≤_, _<_}
+use lib.ListN.{length, getD}
 use mathlib.Core.Path.{_≡_}
 use mathlib.Core.Bool.{Bool, not, _&&_}
 use mathlib.Core.List.{List, [], _∷_, _++_}
@@ -66,6 +67,10 @@ pub record IdTable (cs : List ℤ) (keys : List ℕ) : Type 0 where
 -- the keys are the table of ids of some components
 abbrev pub IsIdTable : List ℕ → Type 0
 IsIdTable keys = (cs : List ℤ) × IdTable cs keys
+
+-- no two neighbours in the table have one id
+pub record Unrepeated (keys : List ℕ) : Type 0 where
+  pub at : (i : ℕ) → i + 1 < length keys → getD keys i 0 / span ≡ getD keys (i + 1) 0 / span → ⊥
 
 -- ---- members of a set of components: member k stands for the component with the k-th smallest id, k from 0
 

@@ -5,13 +5,14 @@ use super::PORT;
 use super::numbers::natural_at;
 use tables::SPAN;
 ghost use mathlib.Core.Path.{_≡_};
+ghost use mathlib.Core.Bool.{true};
 ghost use Prim.Native.Nat.{_+_, _*_, _≤_, _<_};
 ghost use lib.ListN.{length, take};
 ghost use lib.IntN.{ℤ};
 ghost use mathlib.Core.List.{List};
 ghost use Rattle.tables.specs.Pairs.{pair};
 ghost use Rattle.lists.specs.Records.{component, componentCount, portCount};
-ghost use Rattle.lists.specs.Ids.{placeOf, hasComponent, usedEarlier, firstRepeated, endMissing, firstEndMissing, IdTable, smallerIds, MemberPlace, MemberId};
+ghost use Rattle.lists.specs.Ids.{placeOf, hasComponent, usedEarlier, firstRepeated, endMissing, firstEndMissing, IdTable, Unrepeated, smallerIds, MemberPlace, MemberId};
 ghost use Rattle.lists.specs.Within.{Components, PortConnections};
 
 // The pair of the id of component k and its place.
@@ -78,12 +79,29 @@ fn used_earlier(keys: &[u64], components: &[i64], k: usize) -> bool
     }
 }
 
+// Whether no neighbours in the table have one id. No id is used twice then.
+fn none_repeated(keys: &[u64]) -> bool
+    ensures { λ r. ⌜ (r ≡ true → Unrepeated (now (keys .entry))) ⌝ }
+{
+    let mut k: usize = 1;
+    while k < keys.len() {
+        if keys[k - 1] / SPAN == keys[k] / SPAN {
+            return false;
+        }
+        k += 1;
+    }
+    true
+}
+
 // The first component whose id an earlier one has.
 pub fn first_repeated(keys: &[u64], components: &[i64]) -> Found
     requires { ⌜ Components (now components) ⌝ }
     requires { ⌜ IdTable (now components) (now keys) ⌝ }
     ensures { λ r. ⌜ r ≡ firstRepeated (now (components .entry)) ⌝ }
 {
+    if none_repeated(keys) {
+        return Found::Nothing;
+    }
     let count = components.len() / COMPONENT;
     let mut k: usize = 0;
     while k < count {
