@@ -2,6 +2,7 @@
 --     gap-falls       the measure falls from a place to its parent
 --     flatten         a place whose parent becomes its root: the same forest
 --     own-found       v is its own parent, and so its root
+--     near-found      v's parent is a root
 --     parent-found    what was found of v's parent is found of v, once v has it for a parent
 -- Assumes nothing.
 use Prim.Native.Nat.{ℕ, zero, suc, _-_, _<_}
@@ -52,6 +53,22 @@ own-found parents ranks v h e =
       finds = λ f rep. (sym (rep .linked v h .own e), rep);
       flat = λ k. ap (λ (w : ℕ). getD parents w 0) (follow-own parents k v e) ∙ e;
     }
+
+pub near-found : (parents ranks : List ℕ) (v : ℕ) → v < componentLimit → IsForest parents ranks → getD parents (getD parents v 0) 0 ≡ getD parents v 0
+    → Found parents parents ranks v (getD parents v 0)
+unfolding follow
+near-found parents ranks v h (f₀, rep₀) e =
+    record { below = below; finds = finds; flat = flat }
+  where
+    below : getD parents v 0 < componentLimit
+    below = rep₀ .linked v h .below
+
+    finds : (f : Forest) → Represents parents ranks f → (getD parents v 0 ≡ root f v) × Represents parents ranks f
+    finds f rep = (sym (rep .linked (getD parents v 0) below .own e) ∙ rep .linked v h .same, rep)
+
+    flat : (k : ℕ) → getD parents (follow parents k v) 0 ≡ getD parents v 0
+    flat zero = refl
+    flat (suc k) = ap (λ (w : ℕ). getD parents w 0) (follow-own parents k (getD parents v 0) e) ∙ e
 
 pub parent-found : (parents parents′ ranks : List ℕ) (v r : ℕ) → v < componentLimit → IsForest parents ranks
     → Found parents parents′ ranks (getD parents v 0) r → Found parents (set parents′ v r) ranks v r

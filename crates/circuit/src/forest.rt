@@ -40,6 +40,18 @@ pub(crate) fn find(
     top
 }
 
+// What `find` gives, without a call where v is a root or its parent is: nothing is left to flatten there.
+fn root_of(parents: &mut [usize; COMPONENTS], ranks: &[usize; COMPONENTS], v: usize) -> usize
+    requires { ⌜ (v < componentLimit) × IsForest (now parents) (now ranks) ⌝ }
+    ensures { λ r. ⌜ Found (now (parents .entry)) (now (parents .exit)) (now (ranks .entry)) v r ⌝ }
+{
+    let parent = parents[v];
+    if parents[parent] == parent {
+        return parent;
+    }
+    find(parents, ranks, v)
+}
+
 // Joins the group of left, a connection's source, and that of right, its sink: the root of lower rank goes under the
 // other. At equal rank the right root goes under the left one, whose rank grows.
 pub(crate) fn union(
@@ -52,8 +64,8 @@ pub(crate) fn union(
     ensures { λ _. ⌜ ((f : Forest) → Represents (now (parents .entry)) (now (ranks .entry)) f →
         Represents (now (parents .exit)) (now (ranks .exit)) (unite f left right)) ⌝ }
 {
-    let l = find(parents, ranks, left);
-    let r = find(parents, ranks, right);
+    let l = root_of(parents, ranks, left);
+    let r = root_of(parents, ranks, right);
     if l == r {
         return;
     }
@@ -100,7 +112,7 @@ fn write_numbers(
 {
     let mut v = 0;
     while v < n {
-        let root = find(parents, ranks, v);
+        let root = root_of(parents, ranks, v);
         out[v] = numbers[root];
         v += 1;
     }

@@ -19,7 +19,9 @@ use lists::COMPONENTS;
 use lists::CONNECTION;
 use lists::CONNECTIONS;
 use lists::Found;
-use lists::ids::place_of;
+use lists::hints::HINTS;
+use lists::hints::hint_ids;
+use lists::hints::place_near;
 use lists::numbers::natural_at;
 
 // Nets use kinds 0 to 4, fragments 0 to 8.
@@ -38,7 +40,7 @@ fn place_or(found: Found) -> usize
 }
 
 // Settles the places of field f of each connection, 0 the sources and 1 the sinks.
-fn settle(keys: &[u64], connections: &[i64], f: usize, places: &mut [usize])
+fn settle(keys: &[u64], hints: &[u16; HINTS], connections: &[i64], f: usize, places: &mut [usize])
     requires { ⌜ Connections (now connections) ⌝ }
     requires { ⌜ (f < 2) × (connectionCount (now connections) ≤ length (now places)) ⌝ }
     ensures { λ _. ⌜ ((cs : List ℤ) → IdTable cs (now (keys .entry)) → Settled cs (now (connections .entry)) f (now (places .exit))) ⌝ }
@@ -46,7 +48,7 @@ fn settle(keys: &[u64], connections: &[i64], f: usize, places: &mut [usize])
     let count = connections.len() / CONNECTION;
     let mut k: usize = 0;
     while k < count {
-        places[k] = place_or(place_of(keys, natural_at(connections, k * CONNECTION + f)));
+        places[k] = place_or(place_near(keys, hints, natural_at(connections, k * CONNECTION + f)));
         k += 1;
     }
 }
@@ -125,10 +127,12 @@ pub(crate) fn group(
     ensures { λ r. ⌜ ((cs : List ℤ) → IdTable cs (now (keys .entry)) → GroupedBy cs (now (connections .entry)) (now (nets .entry)) (now (nets .exit)) (now (fragments .entry)) (now (fragments .exit)) r) ⌝ }
 {
     let n = keys.len();
+    let mut hints = [0u16; HINTS];
+    hint_ids(keys, &mut hints);
     let mut sources = [0usize; CONNECTIONS];
     let mut sinks = [0usize; CONNECTIONS];
-    settle(keys, connections, 0, &mut sources);
-    settle(keys, connections, 1, &mut sinks);
+    settle(keys, &hints, connections, 0, &mut sources);
+    settle(keys, &hints, connections, 1, &mut sinks);
     let net_count = groups(connections, &sources, &sinks, NET_KINDS, n, nets);
     let fragment_count = groups(connections, &sources, &sinks, FRAGMENT_KINDS, n, fragments);
     Counts {

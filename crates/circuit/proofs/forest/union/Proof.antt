@@ -1,4 +1,4 @@
--- `circuit::forest::union` meets its contract: the two calls of `find` keep the forest and give the two roots, and each way out is a case of union by rank.
+-- `circuit::forest::union` meets its contract: the two calls of `root_of` keep the forest and give the two roots, and each way out is a case of union by rank.
 -- Assumes nothing.
 use native.Mathlib.Omega.{arith}
 use mathlib.Core.Path.{_≡_, sym}
@@ -9,23 +9,23 @@ use Rattle.circuit.proofs.Unite.{rank-fits, same-root, left-lower, righ
 use Rattle.circuit.proofs.forest.union.Statement.{statement}
 use Rattle.circuit.proofs.forest.union.Tie as tie
 
-find-requires : tie.Need-find-requires
-find-requires c κs = search needs
+root-of-requires : tie.Need-root-of-requires
+root-of-requires c κs = search needs
 
--- what the two calls of `find` tell of a forest
-found : (c : tie.After-find2) (f : Forest) → Represents (c .before .before .before .before .before .before .args .parents .now) (c .before .before .before .before .before .before .args .ranks .now) f
-    → Represents (c .find2 .last .0) (c .before .before .before .before .before .before .args .ranks .now) f
-    × (c .before .before .before .find .result ≡ root f (c .before .before .before .before .before .before .args .left))
-    × (c .find2 .result ≡ root f (c .before .before .before .before .before .before .args .right))
+-- what the two calls of `root_of` tell of a forest
+found : (c : tie.After-root-of2) (f : Forest) → Represents (c .before .before .before .before .before .before .args .parents .now) (c .before .before .before .before .before .before .args .ranks .now) f
+    → Represents (c .root-of2 .last .0) (c .before .before .before .before .before .before .args .ranks .now) f
+    × (c .before .before .before .root-of .result ≡ root f (c .before .before .before .before .before .before .args .left))
+    × (c .root-of2 .result ≡ root f (c .before .before .before .before .before .before .args .right))
 found c f rep =
-    let one = c .before .before .before .find .ensures .finds f rep in
-    let two = c .find2 .ensures .finds f (one .1) in
+    let one = c .before .before .before .root-of .ensures .finds f rep in
+    let two = c .root-of2 .ensures .finds f (one .1) in
     (two .1, one .0, two .0)
 
-find-requires-2 : tie.Need-find-requires-2
-find-requires-2 c κs =
+root-of-requires-2 : tie.Need-root-of-requires-2
+root-of-requires-2 c κs =
     let (left, right, (f, rep)) = c .before .before .before .before .before .pre in
-    (right, (f, c .before .before .find .ensures .finds f rep .1))
+    (right, (f, c .before .before .root-of .ensures .finds f rep .1))
 
 returns : tie.Need-returns
 returns c f rep =
@@ -60,7 +60,7 @@ element-write-parents-2 c = search needs
 add-ranks : tie.Need-add-ranks
 add-ranks c =
     let (left, right, (f, rep)) = c .before .before .before .before .before .before .before .before .before .before .before .pre in
-    omega (arith, rank-fits _ _ f rep (c .before .before .before .before .before .before .before .before .find .result) (c .before .before .before .before .before .before .before .before .find .ensures .below))
+    omega (arith, rank-fits _ _ f rep (c .before .before .before .before .before .before .before .before .root-of .result) (c .before .before .before .before .before .before .before .before .root-of .ensures .below))
 
 mul-ranks : tie.Need-mul-ranks
 mul-ranks c = search needs
@@ -90,8 +90,8 @@ pub union-spec : {M : Type 1} → statement M
 union-spec =
     tie.close
     (tie.spec
-    find-requires
-    find-requires-2
+    root-of-requires
+    root-of-requires-2
     returns
     mul-low
     element-copy-out-low

@@ -23,8 +23,8 @@ abbrev μ-loop : tie.MeasureT-loop
 loop-holds : tie.Need-loop-holds Inv-loop μ-loop
 loop-holds c = (zero-le, refl, λ f rep. (rep, groups-none f _))
 
-find-requires : tie.Need-find-requires Inv-loop μ-loop
-find-requires c κs =
+root-of-requires : tie.Need-root-of-requires Inv-loop μ-loop
+root-of-requires c κs =
     let (f, rep) = c .before .before .before .before .pre .0 .forest in
     (omega arith, (f, c .before .before .loop .inv .2 f rep .0))
 
@@ -55,7 +55,7 @@ loop-again c =
       simp length-set sized,
       λ f rep.
           let (kept, written) = laid-so-far f rep in
-          let (at-root, kept′) = c .before .find .ensures .finds f kept in
+          let (at-root, kept′) = c .before .root-of .ensures .finds f kept in
           (kept′, number-more _ _ f _ _ _ _ _ _ rep at-root (start .pre .0 .inside f rep (at .v) (omega arith)) (start .pre .1) written (omega arith)),
     )
 
@@ -75,7 +75,7 @@ write-numbers-spec =
     Inv-loop
     μ-loop
     loop-holds
-    find-requires
+    root-of-requires
     mul-out
     element-copy-out-out
     mul-out-2

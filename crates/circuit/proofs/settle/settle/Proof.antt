@@ -21,12 +21,12 @@ use Rattle.circuit.proofs.settle.settle.Statement.{statement}
 use Rattle.circuit.proofs.settle.settle.Tie as tie
 
 abbrev Inv-loop : tie.InvT-loop
-Inv-loop keys connections f places₀ count k₀ places k =
+Inv-loop keys hints connections f places₀ count k₀ places k =
     (k ≤ count) × (length places ≡ length places₀)
     × ((cs : List ℤ) → IdTable cs keys → (j : ℕ) → j < k → getD places j 0 ≡ placeOr (placeOf cs (naturalAt connections (j * connectionWidth + f))))
 
 abbrev μ-loop : tie.MeasureT-loop
-μ-loop keys connections f places₀ count k₀ places k = count - k
+μ-loop keys hints connections f places₀ count k₀ places k = count - k
 
 -- the connection of a turn lies within the list
 within : (c : tie.In-loop Inv-loop μ-loop) → c .before .loop .k * 3 + 3 ≤ length (c .before .before .before .before .args .connections .now)
@@ -37,8 +37,8 @@ natural-at-requires c κs =
     let s = c .before .before .before .before in
     (omega (arith, within c, s .pre .1 .0), field-nonNeg (s .pre .0) (c .before .loop .k) (s .args .f) (c .loop-test .taken) (omega (arith, s .pre .1 .0)) (end-range (s .args .f) (s .pre .1 .0) .0))
 
-place-of-requires : tie.Need-place-of-requires Inv-loop μ-loop
-place-of-requires c κs =
+place-near-requires : tie.Need-place-near-requires Inv-loop μ-loop
+place-near-requires c κs =
     let turn = c .before in
     let s = turn .before .before .before .before in
     let range = end-range (s .args .f) (s .pre .1 .0) in
@@ -62,7 +62,7 @@ loop-again c =
       omega (arith, turn .loop-test .taken),
       simp length-set (l .inv .1),
       λ cs t j h. ⊎-elim
-          (λ (same : j ≡ l .k). rw same (getD-set-same (l .places) (l .k) _ 0 here ∙ c .place-or .ensures ∙ ap placeOr (c .before .place-of .ensures cs t ∙ ap (placeOf cs) (c .before .before .natural-at .ensures))))
+          (λ (same : j ≡ l .k). rw same (getD-set-same (l .places) (l .k) _ 0 here ∙ c .place-or .ensures ∙ ap placeOr (c .before .place-near .ensures cs t ∙ ap (placeOf cs) (c .before .before .natural-at .ensures))))
           (λ (less : j < l .k). getD-set-other (l .places) (l .k) j _ 0 (λ e. omega arith) ∙ l .inv .2 cs t j less)
           (eq-or-lt-of-le (let m : j ≤ l .k = omega arith in m)),
     )
@@ -83,7 +83,7 @@ settle-spec =
     (λ c. omega (arith, within c))
     (λ c. omega (arith, within c, c .before .before .before .before .pre .1 .0))
     natural-at-requires
-    place-of-requires
+    place-near-requires
     (λ c κs. search needs)
     mul-places
     slice-write
