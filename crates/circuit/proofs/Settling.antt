@@ -1,4 +1,5 @@
 -- Connections joined by their settled ends are joined as the definition says.
+--     joined-one           one connection, joined with no branch on its kind
 --     unite-then           uniting two lists of pairs one after the other
 --     joins-settled        settled ends give the pairs of `joins`
 --     ends-settled         and are places below the number of components, or none
@@ -24,10 +25,18 @@ use Rattle.lists.specs.declared.Found.{Found}
 use Rattle.lists.specs.declared.Found.the-variants.{At, Nothing}
 use Rattle.lists.proofs.Search.{both}
 use Rattle.lists.proofs.Table.{place-below}
-use Rattle.circuit.specs.Forest.{Forest, unite, uniteAll}
+use Rattle.circuit.specs.Forest.{Forest, root, unite, uniteAll}
 use Rattle.circuit.specs.Connected.{PairsBelow}
 use Rattle.circuit.specs.Topology.{joinOf, joins}
 use Rattle.circuit.specs.Settled.{placeOr, Settled, settledJoin, settledJoins, Ends}
+use Rattle.circuit.proofs.Unite.{unite-same}
+
+-- a connection that does not count joins its source with itself
+pub joined-one : (counts : Bool) (f : Forest) (source sink other : ℕ) → other ≡ cond counts sink source → (ltb source componentLimit && ltb sink componentLimit) ≡ true
+    → unite f source other ≡ uniteAll f (settledJoin counts source sink)
+unfolding settledJoin uniteAll unite
+joined-one true f source sink other e both = rw (both, e)
+joined-one false f source sink other e both = rw e (unite-same f (root f source) (root f source) refl)
 
 pub unite-then : (f : Forest) (xs ys : List (ℕ × ℕ)) → uniteAll f (xs ++ ys) ≡ uniteAll (uniteAll f xs) ys
 unfolding uniteAll

@@ -40,14 +40,19 @@ pub(crate) fn find(
     top
 }
 
-// What `find` gives, without a call where v is a root or its parent is: nothing is left to flatten there.
+// What `find` gives and does, without a call where v has at most two steps to its root.
 fn root_of(parents: &mut [usize; COMPONENTS], ranks: &[usize; COMPONENTS], v: usize) -> usize
     requires { ⌜ (v < componentLimit) × IsForest (now parents) (now ranks) ⌝ }
     ensures { λ r. ⌜ Found (now (parents .entry)) (now (parents .exit)) (now (ranks .entry)) v r ⌝ }
 {
     let parent = parents[v];
-    if parents[parent] == parent {
+    let top = parents[parent];
+    if top == parent {
         return parent;
+    }
+    if parents[top] == top {
+        parents[v] = top;
+        return top;
     }
     find(parents, ranks, v)
 }

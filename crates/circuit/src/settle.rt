@@ -1,5 +1,6 @@
 // The list place of each endpoint is settled once; both forests are built from the settled places.
 ghost use mathlib.Core.Path.{_≡_};
+ghost use mathlib.Core.Bool.{cond};
 ghost use mathlib.Core.List.{List};
 ghost use Prim.Native.Nat.{_≤_, _<_};
 ghost use lib.ListN.{length};
@@ -53,6 +54,14 @@ fn settle(keys: &[u64], hints: &[u16; HINTS], connections: &[i64], f: usize, pla
     }
 }
 
+// The sink, or where the connection does not count the source: joined with itself it changes nothing. Kinds come in no order
+// that a processor could foresee, and so there is no branch on them.
+fn sink_or_source(counts: bool, source: usize, sink: usize) -> usize
+    ensures { λ r. ⌜ r ≡ cond counts sink source ⌝ }
+{
+    if counts { sink } else { source }
+}
+
 // Joins two settled ends, where the connection counts and both are components.
 fn join_one(
     counts: bool,
@@ -65,8 +74,9 @@ fn join_one(
     ensures { λ _. ⌜ ((f : Forest) → Represents (now (parents .entry)) (now (ranks .entry)) f →
         Represents (now (parents .exit)) (now (ranks .exit)) (uniteAll f (settledJoin counts source sink))) ⌝ }
 {
-    if counts & ((source < COMPONENTS) & (sink < COMPONENTS)) {
-        union(parents, ranks, source, sink);
+    if (source < COMPONENTS) & (sink < COMPONENTS) {
+        let other = sink_or_source(counts, source, sink);
+        union(parents, ranks, source, other);
     }
 }
 
