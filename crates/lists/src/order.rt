@@ -4,8 +4,10 @@ use super::CONNECTION;
 use super::Found;
 use super::numbers::number_less;
 ghost use mathlib.Core.Path.{_≡_};
+ghost use mathlib.Core.Bool.{true};
 ghost use Prim.Native.Nat.{_+_, _≤_, _<_};
 ghost use lib.ListN.{length};
+ghost use Rattle.lists.specs.declared.Found.the-variants.{Nothing};
 ghost use Rattle.lists.specs.Limits.{componentWidth, connectionWidth};
 ghost use Rattle.lists.specs.Order.{FieldsBelow, recordBefore, firstNotAscending, componentOrder, connectionOrder};
 
@@ -46,6 +48,34 @@ fn first_not_ascending(fields: &[usize], width: usize, list: &[i64]) -> Found
     Found::Nothing
 }
 
+// Whether the connection at `a` comes strictly before the one at `b`. There is no branch: sources and sinks change in no
+// order that a processor could foresee.
+fn connection_before(list: &[i64], a: usize, b: usize) -> bool
+    requires { ⌜ (a + 3 ≤ length (now list)) × (b + 3 ≤ length (now list)) ⌝ }
+    ensures { λ r. ⌜ r ≡ recordBefore connectionOrder (now (list .entry)) a b ⌝ }
+{
+    let source = number_less(list, a, b);
+    let source_back = number_less(list, b, a);
+    let sink = number_less(list, a + 1, b + 1);
+    let sink_back = number_less(list, b + 1, a + 1);
+    let kind = number_less(list, a + 2, b + 2);
+    source | (!source_back & (sink | (!sink_back & kind)))
+}
+
+// Whether each connection comes strictly after the one before it.
+fn all_ascending(list: &[i64]) -> bool
+    ensures { λ r. ⌜ (r ≡ true → firstNotAscending connectionOrder connectionWidth (now (list .entry)) ≡ Nothing) ⌝ }
+{
+    let count = list.len() / CONNECTION;
+    let mut all = true;
+    let mut k: usize = 1;
+    while k < count {
+        all = all & connection_before(list, (k - 1) * CONNECTION, k * CONNECTION);
+        k += 1;
+    }
+    all
+}
+
 // By x, y, z, id.
 const COMPONENT_ORDER: [usize; 4] = [1, 2, 3, 0];
 
@@ -62,6 +92,9 @@ pub fn first_component_not_ascending(components: &[i64]) -> Found
 pub fn first_connection_not_ascending(connections: &[i64]) -> Found
     ensures { λ r. ⌜ r ≡ firstNotAscending connectionOrder connectionWidth (now (connections .entry)) ⌝ }
 {
+    if all_ascending(connections) {
+        return Found::Nothing;
+    }
     let fields = CONNECTION_ORDER;
     first_not_ascending(&fields, CONNECTION, connections)
 }
