@@ -54,11 +54,11 @@ fn connection_before(list: &[i64], a: usize, b: usize) -> bool
     requires { ⌜ (a + 3 ≤ length (now list)) × (b + 3 ≤ length (now list)) ⌝ }
     ensures { λ r. ⌜ r ≡ recordBefore connectionOrder (now (list .entry)) a b ⌝ }
 {
-    let source = number_less(list, a, b);
-    let source_back = number_less(list, b, a);
-    let sink = number_less(list, a + 1, b + 1);
-    let sink_back = number_less(list, b + 1, a + 1);
-    let kind = number_less(list, a + 2, b + 2);
+    let source = number_less(list, a, list, b);
+    let source_back = number_less(list, b, list, a);
+    let sink = number_less(list, a + 1, list, b + 1);
+    let sink_back = number_less(list, b + 1, list, a + 1);
+    let kind = number_less(list, a + 2, list, b + 2);
     source | (!source_back & (sink | (!sink_back & kind)))
 }
 
