@@ -6,6 +6,8 @@ use scenes::damage::List;
 use scenes::limits::COMPONENT;
 use scenes::{Lent, Scene, members, refusals};
 
+use crate::Counted;
+
 /// How many comparisons were made, how often each refusal's number came up
 /// (0 for acceptance), and how many places the id table had.
 #[derive(Clone, Debug, Default)]
@@ -108,12 +110,6 @@ impl Tally {
         );
     }
 
-    /// Prints the counts of refusals under a title.
-    pub fn print_refusals(&self, title: &str) {
-        let (scenes, compared, by_number) = (self.scenes, self.compared, self.by_number);
-        println!("{title}: {scenes} scenes, {compared} answers, by number {by_number:?}");
-    }
-
     /// Prints the counts of places under a title.
     ///
     /// # Panics
@@ -123,11 +119,18 @@ impl Tally {
         println!("{title}: {scenes} scenes, {compared} answers, {places} of them a place");
         assert!(places > 0, "{title}: no place was ever found");
     }
+}
 
-    /// How often a number came up, 0 for acceptance.
-    #[must_use]
-    pub fn count_of(&self, number: usize) -> u64 {
+impl Counted for Tally {
+    const LAST: usize = 7;
+
+    fn count_of(&self, number: usize) -> u64 {
         self.by_number.get(number).copied().unwrap_or(0)
+    }
+
+    fn print(&self, title: &str) {
+        let (scenes, compared, by_number) = (self.scenes, self.compared, self.by_number);
+        println!("{title}: {scenes} scenes, {compared} answers, by number {by_number:?}");
     }
 }
 

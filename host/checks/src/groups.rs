@@ -8,7 +8,7 @@ use probe::ports::fragment_net;
 use scenes::limits::COMPONENT;
 use scenes::{Scene, bytes};
 
-use crate::Guarded;
+use crate::{Counted, Guarded};
 
 /// What the entry takes: two lists as bytes, and how many bytes are lent for
 /// the nets and the fragments.
@@ -140,15 +140,16 @@ impl Groups {
             }
         }
     }
+}
 
-    /// How often a number came up, 0 for acceptance.
-    #[must_use]
-    pub fn count_of(&self, number: usize) -> u64 {
+impl Counted for Groups {
+    const LAST: usize = 6;
+
+    fn count_of(&self, number: usize) -> u64 {
         self.by_number.get(number).copied().unwrap_or(0)
     }
 
-    /// Prints the counts under a title.
-    pub fn print(&self, title: &str) {
+    fn print(&self, title: &str) {
         let Self {
             calls,
             by_number,

@@ -1,11 +1,14 @@
 //! Comparisons of one scene's answers, for the tests beside it.
 
 mod compare;
+mod counted;
 mod groups;
 mod guarded;
 mod ports;
+pub mod runs;
 
 pub use compare::Tally;
+pub use counted::Counted;
 pub use groups::{ByteLists, Groups};
 pub use guarded::Guarded;
 pub use ports::Ports;

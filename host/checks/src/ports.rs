@@ -6,7 +6,7 @@ use std::fmt::Display;
 use probe::ports::port_connections;
 use scenes::{Scene, refusals};
 
-use crate::Guarded;
+use crate::{Counted, Guarded};
 
 /// Counts of what was compared.
 #[derive(Clone, Debug, Default)]
@@ -47,15 +47,16 @@ impl Ports {
             }
         }
     }
+}
 
-    /// How often a number came up, 0 for acceptance.
-    #[must_use]
-    pub fn count_of(&self, number: usize) -> u64 {
+impl Counted for Ports {
+    const LAST: usize = 6;
+
+    fn count_of(&self, number: usize) -> u64 {
         self.by_number.get(number).copied().unwrap_or(0)
     }
 
-    /// Prints the counts under a title.
-    pub fn print(&self, title: &str) {
+    fn print(&self, title: &str) {
         let Self {
             calls,
             by_number,

@@ -1,25 +1,18 @@
 //! Nets, fragments and a fragment's nets by the proved entry against the
 //! unchanged Rust, on accepted scenes.
 
-use checks::{ByteLists, Groups};
+use checks::runs::{self, Seeds};
+use checks::{ByteLists, Counted, Groups};
 use probe::ports::fragment_net;
 use scenes::limits::{COMPONENTS, CONNECTION, LAST_CONNECTION_KIND};
 use scenes::random::Random;
-use scenes::sized::Shape;
 use scenes::{Profile, Scene, bytes, exhaustive};
-
-fn assert_all_accepted(groups: &Groups, title: &str) {
-    groups.print(title);
-    assert!((1..7).all(|number| groups.count_of(number) == 0));
-}
 
 #[test]
 fn on_every_small_scene() {
     let mut groups = Groups::default();
-    for (place, scene) in exhaustive::scenes().enumerate() {
-        groups.call(&ByteLists::of(&scene), &format!("scene {place}"));
-    }
-    assert_all_accepted(&groups, "groups, small scenes");
+    runs::on_small_scenes(|scene, case| groups.call(&ByteLists::of(scene), &case));
+    groups.assert_all_accepted("groups, small scenes");
 }
 
 /// Every order of joins of four, with all their ties.
@@ -29,21 +22,21 @@ fn on_every_graph_over_four() {
     for (place, scene) in exhaustive::graphs().enumerate() {
         groups.call(&ByteLists::of(&scene), &format!("graph {place}"));
     }
-    assert_all_accepted(&groups, "groups, graphs over four");
+    groups.assert_all_accepted("groups, graphs over four");
     assert_eq!(groups.count_of(0), 24 * 4_096);
 }
 
 #[test]
 fn on_every_profile() {
     let mut groups = Groups::default();
-    for profile in Profile::ALL {
-        let seeds = if profile.is_large() { 80 } else { 3_000 };
-        for seed in 0..seeds {
-            let case = format!("{} seed {seed}", profile.name());
-            groups.call(&ByteLists::of(&profile.scene(seed)), &case);
-        }
-    }
-    assert_all_accepted(&groups, "groups, profiles");
+    let seeds = Seeds {
+        small: 3_000,
+        large: 80,
+    };
+    runs::on_profiles(seeds, |scene, _, case| {
+        groups.call(&ByteLists::of(scene), &case);
+    });
+    groups.assert_all_accepted("groups, profiles");
 }
 
 /// The same pairs joined by any kinds, so that nets and fragments differ.
@@ -79,7 +72,7 @@ fn on_deep_merges() {
             }
         }
     }
-    assert_all_accepted(&groups, "groups, deep merges");
+    groups.assert_all_accepted("groups, deep merges");
     println!("  scenes by greatest rank of nets and of fragments: {by_rank:?}");
     assert!(by_rank.iter().all(|counts| counts[10] > 0));
 }
@@ -87,41 +80,36 @@ fn on_deep_merges() {
 #[test]
 fn on_plots_of_every_size() {
     let mut groups = Groups::default();
-    for shape in Shape::ALL {
-        for size in [8, 64, 255, 256, 257, 512, COMPONENTS - 1, COMPONENTS] {
-            for seed in 0..4 {
-                let scene = shape.scene(size, seed);
-                let case = format!("{} of {size} seed {seed}", shape.name());
-                groups.call(&ByteLists::of(&scene), &case);
-            }
-        }
-    }
-    assert_all_accepted(&groups, "groups, plots of every size");
+    let sizes = [8, 64, 255, 256, 257, 512, COMPONENTS - 1, COMPONENTS];
+    runs::on_plots(&sizes, 4, |scene, case| {
+        groups.call(&ByteLists::of(scene), &case);
+    });
+    groups.assert_all_accepted("groups, plots of every size");
 }
 
 /// What lies behind the rows stays as it was; a byte too few is refused.
 #[test]
 fn with_slices_of_every_length() {
     let mut groups = Groups::default();
-    for profile in Profile::ALL {
-        let seeds = if profile.is_large() { 4 } else { 100 };
-        for seed in 0..seeds {
-            let enough = ByteLists::of(&profile.scene(seed));
-            let lengths = lengths(enough.nets);
-            for (place, &nets) in lengths.iter().enumerate() {
-                let other = lengths[(place + 1) % lengths.len()];
-                for fragments in [enough.fragments, nets, other] {
-                    let lists = ByteLists {
-                        nets,
-                        fragments,
-                        ..enough.clone()
-                    };
-                    let case = format!("{} seed {seed}", profile.name());
-                    groups.call(&lists, &case);
-                }
+    let seeds = Seeds {
+        small: 100,
+        large: 4,
+    };
+    runs::on_profiles(seeds, |scene, _, case| {
+        let enough = ByteLists::of(scene);
+        let lengths = lengths(enough.nets);
+        for (place, &nets) in lengths.iter().enumerate() {
+            let other = lengths[(place + 1) % lengths.len()];
+            for fragments in [enough.fragments, nets, other] {
+                let lists = ByteLists {
+                    nets,
+                    fragments,
+                    ..enough.clone()
+                };
+                groups.call(&lists, &case);
             }
         }
-    }
+    });
     groups.print("groups, slices of every length");
     assert!(groups.count_of(0) > 0 && groups.count_of(2) > 0);
 }
@@ -167,16 +155,12 @@ fn nets_of_fragments_of_any_numbers() {
     assert!(shared > 0);
 }
 
-/// A server's threads have little stack.
 #[test]
 fn within_one_mebibyte_of_stack() -> std::io::Result<()> {
-    let run = || {
+    runs::within_one_mebibyte_of_stack(|| {
         let mut groups = Groups::default();
         for profile in [Profile::Full, Profile::DeepMerge] {
             groups.call(&ByteLists::of(&profile.scene(3)), &"small stack");
         }
-    };
-    let thread = std::thread::Builder::new().stack_size(1 << 20).spawn(run)?;
-    assert!(thread.join().is_ok());
-    Ok(())
+    })
 }

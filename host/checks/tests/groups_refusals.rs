@@ -1,22 +1,12 @@
 //! Refusals of the proved grouping entry by bytes against the restatement, and
 //! that a refusal writes nothing.
 
-use checks::{ByteLists, Groups};
-use scenes::damage::{List, garbage, pair, single};
+use checks::runs::{self, Seeds};
+use checks::{ByteLists, Counted, Groups};
+use scenes::damage::List;
 use scenes::limits::{COMPONENT, CONNECTION};
 use scenes::random::Random;
 use scenes::{Profile, bytes, exhaustive};
-
-fn assert_every_number_came_up(groups: &Groups, title: &str) {
-    groups.print(title);
-    for number in 0..7 {
-        assert!(groups.count_of(number) > 0, "{number} never came up");
-    }
-}
-
-const fn seeds(profile: Profile, small: u64, large: u64) -> u64 {
-    if profile.is_large() { large } else { small }
-}
 
 /// Slices that are short now and then.
 fn shorten(lists: &mut ByteLists, random: &mut Random) {
@@ -58,41 +48,30 @@ fn on_small_lists_in_every_combination() {
 #[test]
 fn on_every_single_damage() {
     let mut groups = Groups::default();
-    for profile in Profile::ALL {
-        for seed in 0..seeds(profile, 16, 2) {
-            let scene = profile.scene(seed);
-            let lists = [List::Components, List::Connections];
-            let damages = single(&scene).into_iter();
-            for damage in damages.filter(|damage| lists.contains(&damage.list)) {
-                let damaged = damage.apply(&scene);
-                let case = format!("{} seed {seed} {damage:?}", profile.name());
-                groups.call(&ByteLists::of(&damaged), &case);
-            }
-        }
-    }
+    let seeds = Seeds {
+        small: 16,
+        large: 2,
+    };
+    let lists = [List::Components, List::Connections];
+    runs::on_single_damage(seeds, &lists, |damaged, case| {
+        groups.call(&ByteLists::of(damaged), &case);
+    });
     groups.print("groups, single damage");
 }
 
 #[test]
 fn on_two_faults_that_compete() {
     let mut groups = Groups::default();
-    for profile in Profile::ALL {
-        for seed in 0..seeds(profile, 1_000, 30) {
-            let scene = profile.scene(seed);
-            let random = &mut Random::new(seed);
-            for _ in 0..4 {
-                let Some([first, second]) = pair(&scene, random) else {
-                    continue;
-                };
-                let damaged = second.apply(&first.apply(&scene));
-                let mut lists = ByteLists::of(&damaged);
-                shorten(&mut lists, random);
-                let case = format!("{} seed {seed} {first:?} {second:?}", profile.name());
-                groups.call(&lists, &case);
-            }
-        }
-    }
-    assert_every_number_came_up(&groups, "groups, two faults");
+    let seeds = Seeds {
+        small: 1_000,
+        large: 30,
+    };
+    runs::on_two_faults(seeds, |damaged, random, case| {
+        let mut lists = ByteLists::of(damaged);
+        shorten(&mut lists, random);
+        groups.call(&lists, &case);
+    });
+    groups.assert_every_number_came_up("groups, two faults");
 }
 
 /// One of the two lists.
@@ -115,22 +94,20 @@ fn changed(whole: &ByteLists, list: Pick, change: impl Fn(&mut Vec<u8>)) -> Byte
 #[test]
 fn on_lists_of_every_length_in_bytes() {
     let mut groups = Groups::default();
-    for profile in Profile::ALL {
-        for seed in 0..seeds(profile, 4, 1) {
-            let whole = ByteLists::of(&profile.scene(seed));
-            for (list, width) in BOTH {
-                for bytes in 1..=2 * width * bytes::NUMBER {
-                    let case = format!("{} seed {seed}, {bytes} bytes", profile.name());
-                    let cut = |list: &mut Vec<u8>| {
-                        list.truncate(list.len().saturating_sub(bytes));
-                    };
-                    groups.call(&changed(&whole, list, cut), &case);
-                    let lengthened = |list: &mut Vec<u8>| list.resize(list.len() + bytes, 7);
-                    groups.call(&changed(&whole, list, lengthened), &case);
-                }
+    runs::on_profiles(Seeds { small: 4, large: 1 }, |scene, _, case| {
+        let whole = ByteLists::of(scene);
+        for (list, width) in BOTH {
+            for bytes in 1..=2 * width * bytes::NUMBER {
+                let case = format!("{case}, {bytes} bytes");
+                let cut = |list: &mut Vec<u8>| {
+                    list.truncate(list.len().saturating_sub(bytes));
+                };
+                groups.call(&changed(&whole, list, cut), &case);
+                let lengthened = |list: &mut Vec<u8>| list.resize(list.len() + bytes, 7);
+                groups.call(&changed(&whole, list, lengthened), &case);
             }
         }
-    }
+    });
     groups.print("groups, lengths in bytes");
     assert!(groups.count_of(1) > 0);
 }
@@ -159,15 +136,14 @@ fn on_every_byte_changed() {
 #[test]
 fn on_garbage() {
     let mut groups = Groups::default();
-    for seed in 0..200_000 {
-        let random = &mut Random::new(seed);
-        let mut lists = ByteLists::of(&garbage(random));
+    runs::on_garbage(200_000, |scene, random, case| {
+        let mut lists = ByteLists::of(scene);
         if random.once_in(16) {
             lists.components.extend(vec![0; random.below(8)]);
             lists.connections.extend(vec![0; random.below(8)]);
         }
         shorten(&mut lists, random);
-        groups.call(&lists, &format!("garbage seed {seed}"));
-    }
-    assert_every_number_came_up(&groups, "groups, garbage");
+        groups.call(&lists, &case);
+    });
+    groups.assert_every_number_came_up("groups, garbage");
 }

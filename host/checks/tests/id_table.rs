@@ -1,9 +1,9 @@
 //! The proved id table against the restatement.
 
 use checks::Tally;
-use scenes::damage::{List, garbage, single};
-use scenes::random::Random;
-use scenes::{Profile, exhaustive};
+use checks::runs::{self, Seeds};
+use scenes::damage::List;
+use scenes::exhaustive;
 
 #[test]
 fn on_small_lists() {
@@ -20,39 +20,30 @@ fn on_small_lists() {
 #[test]
 fn on_every_profile() {
     let mut tally = Tally::default();
-    for profile in Profile::ALL {
-        let seeds = if profile.is_large() { 20 } else { 2_000 };
-        for seed in 0..seeds {
-            let case = format!("{} seed {seed}", profile.name());
-            tally.id_table(&profile.scene(seed), &case);
-        }
-    }
+    let seeds = Seeds {
+        small: 2_000,
+        large: 20,
+    };
+    runs::on_profiles(seeds, |scene, _, case| tally.id_table(scene, &case));
     tally.print_places("id table, profiles");
 }
 
 #[test]
 fn on_damaged_components() {
     let mut tally = Tally::default();
-    for profile in Profile::ALL {
-        let seeds = if profile.is_large() { 1 } else { 20 };
-        for seed in 0..seeds {
-            let scene = profile.scene(seed);
-            let damages = single(&scene).into_iter();
-            for damage in damages.filter(|it| it.list == List::Components) {
-                let case = format!("{} seed {seed} {damage:?}", profile.name());
-                tally.id_table(&damage.apply(&scene), &case);
-            }
-        }
-    }
+    let seeds = Seeds {
+        small: 20,
+        large: 1,
+    };
+    runs::on_single_damage(seeds, &[List::Components], |damaged, case| {
+        tally.id_table(damaged, &case);
+    });
     tally.print_places("id table, damaged");
 }
 
 #[test]
 fn on_garbage() {
     let mut tally = Tally::default();
-    for seed in 0..40_000 {
-        let scene = garbage(&mut Random::new(seed));
-        tally.id_table(&scene, &format!("garbage seed {seed}"));
-    }
+    runs::on_garbage(40_000, |scene, _, case| tally.id_table(scene, &case));
     tally.print_places("id table, garbage");
 }

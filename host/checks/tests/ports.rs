@@ -1,39 +1,32 @@
 //! The proved port connections against the unchanged Rust's scene builder, on
 //! accepted scenes.
 
-use checks::Ports;
+use checks::runs::{self, Seeds};
+use checks::{Counted, Ports};
 use scenes::limits::{COMPONENT, COMPONENTS, FAR, LAST_FACE, LAST_KIND, PORT_CONNECTION};
 use scenes::random::Random;
-use scenes::sized::Shape;
-use scenes::{Lent, Profile, Scene, exhaustive};
-
-fn assert_all_accepted(ports: &Ports, title: &str) {
-    ports.print(title);
-    assert!((1..7).all(|number| ports.count_of(number) == 0));
-}
+use scenes::{Lent, Profile, Scene};
 
 #[test]
 fn on_every_small_scene() {
     let mut ports = Ports::default();
-    for (place, scene) in exhaustive::scenes().enumerate() {
-        let lent = Lent::enough(&scene).ports;
-        ports.call(&scene, lent, &format!("scene {place}"));
-    }
-    assert_all_accepted(&ports, "ports, small scenes");
+    runs::on_small_scenes(|scene, case| {
+        ports.call(scene, Lent::enough(scene).ports, &case);
+    });
+    ports.assert_all_accepted("ports, small scenes");
 }
 
 #[test]
 fn on_every_profile() {
     let mut ports = Ports::default();
-    for profile in Profile::ALL {
-        let seeds = if profile.is_large() { 60 } else { 3_000 };
-        for seed in 0..seeds {
-            let scene = profile.scene(seed);
-            let case = format!("{} seed {seed}", profile.name());
-            ports.call(&scene, Lent::enough(&scene).ports, &case);
-        }
-    }
-    assert_all_accepted(&ports, "ports, profiles");
+    let seeds = Seeds {
+        small: 3_000,
+        large: 60,
+    };
+    runs::on_profiles(seeds, |scene, _, case| {
+        ports.call(scene, Lent::enough(scene).ports, &case);
+    });
+    ports.assert_all_accepted("ports, profiles");
 }
 
 /// Two blocks with their faces drawn, the first in a given cell.
@@ -77,7 +70,7 @@ fn on_every_step_between_two_blocks() {
             }
         }
     }
-    assert_all_accepted(&ports, "ports, steps between two blocks");
+    ports.assert_all_accepted("ports, steps between two blocks");
 }
 
 /// Kind, facing, support and conducts: every block that has ports of its own.
@@ -116,60 +109,50 @@ fn on_every_pair_of_neighbours() {
             }
         }
     }
-    assert_all_accepted(&ports, "ports, neighbours");
+    ports.assert_all_accepted("ports, neighbours");
     assert_eq!(ports.count_of(0), 14 * 40 * 40);
 }
 
 #[test]
 fn on_plots_of_every_size() {
     let mut ports = Ports::default();
-    for shape in Shape::ALL {
-        for size in [8, 64, 256, 512, COMPONENTS - 1, COMPONENTS] {
-            for seed in 0..6 {
-                let scene = shape.scene(size, seed);
-                let case = format!("{} of {size} seed {seed}", shape.name());
-                ports.call(&scene, Lent::enough(&scene).ports, &case);
-            }
-        }
-    }
-    assert_all_accepted(&ports, "ports, plots of every size");
+    let sizes = [8, 64, 256, 512, COMPONENTS - 1, COMPONENTS];
+    runs::on_plots(&sizes, 6, |scene, case| {
+        ports.call(scene, Lent::enough(scene).ports, &case);
+    });
+    ports.assert_all_accepted("ports, plots of every size");
 }
 
 /// What lies behind the rows stays as it was; a number too few is refused.
 #[test]
 fn with_slices_of_every_length() {
     let mut ports = Ports::default();
-    for profile in Profile::ALL {
-        let seeds = if profile.is_large() { 4 } else { 200 };
-        for seed in 0..seeds {
-            let scene = profile.scene(seed);
-            let enough = Lent::enough(&scene).ports;
-            let case = format!("{} seed {seed}", profile.name());
-            for lent in [
-                0,
-                enough.saturating_sub(5),
-                enough.saturating_sub(1),
-                enough + 1,
-                enough + 4,
-                enough + 5,
-                enough + 1_000,
-            ] {
-                ports.call(&scene, lent, &case);
-            }
+    let seeds = Seeds {
+        small: 200,
+        large: 4,
+    };
+    runs::on_profiles(seeds, |scene, _, case| {
+        let enough = Lent::enough(scene).ports;
+        for lent in [
+            0,
+            enough.saturating_sub(5),
+            enough.saturating_sub(1),
+            enough + 1,
+            enough + 4,
+            enough + 5,
+            enough + 1_000,
+        ] {
+            ports.call(scene, lent, &case);
         }
-    }
+    });
     ports.print("ports, slices of every length");
     assert!(ports.count_of(0) > 0 && ports.count_of(2) > 0);
 }
 
-/// A server's threads have little stack.
 #[test]
 fn within_one_mebibyte_of_stack() -> std::io::Result<()> {
-    let run = || {
+    runs::within_one_mebibyte_of_stack(|| {
         let scene = Profile::Full.scene(3);
         Ports::default().call(&scene, Lent::enough(&scene).ports, &"small stack");
-    };
-    let thread = std::thread::Builder::new().stack_size(1 << 20).spawn(run)?;
-    assert!(thread.join().is_ok());
-    Ok(())
+    })
 }

@@ -1,21 +1,11 @@
 //! Refusals of the proved ports entry against the restatement, and that a
 //! refusal writes nothing.
 
-use checks::Ports;
-use scenes::damage::{List, garbage, pair, single};
+use checks::runs::{self, Seeds};
+use checks::{Counted, Ports};
+use scenes::damage::List;
 use scenes::random::Random;
-use scenes::{Lent, Profile, Scene, exhaustive};
-
-fn assert_every_number_came_up(ports: &Ports, title: &str) {
-    ports.print(title);
-    for number in 0..7 {
-        assert!(ports.count_of(number) > 0, "{number} never came up");
-    }
-}
-
-const fn seeds(profile: Profile, small: u64, large: u64) -> u64 {
-    if profile.is_large() { large } else { small }
-}
+use scenes::{Lent, Scene, exhaustive};
 
 /// Enough for the connections, and now and then some other length.
 fn lent(scene: &Scene, random: &mut Random) -> usize {
@@ -51,49 +41,35 @@ fn on_small_lists_in_every_combination() {
 #[test]
 fn on_every_single_damage() {
     let mut ports = Ports::default();
-    for profile in Profile::ALL {
-        for seed in 0..seeds(profile, 16, 2) {
-            let scene = profile.scene(seed);
-            let lists = [List::Components, List::Connections];
-            let damages = single(&scene).into_iter();
-            for damage in damages.filter(|damage| lists.contains(&damage.list)) {
-                let damaged = damage.apply(&scene);
-                let case = format!("{} seed {seed} {damage:?}", profile.name());
-                ports.call(&damaged, Lent::enough(&damaged).ports, &case);
-            }
-        }
-    }
+    let seeds = Seeds {
+        small: 16,
+        large: 2,
+    };
+    let lists = [List::Components, List::Connections];
+    runs::on_single_damage(seeds, &lists, |damaged, case| {
+        ports.call(damaged, Lent::enough(damaged).ports, &case);
+    });
     ports.print("ports, single damage");
 }
 
 #[test]
 fn on_two_faults_that_compete() {
     let mut ports = Ports::default();
-    for profile in Profile::ALL {
-        for seed in 0..seeds(profile, 1_000, 30) {
-            let scene = profile.scene(seed);
-            let random = &mut Random::new(seed);
-            for _ in 0..4 {
-                let Some([first, second]) = pair(&scene, random) else {
-                    continue;
-                };
-                let damaged = second.apply(&first.apply(&scene));
-                let case = format!("{} seed {seed} {first:?} {second:?}", profile.name());
-                ports.call(&damaged, lent(&damaged, random), &case);
-            }
-        }
-    }
-    assert_every_number_came_up(&ports, "ports, two faults");
+    let seeds = Seeds {
+        small: 1_000,
+        large: 30,
+    };
+    runs::on_two_faults(seeds, |damaged, random, case| {
+        ports.call(damaged, lent(damaged, random), &case);
+    });
+    ports.assert_every_number_came_up("ports, two faults");
 }
 
 #[test]
 fn on_garbage() {
     let mut ports = Ports::default();
-    for seed in 0..200_000 {
-        let random = &mut Random::new(seed);
-        let scene = garbage(random);
-        let lent = lent(&scene, random);
-        ports.call(&scene, lent, &format!("garbage seed {seed}"));
-    }
-    assert_every_number_came_up(&ports, "ports, garbage");
+    runs::on_garbage(200_000, |scene, random, case| {
+        ports.call(scene, lent(scene, random), &case);
+    });
+    ports.assert_every_number_came_up("ports, garbage");
 }
