@@ -1,0 +1,79 @@
+-- Reading a line (document 01, "The sheet and the program": "Key=value lines, each ended by LF, key order fixed, no leading zero, minus
+-- only on a nonzero number, magnitude at most 4,294,967,295"): what is taken off the front of a text, and the text that is left.
+-- The bytes: 10 LF, 45 minus, 48 to 57 the digits, 61 the sign `=`.
+-- Assumes nothing: these are definitions.
+use Prim.Native.Nat.{ℕ, zero, suc, _+_, _-_, _*_, _≤_}
+use mathlib.Core.Path.{_≡_}
+use mathlib.Core.Bool.{Bool, cond, _&&_}
+use mathlib.Core.List.{List, [], _∷_}
+use lib.Dec.{leb, eqb}
+use lib.IntN.{ℤ, pos, negsuc}
+use lib.ListN.{length, drop}
+use Rattle.lines.specs.Decimal.{limit}
+use Rattle.lines.specs.declared.read.Line.{Line}
+use Rattle.lines.specs.declared.read.Line.the-variants.{Value, Bad}
+use Rattle.lines.specs.declared.read.Number.{Number}
+use Rattle.lines.specs.declared.read.Number.the-variants.{Is, Not}
+use Rattle.lines.specs.declared.read.Skip.{Skip}
+use Rattle.lines.specs.declared.read.Skip.the-variants.{To, No}
+
+-- a value and the text that follows it, or no value
+pub data Taken (A : Type 0) : Type 0 where
+  taken : A → List ℕ → Taken A
+  refused : Taken A
+
+abbrev pub isDigit : ℕ → Bool
+isDigit b = leb 48 b && leb b 57
+
+-- the digits that follow those of v, ended by LF
+unfoldable pub readDigits : ℕ → List ℕ → Taken ℕ
+readDigits v [] = refused
+readDigits v (b ∷ bs) =
+    let w = v * 10 + (b - 48) in
+    let more = readDigits w bs in
+    cond (eqb b 10) (taken v bs) (cond (isDigit b) (cond (leb w limit) more refused) refused)
+
+-- the LF after a single 0
+unfoldable pub readEnd : List ℕ → Taken ℕ
+readEnd [] = refused
+readEnd (b ∷ bs) = cond (eqb b 10) (taken 0 bs) refused
+
+-- a number with no sign and no leading zero, ended by LF
+unfoldable pub readMagnitude : List ℕ → Taken ℕ
+readMagnitude [] = refused
+readMagnitude (b ∷ bs) = cond (eqb b 48) (readEnd bs) (cond (isDigit b) (readDigits (b - 48) bs) refused)
+
+abbrev pub positive : Taken ℕ → Taken ℤ
+positive (taken n r) = taken (pos n) r
+positive refused = refused
+
+-- a minus stands only before a number that is not 0
+abbrev pub negative : Taken ℕ → Taken ℤ
+negative (taken zero r) = refused
+negative (taken (suc n) r) = taken (negsuc n) r
+negative refused = refused
+
+unfoldable pub readNumber : List ℕ → Taken ℤ
+readNumber [] = refused
+readNumber (b ∷ bs) = cond (eqb b 45) (negative (readMagnitude bs)) (positive (readMagnitude (b ∷ bs)))
+
+-- the line of a key
+unfoldable pub readLine : List ℕ → List ℕ → Taken ℤ
+readLine [] [] = refused
+readLine [] (b ∷ bs) = cond (eqb b 61) (readNumber bs) refused
+readLine (k ∷ ks) [] = refused
+readLine (k ∷ ks) (b ∷ bs) = let more = readLine ks bs in cond (eqb b k) more refused
+
+-- the code's answers. The text that is left is told by the position where it starts in a text of n bytes
+abbrev pub numberIn : ℕ → Taken ℕ → Number
+numberIn n (taken v r) = Is v (n - length r)
+numberIn n refused = Not
+
+abbrev pub lineIn : ℕ → Taken ℤ → Line
+lineIn n (taken z r) = Value z (n - length r)
+lineIn n refused = Bad
+
+-- where `skip_key` answers To p, a number is read from p on; where it answers No, the line is refused
+abbrev pub Skipped : List ℕ → ℕ → List ℕ → Skip → Type 0
+Skipped text at key (To p) = (p ≤ length text) × (readLine key (drop at text) ≡ readNumber (drop p text))
+Skipped text at key No = readLine key (drop at text) ≡ refused
