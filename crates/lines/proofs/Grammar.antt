@@ -13,7 +13,7 @@ use Rattle.lines.specs.Line.{Taken, taken, refused, readDigits, readEnd,
 use Rattle.lines.proofs.Digits.{below-or, tens, digits-last, digits-turn, digits-snoc, digits-append, digits-head}
 use Rattle.lines.proofs.Reading.{digit-yes, digit-low, digit-high, digits-feed, digits-other, digits-large, digits-more}
 
-same-or : (a b : ℕ) → (a ≡ b) ⊎ (a ≡ b → ⊥)
+pub same-or : (a b : ℕ) → (a ≡ b) ⊎ (a ≡ b → ⊥)
 same-or a b = ⊎-elim (λ l. inr (λ e. omega arith)) (λ g. ⊎-elim (λ l. inr (λ e. omega arith)) (λ h. inl (omega arith)) (below-or b a)) (below-or a b)
 
 -- ---- what one byte does

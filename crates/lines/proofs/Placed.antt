@@ -49,7 +49,7 @@ pub line-taken : (n : ℕ) (q : Taken ℤ) (z : ℤ) (p : ℕ) → lineIn n q �
 line-taken n (taken y r) z p e = (r, cc, cc)
 line-taken n refused z p e = let c : _≡_ {A = ℕ} 0 1 = cc in absurd (omega arith)
 
-rest-at : (text : List ℕ) (at : ℕ) (s r : List ℕ) → drop at text ≡ s ++ r → drop (at + length s) text ≡ r
+pub rest-at : (text : List ℕ) (at : ℕ) (s r : List ℕ) → drop at text ≡ s ++ r → drop (at + length s) text ≡ r
 rest-at text at s r e = sym (drop-drop (length s) at text) ∙ ap (drop (length s)) e ∙ drop-append-seam s r
 
 line-some : (key : List ℕ) (z : ℤ) → 0 < length (lineOf key z)

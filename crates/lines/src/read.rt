@@ -4,7 +4,7 @@ ghost use Prim.Native.Nat.{_≤_};
 ghost use lib.ListN.{length, drop};
 ghost use lib.IntN.{pos, negℤ};
 ghost use Rattle.lines.specs.Decimal.{limit};
-ghost use Rattle.lines.specs.Line.{readDigits, readMagnitude, readNumber, readLine, numberIn, lineIn, Skipped};
+ghost use Rattle.lines.specs.Line.{readDigits, readMagnitude, readNumber, numberIn, lineIn, Skipped};
 
 // The largest magnitude of a number.
 const LARGEST: u64 = 4294967295;
@@ -69,7 +69,7 @@ fn read_digits(text: &[u8], at: usize, first: u64) -> Number
 }
 
 // A number with no sign and no leading zero at `at`.
-fn read_magnitude(text: &[u8], at: usize) -> Number
+pub fn read_magnitude(text: &[u8], at: usize) -> Number
     ensures { λ r. ⌜ r ≡ numberIn (length (now (text .entry))) (readMagnitude (drop at (now (text .entry)))) ⌝ }
 {
     if text.len() <= at {
@@ -142,16 +142,4 @@ pub fn skip_key(text: &[u8], at: usize, key: &[u8]) -> Skip
         return Skip::No;
     }
     Skip::To(at + i + 1)
-}
-
-// The line of `key` at `at`: its value and the position after it.
-pub fn read_line(text: &[u8], at: usize, key: &[u8]) -> Line
-    requires { ⌜ at ≤ length (now text) ⌝ }
-    ensures { λ r. ⌜ r ≡ lineIn (length (now (text .entry))) (readLine (now (key .entry)) (drop at (now (text .entry)))) ⌝ }
-{
-    let s = skip_key(text, at, key);
-    match s {
-        Skip::To(p) => read_number(text, p),
-        Skip::No => Line::Bad,
-    }
 }

@@ -1,0 +1,123 @@
+// The keys of a sheet. Lists are 0 components, 1 connections, 2 frontiers.
+use lines::read::Line;
+use lines::read::Number;
+use lines::read::Skip;
+use lines::read::read_magnitude;
+use lines::read::read_number;
+use lines::read::skip_key;
+use lists::COMPONENT;
+use lists::CONNECTION;
+use lists::FRONTIER;
+ghost use mathlib.Core.Path.{_≡_};
+ghost use Prim.Native.Nat.{_≤_, _<_};
+ghost use lib.ListN.{length, getD, drop};
+ghost use mathlib.Core.List.{[]};
+ghost use Rattle.lines.specs.Line.{readLine, numberIn, lineIn, Skipped};
+ghost use Rattle.sheet.specs.Sheet.{natural};
+ghost use Rattle.sheet.specs.Keys.{componentKeys, connectionKeys, frontierKeys, fieldKey, countKey, keysOf};
+
+// How many numbers a record has.
+pub fn width(list: u64) -> usize
+    ensures { λ r. ⌜ r ≡ length (keysOf list) ⌝ }
+{
+    if list == 0 {
+        return COMPONENT;
+    }
+    if list == 1 {
+        return CONNECTION;
+    }
+    FRONTIER
+}
+
+// The key of a list's count.
+fn skip_count(text: &[u8], at: usize, list: u64) -> Skip
+    requires { ⌜ at ≤ length (now text) ⌝ }
+    ensures { λ r. ⌜ Skipped (now (text .entry)) at (countKey list) r ⌝ }
+{
+    if list == 0 {
+        return skip_key(text, at, b"components");
+    }
+    if list == 1 {
+        return skip_key(text, at, b"connections");
+    }
+    skip_key(text, at, b"frontiers")
+}
+
+// The line of a list's count, which has no minus.
+pub fn read_count(text: &[u8], at: usize, list: u64) -> Number
+    requires { ⌜ at ≤ length (now text) ⌝ }
+    ensures { λ r. ⌜ r ≡ numberIn (length (now (text .entry))) (natural (readLine (countKey list) (drop at (now (text .entry))))) ⌝ }
+{
+    let s = skip_count(text, at, list);
+    match s {
+        Skip::To(p) => read_magnitude(text, p),
+        Skip::No => Number::Not,
+    }
+}
+
+// The key of field j of a component.
+fn skip_component(text: &[u8], at: usize, j: usize) -> Skip
+    requires { ⌜ (at ≤ length (now text)) × (j < 8) ⌝ }
+    ensures { λ r. ⌜ Skipped (now (text .entry)) at (getD componentKeys j []) r ⌝ }
+{
+    match j {
+        0 => skip_key(text, at, b"id"),
+        1 => skip_key(text, at, b"x"),
+        2 => skip_key(text, at, b"y"),
+        3 => skip_key(text, at, b"z"),
+        4 => skip_key(text, at, b"kind"),
+        5 => skip_key(text, at, b"facing"),
+        6 => skip_key(text, at, b"support"),
+        _ => skip_key(text, at, b"conducts"),
+    }
+}
+
+// The key of field j of a connection.
+fn skip_connection(text: &[u8], at: usize, j: usize) -> Skip
+    requires { ⌜ (at ≤ length (now text)) × (j < 3) ⌝ }
+    ensures { λ r. ⌜ Skipped (now (text .entry)) at (getD connectionKeys j []) r ⌝ }
+{
+    match j {
+        0 => skip_key(text, at, b"source"),
+        1 => skip_key(text, at, b"sink"),
+        _ => skip_key(text, at, b"kind"),
+    }
+}
+
+// The key of field j of a frontier.
+fn skip_frontier(text: &[u8], at: usize, j: usize) -> Skip
+    requires { ⌜ (at ≤ length (now text)) × (j < 3) ⌝ }
+    ensures { λ r. ⌜ Skipped (now (text .entry)) at (getD frontierKeys j []) r ⌝ }
+{
+    match j {
+        0 => skip_key(text, at, b"x"),
+        1 => skip_key(text, at, b"y"),
+        _ => skip_key(text, at, b"z"),
+    }
+}
+
+// The key of line k of a list's fields.
+fn skip_field(text: &[u8], at: usize, list: u64, k: usize) -> Skip
+    requires { ⌜ at ≤ length (now text) ⌝ }
+    ensures { λ r. ⌜ Skipped (now (text .entry)) at (fieldKey (keysOf list) k) r ⌝ }
+{
+    if list == 0 {
+        return skip_component(text, at, k % COMPONENT);
+    }
+    if list == 1 {
+        return skip_connection(text, at, k % CONNECTION);
+    }
+    skip_frontier(text, at, k % FRONTIER)
+}
+
+// Line k of a list's fields.
+pub fn read_field(text: &[u8], at: usize, list: u64, k: usize) -> Line
+    requires { ⌜ at ≤ length (now text) ⌝ }
+    ensures { λ r. ⌜ r ≡ lineIn (length (now (text .entry))) (readLine (fieldKey (keysOf list) k) (drop at (now (text .entry)))) ⌝ }
+{
+    let s = skip_field(text, at, list, k);
+    match s {
+        Skip::To(p) => read_number(text, p),
+        Skip::No => Line::Bad,
+    }
+}
