@@ -40,7 +40,7 @@ natural-number (b ∷ bs) =
     (λ n. rw (ne-eqb b 45 n) (natural-positive (readMagnitude (b ∷ bs))))
     (same-or b 45)
 
-natural-taken : (q : Taken ℤ) (n : ℕ) (r : List ℕ) → natural q ≡ taken n r → q ≡ taken (pos n) r
+pub natural-taken : (q : Taken ℤ) (n : ℕ) (r : List ℕ) → natural q ≡ taken n r → q ≡ taken (pos n) r
 natural-taken (taken (pos m) s) n r e = cc
 natural-taken (taken (negsuc m) s) n r e = cc
 natural-taken refused n r e = cc

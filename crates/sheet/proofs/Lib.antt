@@ -3,3 +3,5 @@ pub mod Steps
 pub mod Counting
 pub mod Chain
 pub mod Answers
+pub mod Grammar
+mod Examples

@@ -1,14 +1,15 @@
 -- What the first pass hands to the second: how many records a list has, and where its fields start and end in the text.
 -- Assumes nothing: these are definitions.
-use Prim.Native.Nat.{ℕ, _+_, _*_, _≤_, _<_}
+use Prim.Native.Nat.{ℕ, _+_, _*_, _≤_, _<_, min}
 use mathlib.Core.Path.{_≡_}
 use mathlib.Core.List.{List}
 use lib.IntN.{ℤ}
 use lib.ListN.{length, drop}
-use Rattle.lists.specs.Limits.{componentWidth, connectionWidth, frontierWidth}
+use Rattle.lists.specs.Limits.{componentLimit, connectionLimit, frontierLimit, componentWidth, connectionWidth, frontierWidth}
 use Rattle.lists.specs.Slices.{laid}
 use Rattle.sheet.specs.Keys.{keysOf}
 use Rattle.sheet.specs.Sheet.{Fields, got, stop, readFields, part, fault, readList, Parsed, Lists, Faulty}
+use Rattle.sheet.specs.declared.Counts.{Counts}
 use Rattle.sheet.specs.declared.Place.{Place}
 use Rattle.sheet.specs.declared.Places.{Places}
 use Rattle.sheet.specs.declared.first_pass.Run.{Run}
@@ -39,6 +40,14 @@ pub record StandsAt (text : List ℕ) (list : ℕ) (zs : List ℤ) (p : Place) :
   pub end-within : p .end ≤ length text
   pub total : length zs ≡ p .count * length (keysOf list)
   pub fields : readFields (keysOf list) (p .count * length (keysOf list)) 0 (drop (p .start) text) ≡ got zs (drop (p .end) text)
+
+-- the limits, cut to those of a scene
+abbrev pub cutLimits : ℕ → ℕ → ℕ → Counts
+cutLimits components connections frontiers = record {
+  components = min components componentLimit;
+  connections = min connections connectionLimit;
+  frontiers = min frontiers frontierLimit;
+}
 
 -- what checking a list at a position of the text, and at a line of the sheet, answers
 abbrev pub ListedAs : List ℕ → ℕ → ℕ → ℕ → ℕ → Listed → Type 0

@@ -20,7 +20,7 @@ ghost use lib.ListN.{length, drop};
 ghost use Rattle.lists.specs.Limits.{componentLimit, connectionLimit};
 ghost use Rattle.sheet.specs.Keys.{keysOf};
 ghost use Rattle.sheet.specs.Sheet.{readFields, parse, badLine};
-ghost use Rattle.sheet.specs.Places.{RunAs, ListedAs, OutlinedAs};
+ghost use Rattle.sheet.specs.Places.{RunAs, cutLimits, ListedAs, OutlinedAs};
 
 pub enum Run {
     // The position after the last line.
@@ -53,6 +53,17 @@ fn smaller(a: usize, b: usize) -> usize
     ensures { λ r. ⌜ r ≡ min a b ⌝ }
 {
     if a <= b { a } else { b }
+}
+
+// The limits, cut to those of a scene.
+fn cut(limits: Counts) -> Counts
+    ensures { λ r. ⌜ r ≡ cutLimits (limits .components) (limits .connections) (limits .frontiers) ⌝ }
+{
+    Counts {
+        components: smaller(limits.components, COMPONENTS),
+        connections: smaller(limits.connections, CONNECTIONS),
+        frontiers: smaller(limits.frontiers, FRONTIERS),
+    }
 }
 
 // Checks n lines of a list's fields.
@@ -108,29 +119,18 @@ fn check_list(text: &[u8], at: usize, list: u64, limit: usize, line: usize) -> L
 pub fn check_sheet(text: &[u8], limits: Counts) -> Outline
     ensures { λ r. ⌜ OutlinedAs (now (text .entry)) (parse (limits .components) (limits .connections) (limits .frontiers) (now (text .entry))) r ⌝ }
 {
-    let first = check_list(text, 0, 0, smaller(limits.components, COMPONENTS), 0);
+    let most = cut(limits);
+    let first = check_list(text, 0, 0, most.components, 0);
     match first {
         Listed::Refused(refusal) => Outline::Refused(refusal),
         Listed::Good(c) => {
             let line = 1 + c.count * COMPONENT;
-            let second = check_list(
-                text,
-                c.end,
-                1,
-                smaller(limits.connections, CONNECTIONS),
-                line,
-            );
+            let second = check_list(text, c.end, 1, most.connections, line);
             match second {
                 Listed::Refused(refusal) => Outline::Refused(refusal),
                 Listed::Good(p) => {
                     let next = line + 1 + p.count * CONNECTION;
-                    let third = check_list(
-                        text,
-                        p.end,
-                        2,
-                        smaller(limits.frontiers, FRONTIERS),
-                        next,
-                    );
+                    let third = check_list(text, p.end, 2, most.frontiers, next);
                     match third {
                         Listed::Refused(refusal) => Outline::Refused(refusal),
                         Listed::Good(f) => {

@@ -1,23 +1,25 @@
 -- `first_pass::check_sheet` meets its contract: the three lists one after the other, each where the one before ended.
 -- Assumes nothing.
 use borrow.Author.Needs.{needs}
-use Prim.Native.Nat.{ℕ, _+_, _*_, min}
+use Prim.Native.Nat.{ℕ, _+_, _*_}
 use native.Mathlib.Omega.{arith}
 use mathlib.Core.Path.{subst, sym, ap, _∙_}
-use Rattle.lists.specs.Limits.{componentLimit, connectionLimit, frontierLimit, componentWidth, connectionWidth}
+use Rattle.lists.specs.Limits.{componentWidth, connectionWidth}
 use Rattle.sheet.specs.Sheet.{Faulty}
-use Rattle.sheet.specs.Places.{ListedAs}
+use Rattle.sheet.specs.Places.{cutLimits, ListedAs}
 use Rattle.sheet.specs.declared.Counts.{Counts}
 use Rattle.sheet.specs.declared.first_pass.Listed.the-variants.{Good}
 use Rattle.sheet.proofs.Chain.{first-fault, second-fault, third-fault, all-lists, nothing-behind, something-behind}
 use Rattle.sheet.proofs.first_pass.check_sheet.Statement.{statement}
 use Rattle.sheet.proofs.first_pass.check_sheet.Tie as tie
 
-smaller-requires : tie.Need-smaller-requires
-smaller-requires c κs = search needs
+cut-requires : tie.Need-cut-requires
+cut-requires c κs = search needs
 
 check-list-requires : tie.Need-check-list-requires
-check-list-requires c κs = search needs
+check-list-requires c κs =
+    let e = ap (λ (m : Counts). m .components) (c .cut .ensures) in
+    (omega arith, omega (arith, e))
 
 -- ---- the first list
 
@@ -25,15 +27,14 @@ abbrev start-of : tie.After-check-list → tie.Start
 start-of c = c .before .before .before
 
 abbrev most : tie.Start → Counts
-most s = record {
-  components = min (s .args .limits .components) componentLimit;
-  connections = min (s .args .limits .connections) connectionLimit;
-  frontiers = min (s .args .limits .frontiers) frontierLimit;
-}
+most s = cutLimits (s .args .limits .components) (s .args .limits .connections) (s .args .limits .frontiers)
 
 first : (c : tie.After-check-list) → ListedAs (start-of c .args .text .now) 0 0 (most (start-of c) .components) 0 (c .check-list .result)
 first c =
-    subst (λ (m : ℕ). ListedAs (start-of c .args .text .now) 0 0 m 0 (c .check-list .result)) (c .before .smaller .ensures) (c .check-list .ensures)
+    subst
+    (λ (m : Counts). ListedAs (start-of c .args .text .now) 0 0 (m .components) 0 (c .check-list .result))
+    (c .before .cut .ensures)
+    (c .check-list .ensures)
 
 enum-known-first : tie.Need-enum-known-first
 enum-known-first c = search needs
@@ -53,18 +54,16 @@ mul-line c = omega (arith, components (c .before .before) .2)
 add-line : tie.Need-add-line
 add-line c = omega (arith, components (c .before .before) .2)
 
-smaller-requires-2 : tie.Need-smaller-requires-2
-smaller-requires-2 c κs = search needs
-
 check-list-requires-2 : tie.Need-check-list-requires-2
 check-list-requires-2 c κs =
-    let g = components (c .before .before .before) in
-    (g .1 .end-within, omega (arith, g .2))
+    let g = components (c .before .before) in
+    let e = ap (λ (m : Counts). m .connections) (c .before .before .before .before .before .cut .ensures) in
+    (g .1 .end-within, omega (arith, e, g .2))
 
 -- ---- the second list
 
 abbrev first-of : tie.After-check-list2 → tie.After-first2
-first-of c = c .before .before .before .before
+first-of c = c .before .before .before
 
 abbrev line-1 : tie.After-first2 → ℕ
 line-1 c = 1 + c .first2 .given .0 .0 .count * componentWidth
@@ -74,8 +73,8 @@ second : (c : tie.After-check-list2)
     (c .check-list2 .result)
 second c =
     subst
-    (λ (m : ℕ). ListedAs (start-1 (first-of c) .args .text .now) (first-of c .first2 .given .0 .0 .end) 1 m (line-1 (first-of c)) (c .check-list2 .result))
-    (c .before .smaller2 .ensures)
+    (λ (m : Counts). ListedAs (start-1 (first-of c) .args .text .now) (first-of c .first2 .given .0 .0 .end) 1 (m .connections) (line-1 (first-of c)) (c .check-list2 .result))
+    (first-of c .before .before .before .cut .ensures)
     (c .check-list2 .ensures)
 
 enum-known-second : tie.Need-enum-known-second
@@ -105,19 +104,18 @@ mul-next c = omega (arith, connections (c .before .before) .2)
 add-next-2 : tie.Need-add-next-2
 add-next-2 c = omega (arith, components (first-2 (c .before .before)) .2, connections (c .before .before) .2)
 
-smaller-requires-3 : tie.Need-smaller-requires-3
-smaller-requires-3 c κs = search needs
-
 check-list-requires-3 : tie.Need-check-list-requires-3
 check-list-requires-3 c κs =
-    let g = connections (c .before .before .before) in
-    let h = components (first-2 (c .before .before .before)) in
-    (g .1 .end-within, omega (arith, g .2, h .2))
+    let o = c .before .before in
+    let g = connections o in
+    let h = components (first-2 o) in
+    let e = ap (λ (m : Counts). m .frontiers) (first-2 o .before .before .before .cut .ensures) in
+    (g .1 .end-within, omega (arith, e, g .2, h .2))
 
 -- ---- the third list
 
 abbrev second-of : tie.After-check-list3 → tie.After-second2
-second-of c = c .before .before .before .before
+second-of c = c .before .before .before
 
 abbrev line-2 : tie.After-second2 → ℕ
 line-2 c = line-1 (first-2 c) + 1 + c .second2 .given .0 .0 .count * connectionWidth
@@ -127,9 +125,9 @@ third : (c : tie.After-check-list3)
     (line-2 (second-of c)) (c .check-list3 .result)
 third c =
     subst
-    (λ (m : ℕ).
-    ListedAs (start-1 (first-2 (second-of c)) .args .text .now) (second-of c .second2 .given .0 .0 .end) 2 m (line-2 (second-of c)) (c .check-list3 .result))
-    (c .before .smaller3 .ensures)
+    (λ (m : Counts).
+    ListedAs (start-1 (first-2 (second-of c)) .args .text .now) (second-of c .second2 .given .0 .0 .end) 2 (m .frontiers) (line-2 (second-of c)) (c .check-list3 .result))
+    (first-2 (second-of c) .before .before .before .cut .ensures)
     (c .check-list3 .ensures)
 
 enum-known-third : tie.Need-enum-known-third
@@ -225,20 +223,18 @@ pub check-sheet-spec : {M : Type 1} → statement M
 check-sheet-spec =
     tie.close
     (tie.spec
-    smaller-requires
+    cut-requires
     check-list-requires
     enum-known-first
     enum-known-first-2
     mul-line
     add-line
-    smaller-requires-2
     check-list-requires-2
     enum-known-second
     enum-known-second-2
     add-next
     mul-next
     add-next-2
-    smaller-requires-3
     check-list-requires-3
     enum-known-third
     enum-known-third-2
