@@ -18,12 +18,12 @@ same-or a b = ⊎-elim (λ l. inr (λ e. omega arith)) (λ g. ⊎-elim (λ l. in
 
 -- ---- what one byte does
 
-data Step (v b : ℕ) (bs : List ℕ) : Type 0 where
+pub data Step (v b : ℕ) (bs : List ℕ) : Type 0 where
   feed : b ≡ 10 → readDigits v (b ∷ bs) ≡ taken v bs → Step v b bs
   more : 48 ≤ b → b ≤ 57 → v * 10 + (b - 48) ≤ limit → readDigits v (b ∷ bs) ≡ readDigits (v * 10 + (b - 48)) bs → Step v b bs
   stop : readDigits v (b ∷ bs) ≡ refused → Step v b bs
 
-step : (v b : ℕ) (bs : List ℕ) → Step v b bs
+pub step : (v b : ℕ) (bs : List ℕ) → Step v b bs
 step v b bs =
     ⊎-elim
     (λ e. feed e (digits-feed v b bs e))

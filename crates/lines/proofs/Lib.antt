@@ -5,4 +5,5 @@ pub mod Grammar
 pub mod Placed
 pub mod Writing
 pub mod Signs
+pub mod Again
 mod Examples

@@ -22,6 +22,11 @@ pub data Taken (A : Type 0) : Type 0 where
   taken : A → List ℕ → Taken A
   refused : Taken A
 
+module _ {A : Type 0} where
+  abbrev pub Accepted : Taken A → Type 0
+  Accepted (taken a s) = Unit {0}
+  Accepted refused = ⊥
+
 abbrev pub isDigit : ℕ → Bool
 isDigit b = leb 48 b && leb b 57
 

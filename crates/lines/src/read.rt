@@ -27,13 +27,13 @@ pub enum Skip {
     No,
 }
 
-fn wide(b: u8) -> u64
+pub fn wide(b: u8) -> u64
     ensures { λ r. ⌜ r ≡ b ⌝ }
 {
     b as u64
 }
 
-fn minus(m: u64) -> i64
+pub fn minus(m: u64) -> i64
     requires { ⌜ m ≤ limit ⌝ }
     ensures { λ r. ⌜ r ≡ negℤ (pos m) ⌝ }
 {

@@ -1,16 +1,18 @@
 -- One line more of a run of lines, at a position of a text.
 --     Passed                   the lines before line k gave these numbers
 --     start, step, fails, ends none at first, one line more, a line that is refused, all lines
+--     line-accepted            where every line is as it must be, the next one is
 -- Assumes nothing.
 use Prim.Native.Nat.{ℕ, zero, suc, _+_, _-_, _≤_, _<_}
 use native.Mathlib.Omega.{arith}
 use native.Mathlib.Nat.{sub-zero}
 use native.Mathlib.Numerals.{add-one}
-use mathlib.Core.Path.{_≡_, refl, sym, ap, _∙_}
+use mathlib.Core.Path.{_≡_, refl, sym, ap, subst, _∙_}
+use mathlib.Core.Logic.{_⊎_, inl, inr, ⊎-elim}
 use mathlib.Core.List.{List, [], _∷_, _++_, append-assoc, append-nil}
 use lib.IntN.{ℤ}
 use lib.ListN.{length, drop, length-append}
-use Rattle.lines.specs.Line.{readLine, lineIn}
+use Rattle.lines.specs.Line.{Taken, taken, refused, Accepted, readLine, lineIn}
 use Rattle.lines.specs.declared.read.Line.the-variants.{Value, Bad as NoLine}
 use Rattle.lines.proofs.Placed.{line-rest, line-refused}
 use Rattle.sheet.specs.Keys.{fieldKey}
@@ -29,6 +31,10 @@ behind-after before z (stop k) = refl
 behind-nil : (f : Fields) → behind [] f ≡ f
 behind-nil (got ys s) = refl
 behind-nil (stop k) = refl
+
+accepted-or : (q : Taken ℤ) → Accepted q ⊎ (q ≡ refused)
+accepted-or (taken z s) = inl tt
+accepted-or refused = inr refl
 
 module _ (keys : List (List ℕ)) where
   -- one line of those that are left
@@ -69,6 +75,15 @@ module _ (keys : List (List ℕ)) (text : List ℕ) (at n : ℕ) where
   fails {k} {p} {before} s h e =
       let q = line-refused (length text) (readLine (fieldKey keys k) (drop p text)) e in
       sym (s .whole) ∙ rw (turn keys (n - k) k (drop p text) (omega arith), q)
+
+  -- where every line is as it must be, the next one is
+  pub line-accepted : {k p : ℕ} {before : List ℤ} → Passed k p before → k < n → AllRead (readFields keys n 0 (drop at text))
+      → Accepted (readLine (fieldKey keys k) (drop p text))
+  line-accepted {k} {p} {before} s h a =
+      ⊎-elim
+      (λ l. l)
+      (λ e. absurd (subst AllRead (fails s h (ap (lineIn (length text)) e)) a))
+      (accepted-or (readLine (fieldKey keys k) (drop p text)))
 
   -- every line was read
   pub ends : {k p : ℕ} {before : List ℤ} → Passed k p before → n ≤ k → readFields keys n 0 (drop at text) ≡ got before (drop p text)

@@ -1,4 +1,5 @@
 // The keys of a sheet. Lists are 0 components, 1 connections, 2 frontiers.
+use lines::known::known_number;
 use lines::read::Line;
 use lines::read::Number;
 use lines::read::Skip;
@@ -12,7 +13,7 @@ ghost use mathlib.Core.Path.{_≡_};
 ghost use Prim.Native.Nat.{_≤_, _<_};
 ghost use lib.ListN.{length, getD, drop};
 ghost use mathlib.Core.List.{[]};
-ghost use Rattle.lines.specs.Line.{readLine, numberIn, lineIn, Skipped};
+ghost use Rattle.lines.specs.Line.{Accepted, readLine, numberIn, lineIn, Skipped};
 ghost use Rattle.sheet.specs.Sheet.{natural};
 ghost use Rattle.sheet.specs.Keys.{componentKeys, connectionKeys, frontierKeys, fieldKey, countKey, keysOf};
 
@@ -120,4 +121,35 @@ pub fn read_field(text: &[u8], at: usize, list: u64, k: usize) -> Line
         Skip::To(p) => read_number(text, p),
         Skip::No => Line::Bad,
     }
+}
+
+// ---- lines that were accepted before
+
+// How many bytes the key of each field has.
+const COMPONENT_KEYS: [usize; 8] = [2, 1, 1, 1, 4, 6, 7, 8];
+
+const CONNECTION_KEYS: [usize; 3] = [6, 4, 4];
+
+const FRONTIER_KEYS: [usize; 3] = [1, 1, 1];
+
+// How many bytes the key of line k of a list's fields has.
+fn key_length(list: u64, k: usize) -> usize
+    ensures { λ r. ⌜ r ≡ length (fieldKey (keysOf list) k) ⌝ }
+{
+    if list == 0 {
+        return COMPONENT_KEYS[k % COMPONENT];
+    }
+    if list == 1 {
+        return CONNECTION_KEYS[k % CONNECTION];
+    }
+    FRONTIER_KEYS[k % FRONTIER]
+}
+
+// Line k of a list's fields, which was accepted: its key is passed over.
+pub fn known_field(text: &[u8], at: usize, list: u64, k: usize) -> Line
+    requires { ⌜ at ≤ length (now text) ⌝ }
+    requires { ⌜ Accepted (readLine (fieldKey (keysOf list) k) (drop at (now text))) ⌝ }
+    ensures { λ r. ⌜ r ≡ lineIn (length (now (text .entry))) (readLine (fieldKey (keysOf list) k) (drop at (now (text .entry)))) ⌝ }
+{
+    known_number(text, at + key_length(list, k) + 1)
 }

@@ -1,6 +1,6 @@
 // The second pass over a sheet, which the first accepted: stores its numbers.
 use super::Places;
-use super::keys::read_field;
+use super::keys::known_field;
 use lines::read::Line;
 use lists::COMPONENT;
 use lists::CONNECTION;
@@ -22,7 +22,7 @@ fn store_fields(text: &[u8], at: usize, list: u64, n: usize, out: &mut [i64])
     let mut p = at;
     let mut k = 0;
     while k < n {
-        let l = read_field(text, p, list, k);
+        let l = known_field(text, p, list, k);
         match l {
             Line::Value(v, q) => {
                 out[k] = v;

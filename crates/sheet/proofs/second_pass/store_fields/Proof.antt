@@ -12,7 +12,7 @@ use Rattle.lists.specs.Slices.{laid}
 use Rattle.lines.proofs.Writing.{laid-snoc}
 use Rattle.sheet.specs.Keys.{keysOf}
 use Rattle.sheet.specs.Places.{AllRead, stored}
-use Rattle.sheet.proofs.Steps.{Passed, start, step, fails, ends}
+use Rattle.sheet.proofs.Steps.{Passed, start, step, fails, line-accepted, ends}
 use Rattle.sheet.proofs.second_pass.store_fields.Statement.{statement}
 use Rattle.sheet.proofs.second_pass.store_fields.Tie as tie
 
@@ -25,8 +25,12 @@ abbrev μ-loop : tie.MeasureT-loop
 loop-holds : tie.Need-loop-holds Inv-loop μ-loop
 loop-holds c = ([], start _ _ _ _ (c .before .pre .1 .0), refl, refl)
 
-read-field-requires : tie.Need-read-field-requires Inv-loop μ-loop
-read-field-requires c κs = search needs
+known-field-requires : tie.Need-known-field-requires Inv-loop μ-loop
+known-field-requires c κs =
+    let s = c .before .before .before in
+    let a = s .args in
+    let x = c .before .loop .inv .1 in
+    (x .placed, line-accepted (keysOf (a .list)) (a .text .now) (a .at) (a .n) x (c .loop-test .taken) (s .pre .1 .1))
 
 enum-known-l : tie.Need-enum-known-l Inv-loop μ-loop
 enum-known-l c = search needs
@@ -48,7 +52,7 @@ returns c =
     let s = c .before .before .before .before .before .before in
     let a = s .args in
     let x = c .before .before .before .before .loop in
-    let e = sym (c .before .before .read-field .ensures) ∙ c .enum-told .given .1 in
+    let e = sym (c .before .before .known-field .ensures) ∙ c .enum-told .given .1 in
     let f = fails (keysOf (a .list)) (a .text .now) (a .at) (a .n) (x .inv .1) (c .before .before .before .loop-test .taken) e in
     absurd (subst AllRead f (s .pre .1 .1))
 
@@ -63,7 +67,7 @@ loop-again c =
     let a = c .before .before .before .before .before .before .before .args in
     let x = c .before .before .before .before .before .loop in
     let l = c .before .l .given in
-    let e = sym (c .before .before .before .read-field .ensures) ∙ l .1 in
+    let e = sym (c .before .before .before .known-field .ensures) ∙ l .1 in
     let t = c .before .before .before .before .loop-test .taken in
     let p = x .inv .1 in (
       x .inv .0 ++ (l .0 .0 ∷ []),
@@ -89,7 +93,7 @@ store-fields-spec =
     Inv-loop
     μ-loop
     loop-holds
-    read-field-requires
+    known-field-requires
     enum-known-l
     mul-v
     slice-set-from-v
