@@ -3,4 +3,5 @@ mod Laid
 mod Reading
 mod Writing
 mod Answers
+mod LivenessLaws
 pub mod Laws

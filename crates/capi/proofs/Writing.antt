@@ -3,6 +3,7 @@
 --     low-more, rest-more         one byte more of a number, and what is left of the slice
 --     low-end                     all bytes of a number are written
 --     encode-more                 one number more
+--     bytes-then                  further numbers, after those at the front
 --     read-written                bytes that were written are read as the same number
 -- Assumes nothing.
 use mathlib.Core.Path.{_≡_, refl, sym, ap, _∙_}
@@ -42,7 +43,7 @@ bytes-one : (n : ℕ) → bytesOf (n ∷ []) ≡ lowBytes numberBytes n
 unfolding bytesOf
 bytes-one n = append-nil (lowBytes numberBytes n)
 
-bytes-append : (a b : List ℕ) → bytesOf (a ++ b) ≡ bytesOf a ++ bytesOf b
+pub bytes-append : (a b : List ℕ) → bytesOf (a ++ b) ≡ bytesOf a ++ bytesOf b
 unfolding bytesOf
 bytes-append [] b = refl
 bytes-append (n ∷ a) b = rw (bytes-append a b, append-assoc)
@@ -70,6 +71,12 @@ encode-more values out old ys k h e f =
     let passed : length (bytesOf (take k values)) ≡ k * numberBytes = omega (arith, length-bytes (take k values), length-take k values) in
     rest-back (k * numberBytes) out ys (lowBytes numberBytes (getD values k 0)) f
     ∙ rw e (laid-then (bytesOf (take k values)) old (k * numberBytes) passed (lowBytes numberBytes (getD values k 0)) ∙ rw (bytes-more values k h))
+
+-- the bytes of further numbers, written after those that stand at the front
+pub bytes-then : (ns ms old out out′ : List ℕ) (k : ℕ) → length ns * numberBytes ≡ k → out ≡ laid (bytesOf ns) old
+    → out′ ≡ take k out ++ laid (bytesOf ms) (drop k out) → out′ ≡ laid (bytesOf (ns ++ ms)) old
+bytes-then ns ms old out out′ k l e f =
+    f ∙ rw e (laid-then (bytesOf ns) old k (length-bytes ns ∙ l) (bytesOf ms) ∙ rw (bytes-append ns ms))
 
 pub read-written : (k n : ℕ) → n < 256 ^ k → littleEndian (lowBytes k n) ≡ n
 unfolding littleEndian lowBytes

@@ -1,3 +1,5 @@
 -- What the contracts cite. To be read in this order.
 pub mod Bytes
 pub mod Entry
+pub mod Liveness
+pub mod Written

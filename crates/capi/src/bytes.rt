@@ -1,8 +1,9 @@
 // Numbers as bytes, eight to a number, lowest first.
 ghost use mathlib.Core.Path.{_≡_};
 ghost use Prim.Native.Nat.{_+_, _*_, _/_, _≤_, min};
-ghost use lib.ListN.{length};
-ghost use Rattle.lists.specs.Slices.{laid};
+ghost use lib.ListN.{length, take, drop};
+ghost use mathlib.Core.List.{_++_};
+ghost use Rattle.lists.specs.Slices.{laid, cleared};
 ghost use Rattle.capi.specs.Bytes.{numberBytes, signed, wordAt, numbers, lowBytes, bytesOf};
 
 // The bytes of a number.
@@ -83,5 +84,24 @@ pub(crate) fn encode(values: &[u64], out: &mut [u8])
         let start = k * NUMBER;
         put_number(&mut out[start..], values[k]);
         k += 1;
+    }
+}
+
+// Writes the bytes of each number from a place of a slice on.
+pub(crate) fn encode_at(values: &[u64], out: &mut [u8], at: usize)
+    requires { ⌜ at + length (now values) * numberBytes ≤ length (now out) ⌝ }
+    ensures { λ _. ⌜ now (out .exit) ≡ take at (now (out .entry)) ++ laid (bytesOf (now (values .entry))) (drop at (now (out .entry))) ⌝ }
+{
+    encode(values, &mut out[at..]);
+}
+
+// Sets every byte to 0.
+pub(crate) fn wipe(out: &mut [u8])
+    ensures { λ _. ⌜ now (out .exit) ≡ cleared (now (out .entry)) ⌝ }
+{
+    let mut i: usize = 0;
+    while i < out.len() {
+        out[i] = 0;
+        i += 1;
     }
 }

@@ -1,15 +1,20 @@
 // The entries for a host that calls through the C convention. Each list is lent as bytes, eight to a number, lowest first, and the answer
 // is one number.
+mod alive;
 mod bytes;
 mod groups;
 
 ghost use Rattle.capi.specs.Entry.{GroupsByBytes};
+ghost use Rattle.capi.specs.Liveness.{LivenessByBytes};
 use bytes::NUMBER;
 use lists::COMPONENT;
 use lists::COMPONENTS;
 use lists::CONNECTION;
 use lists::CONNECTIONS;
 use lists::Checked;
+use lists::FRONTIER;
+use lists::FRONTIERS;
+use lists::PORT;
 use lists::refusals::not_whole;
 use lists::refusals::or_else;
 use lists::refusals::pack;
@@ -32,4 +37,38 @@ pub extern "C" fn dustroute_groups(
         return pack(whole);
     };
     groups::of_bytes(components, connections, nets, fragments)
+}
+
+// The region of each component, the source rows and the verdict rows, and the four sets, at the front of the lent slices.
+#[no_mangle]
+pub extern "C" fn dustroute_liveness(
+    components: &[u8],
+    ports: &[u8],
+    frontiers: &[u8],
+    regions: &mut [u8],
+    sources: &mut [u8],
+    inputs: &mut [u8],
+    sets: &mut [u8],
+    stack: &mut [u8],
+) -> u64
+    ensures { λ r. ⌜ LivenessByBytes (now (components .entry)) (now (ports .entry)) (now (frontiers .entry)) (now (regions .entry)) (now (regions .exit)) (now (sources .entry)) (now (sources .exit)) (now (inputs .entry)) (now (inputs .exit)) (now (sets .entry)) (now (sets .exit)) (now (stack .entry)) (now (stack .exit)) r ⌝ }
+{
+    let first = not_whole(NUMBER * COMPONENT, COMPONENTS, components.len());
+    let second = not_whole(NUMBER * PORT, CONNECTIONS, ports.len());
+    let third = not_whole(NUMBER * FRONTIER, FRONTIERS, frontiers.len());
+    let later = or_else(refuse_at(1, 1, second), refuse_at(1, 2, third));
+    let whole = or_else(refuse_at(1, 0, first), later);
+    let Checked::Accepted = whole else {
+        return pack(whole);
+    };
+    alive::of_bytes(
+        components,
+        ports,
+        frontiers,
+        regions,
+        sources,
+        inputs,
+        sets,
+        stack,
+    )
 }

@@ -81,12 +81,14 @@ abbrev pub portsRefusal : List ℤ → List ℤ → ℕ → Checked
 portsRefusal cs ps ports = groupingLists cs ps [] (roomFor (connectionCount ps) portWidth ports)
 
 -- per component one region, two source rows of two numbers, four verdict rows of three, one pair of the walk's stack
-abbrev pub livenessRefusal : List ℤ → List ℤ → List ℤ → ℕ → ℕ → ℕ → ℕ → Checked
-livenessRefusal cs ps fs regions sources inputs stack =
-    livenessLists cs ps fs
-    (roomFor (componentCount cs) 1 regions
+abbrev pub livenessRoom : List ℤ → ℕ → ℕ → ℕ → ℕ → Bool
+livenessRoom cs regions sources inputs stack =
+    roomFor (componentCount cs) 1 regions
     && (roomFor (componentCount cs * 2) 2 sources
-    && (roomFor (componentCount cs * 4) 3 inputs && roomFor (componentCount cs) 2 stack)))
+    && (roomFor (componentCount cs * 4) 3 inputs && roomFor (componentCount cs) 2 stack))
+
+abbrev pub livenessRefusal : List ℤ → List ℤ → List ℤ → ℕ → ℕ → ℕ → ℕ → Checked
+livenessRefusal cs ps fs regions sources inputs stack = livenessLists cs ps fs (livenessRoom cs regions sources inputs stack)
 
 -- the stack alone; number 8 comes after these
 abbrev pub queryRefusal : List ℤ → List ℤ → List ℤ → ℕ → Checked

@@ -1,0 +1,249 @@
+// Regions, sources, verdicts and sets of a scene that is lent as bytes.
+ghost use mathlib.Core.Path.{_≡_};
+ghost use mathlib.Core.Bool.{true, false};
+ghost use mathlib.Core.List.{_++_};
+ghost use Prim.Native.Nat.{_+_, _*_, _/_, _≤_};
+ghost use lib.ListN.{length};
+ghost use Rattle.sets.specs.Members.{wordCount};
+ghost use Rattle.lists.specs.Limits.{componentLimit};
+ghost use Rattle.lists.specs.Records.{componentCount};
+ghost use Rattle.lists.specs.Refusals.{roomFor, livenessLists, livenessRefusal, packed};
+ghost use Rattle.lists.specs.Slices.{laid};
+ghost use Rattle.lists.specs.declared.Checked.the-variants.{Accepted};
+ghost use Rattle.capi.specs.Bytes.{numberBytes, bytesOf};
+ghost use Rattle.capi.specs.Liveness.{setCount, livenessWhole, livenessPlaces, LivenessLaid, LivenessByBytes};
+ghost use Rattle.capi.specs.Written.{Written, WrittenRoom, RowRoom};
+use super::bytes::NUMBER;
+use super::bytes::decode;
+use super::bytes::encode;
+use super::bytes::encode_at;
+use super::bytes::places;
+use super::bytes::wipe;
+use lists::COMPONENT;
+use lists::COMPONENTS;
+use lists::CONNECTIONS;
+use lists::Checked;
+use lists::FRONTIER;
+use lists::FRONTIERS;
+use lists::PORT;
+use lists::refusals::liveness_lists;
+use lists::refusals::pack;
+use lists::refusals::room_for;
+use liveness::Analysis;
+use liveness::analyze_signal_liveness;
+use sets::ComponentSet;
+use sets::WORDS;
+
+// The sets of an answer.
+const SETS: usize = 4;
+
+// The counts of an accepted scene as one number.
+fn pack_counts(regions: usize, sources: usize, inputs: usize) -> u64
+    requires { ⌜ (regions ≤ componentLimit) × ((sources ≤ 2 * componentLimit) × (inputs ≤ 4 * componentLimit)) ⌝ }
+    ensures { λ r. ⌜ r ≡ 65536 * regions + 4294967296 * sources + 281474976710656 * inputs ⌝ }
+{
+    65536 * regions as u64 + 4294967296 * sources as u64 + 281474976710656 * inputs as u64
+}
+
+// Writes the words of four sets at the front of a slice.
+fn put_sets(
+    drive: ComponentSet,
+    potential: ComponentSet,
+    cyclic: ComponentSet,
+    has_drive: ComponentSet,
+    out: &mut [u8],
+)
+    requires { ⌜ setCount * wordCount * numberBytes ≤ length (now out) ⌝ }
+    ensures { λ _. ⌜ now (out .exit) ≡ laid (bytesOf (drive .words ++ (potential .words ++ (cyclic .words ++ «has_drive» .words)))) (now (out .entry)) ⌝ }
+{
+    encode(&drive.words, out);
+    encode_at(&potential.words, out, WORDS * NUMBER);
+    encode_at(&cyclic.words, out, 2 * WORDS * NUMBER);
+    encode_at(&has_drive.words, out, 3 * WORDS * NUMBER);
+}
+
+// Writes what was found of an accepted scene of so many components.
+fn write_answer(
+    count: usize,
+    analysis: Analysis,
+    region_rows: &[u64],
+    source_rows: &[u64],
+    input_rows: &[u64],
+    regions: &mut [u8],
+    sources: &mut [u8],
+    inputs: &mut [u8],
+    sets: &mut [u8],
+    stack: &mut [u8],
+) -> u64
+    requires { ⌜ WrittenRoom count analysis (now «region_rows») (now «source_rows») (now «input_rows») (now regions) (now sources) (now inputs) (now sets) ⌝ }
+    ensures { λ r. ⌜ Written count analysis (now («region_rows» .entry)) (now («source_rows» .entry)) (now («input_rows» .entry)) (now (regions .entry)) (now (regions .exit)) (now (sources .entry)) (now (sources .exit)) (now (inputs .entry)) (now (inputs .exit)) (now (sets .entry)) (now (sets .exit)) (now (stack .entry)) (now (stack .exit)) r ⌝ }
+{
+    encode(&region_rows[..count], regions);
+    encode(&source_rows[..analysis.sources * 2], sources);
+    encode(&input_rows[..analysis.inputs * 3], inputs);
+    put_sets(
+        analysis.drive,
+        analysis.potential,
+        analysis.cyclic,
+        analysis.has_drive,
+        sets,
+    );
+    wipe(stack);
+    pack_counts(analysis.regions, analysis.sources, analysis.inputs)
+}
+
+// The liveness of a scene as bytes, by way of the rows of numbers.
+fn by_rows(
+    components: &[i64],
+    ports: &[i64],
+    frontiers: &[i64],
+    region_rows: &mut [u64],
+    source_rows: &mut [u64],
+    input_rows: &mut [u64],
+    pairs: &mut [usize],
+    regions: &mut [u8],
+    sources: &mut [u8],
+    inputs: &mut [u8],
+    sets: &mut [u8],
+    stack: &mut [u8],
+) -> u64
+    requires { ⌜ RowRoom (now «region_rows») (now «source_rows») (now «input_rows») (now regions) (now sources) (now inputs) (now sets) ⌝ }
+    ensures { λ r. ⌜ LivenessLaid (livenessRefusal (now (components .entry)) (now (ports .entry)) (now (frontiers .entry)) (length (now («region_rows» .entry))) (length (now («source_rows» .entry))) (length (now («input_rows» .entry))) (length (now (pairs .entry)))) (now (components .entry)) (now (ports .entry)) (now (frontiers .entry)) (now (regions .entry)) (now (regions .exit)) (now (sources .entry)) (now (sources .exit)) (now (inputs .entry)) (now (inputs .exit)) (now (sets .entry)) (now (sets .exit)) (now (stack .entry)) (now (stack .exit)) r ⌝ }
+{
+    let analysis = analyze_signal_liveness(
+        components,
+        ports,
+        frontiers,
+        region_rows,
+        source_rows,
+        input_rows,
+        pairs,
+    );
+    let checked = analysis.checked;
+    let Checked::Accepted = checked else {
+        return pack(checked);
+    };
+    write_answer(
+        components.len() / COMPONENT,
+        analysis,
+        region_rows,
+        source_rows,
+        input_rows,
+        regions,
+        sources,
+        inputs,
+        sets,
+        stack,
+    )
+}
+
+// The liveness of a scene as bytes. There are no more rows than a scene's components can have, so longer slices give no further places.
+fn by_places(
+    components: &[i64],
+    ports: &[i64],
+    frontiers: &[i64],
+    regions: &mut [u8],
+    sources: &mut [u8],
+    inputs: &mut [u8],
+    sets: &mut [u8],
+    stack: &mut [u8],
+) -> u64
+    requires { ⌜ componentCount (now components) ≤ componentLimit ⌝ }
+    requires { ⌜ roomFor setCount wordCount (length (now sets) / numberBytes) ≡ true ⌝ }
+    ensures { λ r. ⌜ LivenessLaid (livenessPlaces (now (components .entry)) (now (ports .entry)) (now (frontiers .entry)) (length (now (regions .entry))) (length (now (sources .entry))) (length (now (inputs .entry))) (length (now (sets .entry))) (length (now (stack .entry)))) (now (components .entry)) (now (ports .entry)) (now (frontiers .entry)) (now (regions .entry)) (now (regions .exit)) (now (sources .entry)) (now (sources .exit)) (now (inputs .entry)) (now (inputs .exit)) (now (sets .entry)) (now (sets .exit)) (now (stack .entry)) (now (stack .exit)) r ⌝ }
+{
+    let mut region_rows = [0u64; COMPONENTS];
+    let mut source_rows = [0u64; 4 * COMPONENTS];
+    let mut input_rows = [0u64; 12 * COMPONENTS];
+    let mut pairs = [0usize; 2 * COMPONENTS];
+    let region_places = places(regions.len(), COMPONENTS);
+    let source_places = places(sources.len(), 4 * COMPONENTS);
+    let input_places = places(inputs.len(), 12 * COMPONENTS);
+    let pair_places = places(stack.len(), 2 * COMPONENTS);
+    by_rows(
+        components,
+        ports,
+        frontiers,
+        &mut region_rows[..region_places],
+        &mut source_rows[..source_places],
+        &mut input_rows[..input_places],
+        &mut pairs[..pair_places],
+        regions,
+        sources,
+        inputs,
+        sets,
+        stack,
+    )
+}
+
+// The refusal of a scene for whose sets there is no room.
+fn refuse_short(components: &[i64], ports: &[i64], frontiers: &[i64]) -> u64
+    ensures { λ r. ⌜ r ≡ packed (livenessLists (now (components .entry)) (now (ports .entry)) (now (frontiers .entry)) false) ⌝ }
+{
+    let mut keys = [0u64; COMPONENTS];
+    pack(liveness_lists(components, ports, frontiers, false, &mut keys))
+}
+
+// The liveness of a scene as bytes.
+fn of_numbers(
+    components: &[i64],
+    ports: &[i64],
+    frontiers: &[i64],
+    regions: &mut [u8],
+    sources: &mut [u8],
+    inputs: &mut [u8],
+    sets: &mut [u8],
+    stack: &mut [u8],
+) -> u64
+    requires { ⌜ componentCount (now components) ≤ componentLimit ⌝ }
+    ensures { λ r. ⌜ LivenessLaid (livenessPlaces (now (components .entry)) (now (ports .entry)) (now (frontiers .entry)) (length (now (regions .entry))) (length (now (sources .entry))) (length (now (inputs .entry))) (length (now (sets .entry))) (length (now (stack .entry)))) (now (components .entry)) (now (ports .entry)) (now (frontiers .entry)) (now (regions .entry)) (now (regions .exit)) (now (sources .entry)) (now (sources .exit)) (now (inputs .entry)) (now (inputs .exit)) (now (sets .entry)) (now (sets .exit)) (now (stack .entry)) (now (stack .exit)) r ⌝ }
+{
+    if room_for(SETS, WORDS, sets.len() / NUMBER) {
+        return by_places(
+            components,
+            ports,
+            frontiers,
+            regions,
+            sources,
+            inputs,
+            sets,
+            stack,
+        );
+    }
+    refuse_short(components, ports, frontiers)
+}
+
+// The liveness of a scene whose lists are whole records within their limits.
+pub(crate) fn of_bytes(
+    components: &[u8],
+    ports: &[u8],
+    frontiers: &[u8],
+    regions: &mut [u8],
+    sources: &mut [u8],
+    inputs: &mut [u8],
+    sets: &mut [u8],
+    stack: &mut [u8],
+) -> u64
+    requires { ⌜ livenessWhole (now components) (now ports) (now frontiers) ≡ Accepted ⌝ }
+    ensures { λ r. ⌜ LivenessByBytes (now (components .entry)) (now (ports .entry)) (now (frontiers .entry)) (now (regions .entry)) (now (regions .exit)) (now (sources .entry)) (now (sources .exit)) (now (inputs .entry)) (now (inputs .exit)) (now (sets .entry)) (now (sets .exit)) (now (stack .entry)) (now (stack .exit)) r ⌝ }
+{
+    let mut component_numbers = [0i64; COMPONENTS * COMPONENT];
+    let mut port_numbers = [0i64; CONNECTIONS * PORT];
+    let mut frontier_numbers = [0i64; FRONTIERS * FRONTIER];
+    decode(components, &mut component_numbers);
+    decode(ports, &mut port_numbers);
+    decode(frontiers, &mut frontier_numbers);
+    let component_count = components.len() / NUMBER;
+    let port_count = ports.len() / NUMBER;
+    let frontier_count = frontiers.len() / NUMBER;
+    of_numbers(
+        &component_numbers[..component_count],
+        &port_numbers[..port_count],
+        &frontier_numbers[..frontier_count],
+        regions,
+        sources,
+        inputs,
+        sets,
+        stack,
+    )
+}
