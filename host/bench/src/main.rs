@@ -9,7 +9,7 @@ use scenes::Scene;
 use scenes::sized::Shape;
 
 use measure::Times;
-use subjects::{Groups, Ports, Subject, without_supports};
+use subjects::{Groups, Liveness, Ports, Subject, without_supports};
 use tables::Row;
 
 const SIZES: [usize; 5] = [64, 128, 256, 512, 1_024];
@@ -58,5 +58,8 @@ fn main() {
     tables::print("Ports: scene builder and `port_connections`", &ports);
     let ports = measured::<Ports>(without_supports);
     tables::print("Ports, no component with a support", &ports);
+    let liveness = measured::<Liveness>(|scene| scene);
+    let title = "Liveness: `analyze_signal_liveness` and `dustroute_liveness`";
+    tables::print(title, &liveness);
     println!("{}", tables::NOTES);
 }

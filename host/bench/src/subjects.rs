@@ -4,6 +4,7 @@
 use dustroute_physical::{
     Observation, PhysicalComponent, PhysicalConnection, PhysicalScene, VerifiedTopology,
 };
+use dustroute_translate::analyze_signal_liveness;
 use oracle::lists;
 use probe::capi;
 use probe::ports::port_connections;
@@ -83,6 +84,51 @@ impl Subject for Ports {
         times.proved(|| {
             let (components, connections) = (&self.scene.components, &self.scene.connections);
             let answer = port_connections(components, connections, &mut self.out);
+            assert!(answer.is_ok());
+        });
+    }
+}
+
+/// Regions, sources and verdicts of the kept connections.
+pub struct Liveness {
+    given: PhysicalScene,
+    lists: [Vec<u8>; 3],
+    regions: Vec<u8>,
+    sources: Vec<u8>,
+    inputs: Vec<u8>,
+    sets: Vec<u8>,
+    stack: Vec<u8>,
+}
+
+impl Subject for Liveness {
+    fn new(mut scene: Scene) -> Self {
+        scene.ports = oracle::ports(&scene.components, &scene.connections).concat();
+        let (components, ports, frontiers) = (&scene.components, &scene.ports, &scene.frontiers);
+        let lent = Lent::enough(&scene);
+        let zeros = |numbers: usize| vec![0; numbers * bytes::NUMBER];
+        Self {
+            given: lists::given_scene(components, ports, frontiers),
+            lists: [components, ports, frontiers].map(|list| bytes::of(list)),
+            regions: zeros(lent.regions),
+            sources: zeros(lent.sources),
+            inputs: zeros(lent.inputs),
+            sets: zeros(bytes::SET_WORDS),
+            stack: zeros(lent.stack),
+        }
+    }
+
+    fn run(&mut self, times: &mut Times) {
+        times.rust(|| analyze_signal_liveness(&self.given));
+        times.proved(|| {
+            let [components, ports, frontiers] = &self.lists;
+            let lent = capi::Lent {
+                regions: &mut self.regions,
+                sources: &mut self.sources,
+                inputs: &mut self.inputs,
+                sets: &mut self.sets,
+                stack: &mut self.stack,
+            };
+            let answer = capi::liveness_bytes(components, ports, frontiers, lent);
             assert!(answer.is_ok());
         });
     }

@@ -18,7 +18,9 @@ table of ids; groups also read and write bytes. The Rust does more: groups becom
 connections are sorted into a set, and each fragment is compared with each net for the nets that it
 lists (here a function of its own). The scene builder also makes evidence with a string for each
 connection, looks for each support among all components, copies blocks, nets and fragments, and
-lists the ports of every component; all that is left out of the port.";
+lists the ports of every component; all that is left out of the port. Liveness also reads and writes
+bytes, and its connections are those that the scene builder keeps; the Rust also gives each verdict
+row its immediate sources and inferred inputs (here a query of its own), by a search upstream for each.";
 
 /// The times, and below them how they grow from the first size to the last.
 pub fn print(title: &str, rows: &[Row]) {

@@ -1,5 +1,6 @@
 //! Comparisons of one scene's answers, for the tests beside it.
 
+mod alive;
 mod compare;
 mod counted;
 mod groups;
@@ -7,6 +8,7 @@ mod guarded;
 mod ports;
 pub mod runs;
 
+pub use alive::{Alive, LivenessLists};
 pub use compare::Tally;
 pub use counted::Counted;
 pub use groups::{ByteLists, Groups};

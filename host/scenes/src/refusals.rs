@@ -49,6 +49,13 @@ fn too_short(slices: &[(usize, usize, usize)]) -> Option<Refusal> {
     short.then(|| refusal(2, NO_LIST, 0))
 }
 
+/// 2 by itself: nothing comes before it in lists of whole records within
+/// their limits.
+#[must_use]
+pub const fn too_short_slice() -> Refusal {
+    refusal(2, NO_LIST, 0)
+}
+
 /// 3: a field outside its range.
 fn out_of_range(list: u64, numbers: &[i64], ranges: &[Range]) -> Option<Refusal> {
     let outside = |record: &[i64]| {
