@@ -1,5 +1,6 @@
 -- The keys of a slot in a rising table, and the ports that have a verdict row.
 --     some-at, some-none                            what holds at a place holds at some; what holds nowhere does not
+--     here, outside                                 a key of a slot, and where those of a slot stand
 --     fed-here, fed-past                            slotFed, by the first key that is not below the slot's
 --     fed-by-here, fed-by-past                      slotFedBy, by the keys passed so far
 --     status-..                                     the status of a slot by these tests
@@ -42,7 +43,7 @@ and-true a b e f = rw (e, f)
 
 module _ (keys : List ℕ) (slot : ℕ) where
   -- a key of the slot is the pair of the slot and its second number
-  here : (k : ℕ) → k < length keys → getD keys k 0 / span ≡ slot → member (pair slot (getD keys k 0 % span)) keys ≡ true
+  pub here : (k : ℕ) → k < length keys → getD keys k 0 / span ≡ slot → member (pair slot (getD keys k 0 % span)) keys ≡ true
   here k h e = at-member (pair slot (getD keys k 0 % span)) keys k h (omega arith)
 
   pub fed-here : (k : ℕ) → k < length keys → getD keys k 0 / span ≡ slot → slotFed keys slot ≡ true
@@ -57,7 +58,7 @@ module _ (keys : List ℕ) (slot : ℕ) where
 
   module _ (rising : Ascending keys) {first : ℕ} (low : LowerBound keys (slot * span) first) where
     -- no key of the slot stands before the first place, nor from a place on whose key is of another slot
-    outside : (at : ℕ) → first ≤ at → (at < length keys → getD keys at 0 / span ≡ slot → ⊥)
+    pub outside : (at : ℕ) → first ≤ at → (at < length keys → getD keys at 0 / span ≡ slot → ⊥)
         → (k : ℕ) → k < length keys → getD keys k 0 / span ≡ slot → (first ≤ k) × (k < at)
     outside at le past k h e = (
       ⊎-elim (λ (l : first ≤ k). l) (λ (l : k < first). absurd (let w = low .before rising k l in omega arith)) (order? first k),

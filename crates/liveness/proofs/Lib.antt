@@ -10,6 +10,7 @@
 --     Fed, Statuses                     the keys of a slot, and its status
 --     Written, Devices, Required, RowLaws   the rows written are those of the document
 --     Answers                           sets and rows of an answer
+--     Asked                             the port of an input query, its immediate sources and its inferred inputs
 --     Demands, SameMembers              demand 3; order and repetition of port connections
 pub mod Tabulated
 pub mod Ends
@@ -31,5 +32,6 @@ pub mod Statuses
 pub mod Required
 pub mod RowLaws
 pub mod Answers
+pub mod Asked
 pub mod Demands
 pub mod SameMembers

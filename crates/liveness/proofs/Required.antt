@@ -1,20 +1,21 @@
 -- The rows of a component's ports are those of its kind's required ports, which stand in a run.
 --     required, Run, run-of     the required ports of each kind
 --     port-rows                 the rows of all ports
+--     row-of                    whether a port has a row
 -- Assumes nothing.
-use mathlib.Core.Path.{_≡_, refl, ap, _∙_}
+use mathlib.Core.Path.{_≡_, refl, sym, ap, _∙_}
 use mathlib.Core.Bool.{Bool, true, false, not, _&&_, _||_}
 use mathlib.Core.List.{List, [], append-nil}
 use mathlib.Core.Logic.{⊎-elim}
 use Prim.Native.Nat.{ℕ, zero, suc, _+_, _-_, _≤_, _<_}
 use native.Mathlib.Nat.{add-zero, add-suc}
 use native.Mathlib.Omega.{arith}
-use lib.Dec.{eqb}
+use lib.Dec.{eqb, leb, ltb}
 use lib.ListN.{length}
 use lib.IntN.{ℤ}
-use borrow.Author.Tests.{ne-eqb, not-true}
+use borrow.Author.Tests.{ne-eqb, not-true, le-leb, lt-leb, lt-ltb, le-ltb}
 use Rattle.tables.specs.Laws.{order?}
-use Rattle.lists.specs.Records.{component}
+use Rattle.lists.specs.Records.{Component, component}
 use Rattle.lists.specs.First.{allFrom}
 use Rattle.lists.proofs.Search.{all-at}
 use Rattle.scene.specs.Ports.{Port, portsFor, portsOf, repeaterPorts, neither, opposite, faceOr, North, Input, Control}
@@ -179,3 +180,30 @@ module _ (cs ps fs : List ℤ) (p : ℕ) where
       ap rows all
       ∙ rows-after (first + n) rest (λ k a b. r .after k a (omega arith))
       ∙ rows-inside first n (rows-before first (r .before)) (r .inside)
+
+-- ---- the ports with a row, by their run
+
+and-none : (t : Bool) → (t && false) ≡ false
+and-none true = refl
+and-none false = refl
+
+pub row-of : (c : Component) (port : ℕ)
+    → (leb (firstRequired (c .kind)) port && ltb port (firstRequired (c .kind) + requiredCount (c .kind))) ≡ (ltb port (length (portsOf c)) && isRequired c port)
+row-of c port =
+    let r = run-of (c .kind) (c .facing) (c .support) (c .conducts) in
+    let first = firstRequired (c .kind) in
+    let n = requiredCount (c .kind) in
+    let fits = r .fits in
+    ⊎-elim
+    (λ (le : first ≤ port). ⊎-elim
+    (λ (past : first + n ≤ port). rw (le-leb first port le, le-ltb port (first + n) past) (⊎-elim
+    (λ (out : length (portsOf c) ≤ port). rw (le-ltb port (length (portsOf c)) out))
+    (λ (here : port < length (portsOf c)). sym (ap (λ (t : Bool). ltb port (length (portsOf c)) && t) (r .after port past here) ∙ and-none (ltb port (length (portsOf c)))))
+    (order? (length (portsOf c)) port)))
+    (λ (less : port < first + n).
+    let is : first + (port - first) ≡ port = omega arith in
+    rw (le-leb first port le, lt-ltb port (first + n) less, lt-ltb port (length (portsOf c)) (omega arith)) (sym (ap (isRequired c) (sym is) ∙ r .inside (port - first) (omega arith))))
+    (order? (first + n) port))
+    (λ (less : port < first).
+    rw (lt-leb first port less) (sym (ap (λ (t : Bool). ltb port (length (portsOf c)) && t) (r .before port less) ∙ and-none (ltb port (length (portsOf c))))))
+    (order? first port)

@@ -14,3 +14,4 @@ pub mod Seen
 pub mod Rows
 pub mod Stages
 pub mod Scene
+pub mod Inputs

@@ -1,7 +1,7 @@
 // Arrays of flags and counts.
 use sets::ComponentSet;
 ghost use mathlib.Core.Path.{_≡_};
-ghost use mathlib.Core.Bool.{Bool, _||_};
+ghost use mathlib.Core.Bool.{Bool, _&&_, _||_};
 ghost use Prim.Native.Nat.{ℕ, _≤_, _<_};
 ghost use lib.ListN.{length, getD};
 ghost use Rattle.lists.specs.Limits.{componentLimit};
@@ -44,6 +44,18 @@ pub(crate) fn or_flags(n: usize, a: &[bool], b: &[bool], out: &mut [bool])
     let mut p: usize = 0;
     while p < n {
         out[p] = a[p] | b[p];
+        p += 1;
+    }
+}
+
+// Each of the first n flags of both.
+pub(crate) fn and_flags(n: usize, a: &[bool], b: &[bool], out: &mut [bool])
+    requires { ⌜ (n ≤ length (now a)) × ((n ≤ length (now b)) × (n ≤ length (now out))) ⌝ }
+    ensures { λ _. ⌜ Flags n (λ p. marked (now (a .entry)) p && marked (now (b .entry)) p) (now (out .exit)) ⌝ }
+{
+    let mut p: usize = 0;
+    while p < n {
+        out[p] = a[p] & b[p];
         p += 1;
     }
 }

@@ -2,6 +2,7 @@
 mod flags;
 mod infer;
 mod inferred;
+pub mod query;
 mod signals;
 mod sources;
 mod stages;
@@ -14,6 +15,8 @@ use lists::Checked;
 use lists::Refusal;
 use lists::refusals::liveness_lists;
 use lists::refusals::room_for;
+use query::query_scene;
+use query::refused_input;
 use sets::ComponentSet;
 use steps::analyze;
 ghost use mathlib.Core.Path.{_≡_};
@@ -22,6 +25,7 @@ ghost use Prim.Native.Nat.{ℕ};
 ghost use lib.IntN.{ℤ};
 ghost use Rattle.lists.specs.declared.Checked.the-variants.{Refused};
 ghost use Rattle.liveness.specs.Entry.{AnalyzedBy, Analyzed};
+ghost use Rattle.liveness.specs.Query.{Answered};
 
 // What the checks say, and of an accepted scene the counts and the sets: members that are driven or may be, regions that are cyclic or
 // hold a drive source.
@@ -88,6 +92,36 @@ pub fn analyze_signal_liveness(
             regions,
             sources,
             inputs,
+            stack,
+        ),
+    }
+}
+
+// The immediate sources of a port that has a verdict row, by the id of its component, and the inferred inputs among these and all upstream of
+// them. Any id and port may be asked for.
+pub fn required_input(
+    components: &[i64],
+    ports: &[i64],
+    frontiers: &[i64],
+    id: u64,
+    port: u64,
+    stack: &mut [usize],
+) -> InputSources
+    ensures { λ r. ⌜ Answered (now (components .entry)) (now (ports .entry)) (now (frontiers .entry)) id port (now (stack .entry)) (now (stack .exit)) r ⌝ }
+{
+    let mut keys = [0u64; COMPONENTS];
+    let count = components.len() / COMPONENT;
+    let enough = room_for(count, 2, stack.len());
+    let checked = liveness_lists(components, ports, frontiers, enough, &mut keys);
+    match checked {
+        Checked::Refused(refusal) => refused_input(refusal),
+        Checked::Accepted => query_scene(
+            &keys[..count],
+            components,
+            ports,
+            frontiers,
+            id,
+            port,
             stack,
         ),
     }

@@ -21,7 +21,7 @@ ghost use Rattle.liveness.specs.Verdicts.{rowIf, kindRow};
 ghost use Rattle.liveness.specs.Rows.{Put, firstRequired, requiredCount, slotFed, slotFedBy, slotStatus, SlotWithin, FedWithin, Scanned, kindRows, verdictsBelow, sourcesOf, sourcesBelow, InferredAlone};
 
 // The first port of a kind that has a verdict row.
-fn first_required(kind: u64) -> usize
+pub(crate) fn first_required(kind: u64) -> usize
     ensures { λ r. ⌜ (r ≡ firstRequired kind) × (r ≤ 4) ⌝ }
 {
     match kind {
@@ -32,7 +32,7 @@ fn first_required(kind: u64) -> usize
 }
 
 // How many ports of a kind have a verdict row, from the first on.
-fn required_count(kind: u64) -> usize
+pub(crate) fn required_count(kind: u64) -> usize
     ensures { λ r. ⌜ (r ≡ requiredCount kind) × (r ≤ 4) ⌝ }
 {
     match kind {

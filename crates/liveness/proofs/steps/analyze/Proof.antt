@@ -1,20 +1,17 @@
 -- `liveness::steps::analyze` meets its contract: the scene is prepared in local arrays, then reported.
 -- Assumes nothing.
 use borrow.Author.Needs.{needs}
-use mathlib.Core.Path.{_≡_, sym, ap, _∙_}
-use mathlib.Core.List.{List, _++_}
-use Prim.Native.Nat.{ℕ, _*_, _≤_}
+use mathlib.Core.Path.{_≡_, sym, _∙_}
+use mathlib.Core.List.{List}
+use Prim.Native.Nat.{ℕ, _≤_}
 use native.Mathlib.Omega.{arith}
 use lib.ListN.{length, take, drop, replicate}
 use lib.Seq.{length-take-le}
-use lib.IntN.{ℤ}
 use Rattle.lists.specs.Limits.{componentLimit, connectionLimit}
 use Rattle.lists.specs.Records.{componentCount, portCount}
 use Rattle.lists.proofs.Table.{table-long}
-use Rattle.regions.specs.Search.{Zeros}
 use Rattle.regions.proofs.Fill.{cleared-zeros}
-use Rattle.liveness.specs.Scene.{PreparedRoom, RowsRoom}
-use Rattle.liveness.proofs.Lent.{front, front-long}
+use Rattle.liveness.proofs.Lent.{front, front-long, front-length}
 use Rattle.liveness.proofs.Answers.{prepared-as, analyzed-stack}
 use Rattle.liveness.proofs.steps.analyze.Statement.{statement}
 use Rattle.liveness.proofs.steps.analyze.Tie as tie
@@ -93,10 +90,6 @@ fed-long c = c .prepare .kept .1 .1 .1 .1 .1 .1 .1 .0 ∙ keys-lent (start c)
 
 labels-long : (c : tie.After-prepare) → length (labelled c) ≡ nodes (start c)
 labels-long c = c .prepare .kept .1 .1 .1 .1 .1 .1 .1 .1 .0 ∙ labels-lent (start c)
-
--- the front of an array is as long as what was lent
-front-length : {A : Type 0} (n : ℕ) (out rest : List A) → length out ≡ n → n ≡ length (take n (out ++ rest))
-front-length n out rest e = sym (ap length (front n out rest e) ∙ e)
 
 report-requires : tie.Need-report-requires
 report-requires c κs =

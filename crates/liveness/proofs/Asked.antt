@@ -1,0 +1,277 @@
+-- The input query: the port asked for, its immediate sources and the inferred inputs.
+--     Flagged, flagged-..            the flags of a slot's keys, by the keys passed so far
+--     immediate-is                   a slot's keys are the immediate sources of its port
+--     both-flags                     the flags of the nodes reached that are inferred
+--     nodes, slot-asked, ..          what `PortOf` says of the tables
+--     immediate-set, inferred-set    the two sets of the port
+--     port-of                        a port by the arrays of a prepared scene
+--     row-place, row-found, ..       the place of the port asked for
+--     inputs-..                      the answer, by what was found and by what the checks say
+-- Assumes nothing.
+use mathlib.Core.Path.{_≡_, refl, sym, ap, subst, _∙_}
+use mathlib.Core.Bool.{Bool, true, false, cond, _&&_, _||_}
+use mathlib.Core.List.{List}
+use mathlib.Core.Logic.{⊎-elim}
+use Prim.Native.Nat.{ℕ, zero, suc, _+_, _*_, _/_, _%_, _^_, _≤_, _<_}
+use native.Mathlib.Nat.{eq-or-lt-of-le}
+use native.Mathlib.Omega.{arith}
+use lib.Dec.{eqb, ltb}
+use lib.ListN.{length, getD, set, replicate}
+use lib.Seq.{ext-getD}
+use lib.IntN.{ℤ}
+use borrow.Author.Tests.{eqb-true, eq-eqb, ltb-true}
+use Rattle.tables.specs.Order.{Ascending, LowerBound, member}
+use Rattle.tables.specs.Laws.{member-at}
+use Rattle.tables.specs.Pairs.{pair, span}
+use Rattle.lists.specs.Limits.{componentLimit}
+use Rattle.lists.specs.Records.{component, portConnection, componentCount, portCount}
+use Rattle.lists.specs.First.{isFound, tabulate}
+use Rattle.lists.specs.Ids.{placeBelow, placeOf, memberOf, firstEndMissing}
+use Rattle.lists.specs.Within.{PortConnections}
+use Rattle.lists.specs.declared.Found.{Found}
+use Rattle.lists.specs.declared.Found.the-variants.{At, Nothing}
+use Rattle.lists.specs.Refusals.{refuse, tooShort, _or-else_, queryRefusal}
+use Rattle.lists.specs.declared.Checked.{Checked}
+use Rattle.lists.specs.declared.Checked.the-variants.{Accepted}
+use Rattle.lists.proofs.Search.{never, both, or-true, found-at}
+use Rattle.lists.proofs.Members.{member-below}
+use Rattle.scene.specs.Ports.{portsOf}
+use Rattle.scene.proofs.Sound.{ports-few}
+use Rattle.regions.specs.Graph.{Edges, marked, flip}
+use Rattle.regions.specs.Keys.{edges}
+use Rattle.regions.specs.Kosaraju.{reached}
+use Rattle.liveness.specs.Signals.{isSignal, sourceMember, sinkMember, signals}
+use Rattle.liveness.specs.Regions.{isInferred}
+use Rattle.liveness.specs.Drive.{membersWhere}
+use Rattle.liveness.specs.Verdicts.{isRequired}
+use Rattle.liveness.specs.Keys.{Settled, Slots, KeysOf, slot, ports}
+use Rattle.liveness.specs.Flags.{Flags, SetOf}
+use Rattle.liveness.specs.Sets.{SetWhere}
+use Rattle.liveness.specs.Rows.{SlotWithin}
+use Rattle.liveness.specs.Query.{isImmediate, upstream, isInferredFor, withRow, rowPlace, InputsBy, Answered}
+use Rattle.liveness.specs.Scene.{Scene, Prepared}
+use Rattle.liveness.specs.Inputs.{PortOf, UpstreamSet}
+use Rattle.liveness.specs.declared.InputSources.{InputSources}
+use Rattle.liveness.proofs.Tabulated.{first-cong, tabulated-length, tabulated-at}
+use Rattle.liveness.proofs.Ends.{ends-within, sink-is}
+use Rattle.liveness.proofs.Graph.{noSlot, fed-at, edges-back, and-assoc}
+use Rattle.liveness.proofs.Marks.{set-marked}
+use Rattle.liveness.proofs.Fed.{here, outside}
+use Rattle.liveness.proofs.Statuses.{same-truth, fed-within}
+use Rattle.liveness.proofs.Answers.{set-where, set-same}
+
+-- ---- the keys of a slot
+
+-- each key passed is flagged, and each flag is that of a key
+pub record Flagged (keys : List ℕ) (slot first at : ℕ) (flags : List Bool) : Type 0 where
+  pub seen : (k : ℕ) → first ≤ k → k < at → marked flags (getD keys k 0 % span) ≡ true
+  pub held : (a : ℕ) → marked flags a ≡ true → member (pair slot a) keys ≡ true
+
+pub flagged-none : (keys : List ℕ) (slot first n : ℕ) → Flagged keys slot first first (replicate n false)
+flagged-none keys slot first n = record { seen = λ k h l. absurd (omega arith); held = λ a e. never (sym (dark n a) ∙ e) }
+  where
+    dark : (n a : ℕ) → marked (replicate n false) a ≡ false
+    dark zero a = refl
+    dark (suc n) zero = refl
+    dark (suc n) (suc a) = dark n a
+
+pub flagged-more : {keys : List ℕ} {slot first at : ℕ} {flags : List Bool} → Flagged keys slot first at flags → at < length keys → getD keys at 0 / span ≡ slot
+    → getD keys at 0 % span < length flags → Flagged keys slot first (at + 1) (set flags (getD keys at 0 % span) true)
+flagged-more {keys} {slot} {first} {at} {flags} f h e l =
+    let one = getD keys at 0 % span in
+    let now : (a : ℕ) → marked (set flags one true) a ≡ (marked flags a || eqb one a) = λ a. set-marked flags one a l in
+    record {
+      seen = λ k b m. ⊎-elim
+          (λ (same : k ≡ at). now (getD keys k 0 % span) ∙ ap (λ (t : Bool). marked flags (getD keys k 0 % span) || t) (eq-eqb one (getD keys k 0 % span) (ap (λ (j : ℕ). getD keys j 0 % span) (sym same))) ∙ sym (or-true (marked flags (getD keys k 0 % span))))
+          (λ (less : k < at). now (getD keys k 0 % span) ∙ rw (f .seen k b less))
+          (eq-or-lt-of-le (let w : k ≤ at = omega arith in w));
+      held = λ a t. go a (marked flags a) refl (sym (now a) ∙ t);
+    }
+  where
+    go : (a : ℕ) (t : Bool) → marked flags a ≡ t → (t || eqb (getD keys at 0 % span) a) ≡ true → member (pair slot a) keys ≡ true
+    go a true m t = f .held a m
+    go a false m t = let same = eqb-true (getD keys at 0 % span) a t in ap (λ (x : ℕ). member (pair slot x) keys) (sym same) ∙ here keys slot at h e
+
+-- past the last key of the slot the flags are those of its keys
+module _ {keys : List ℕ} {slot : ℕ} (rising : Ascending keys) {first : ℕ} (low : LowerBound keys (slot * span) first) where
+  pub flagged-all : {flags : List Bool} {n at : ℕ} → Flagged keys slot first at flags → first ≤ at → (at < length keys → getD keys at 0 / span ≡ slot → ⊥)
+      → length flags ≡ n → n ≤ span → Flags n (λ a. member (pair slot a) keys) flags
+  flagged-all {flags} {n} {at} f le past long small = record {
+    long = omega (arith, long);
+    at = λ a h. same-truth (marked flags a) (member (pair slot a) keys) (f .held a) (λ e.
+        let found = member-at (pair slot a) keys e in
+        let k = found .0 in
+        let o = outside keys slot rising low at le past k (found .1) (omega (arith, found .2)) in
+        let is : getD keys k 0 % span ≡ a = omega (arith, found .2) in
+        ap (marked flags) (sym is) ∙ f .seen k (o .0) (o .1));
+  }
+
+-- ---- immediate sources
+
+-- a test of the sink that holds of signals alone may be given otherwise
+joined : (signal a b c d : Bool) → (signal ≡ true → a ≡ b) → (signal && (a && (c && d))) ≡ ((signal && (b && c)) && d)
+joined true a b c d e = rw (e refl) (sym (and-assoc b c d))
+joined false a b c d e = refl
+
+module _ {cs ps : List ℤ} {sources sinks slots keys : List ℕ} (few : componentCount cs ≤ componentLimit) (w : PortConnections ps)
+    (s : Settled cs ps 0 sources) (t : Settled cs ps 2 sinks) (u : Slots ps sinks slots) (table : KeysOf ps slots sources noSlot keys)
+    (ends : firstEndMissing cs ps ≡ Nothing) (p port : ℕ) (h : p < componentCount cs) (l : port < ports) where
+  pub immediate-is : (a : ℕ) → a < span → member (pair (slot (memberOf cs p) port) a) keys ≡ isImmediate cs ps p port a
+  unfolding isImmediate
+  immediate-is a m =
+      sym (fed-at few w s t u table p port a h l m)
+      ∙ ap isFound (first-cong _ _ 0 (portCount ps) (λ k x y.
+      joined (isSignal ps k) (eqb (sinkMember cs ps k) (memberOf cs p)) (eqb (portConnection ps k .sink) (component cs p .id))
+      (eqb (portConnection ps k .sinkPort) port) (eqb (sourceMember cs ps k) a) (λ signal. sink-is cs ps ends k (omega arith) signal p h)))
+
+-- ---- upstream
+
+-- the flags of equal lists
+pub both-flags : {n : ℕ} (inferred : List Bool) {visited visited′ out : List Bool} → visited ≡ visited′
+    → Flags n (λ a. marked visited a && marked inferred a) out → Flags n (λ a. marked visited′ a && marked inferred a) out
+both-flags {n} inferred {visited} {visited′} {out} e f = subst (λ (l : List Bool). Flags n (λ a. marked l a && marked inferred a) out) e f
+
+-- ---- the port of a prepared scene
+
+module _ {cs ps fs : List ℤ} {p port : ℕ} {fed backward : List ℕ} {at : ℕ} {inferred : List Bool} (q : PortOf cs ps fs p port fed backward at inferred) where
+  few : componentCount cs ≤ componentLimit
+  few = q .scene .components .few
+
+  pub nodes : length inferred ≡ componentCount cs
+  unfolding membersWhere
+  nodes = ap length (q .inferred-are) ∙ tabulated-length _ (componentCount cs)
+
+  slot-below : at < componentLimit * ports
+  slot-below = omega (arith, q .slot-is, q .port-small, member-below cs p (q .place), few)
+
+  slot-within : SlotWithin fed at (length inferred)
+  slot-within =
+      let t = q .tables in
+      let within = fed-within few (q .scene .connections) (t .source-members) (t .sink-members) (t .slots-are) (t .fed-keys) (q .scene .ends) in
+      record { below = λ i h e. omega (arith, nodes, within .below i h (omega (arith, e, slot-below))) }
+
+  pub slot-asked : (m : ℕ) → m ≡ length inferred → (Ascending fed × (at < 2 ^ 32)) × (SlotWithin fed at m × (m ≤ span))
+  slot-asked m e = (
+    (q .tables .fed-keys .sorted .ascending, omega (arith, slot-below)),
+    (record { below = λ i h l. omega (arith, e, slot-within .below i h l) }, omega (arith, e, nodes, few)),
+  )
+
+  pub nodes-few : length inferred ≤ componentLimit
+  nodes-few = omega (arith, nodes, few)
+
+  pub back-rises : Ascending backward
+  back-rises = q .tables .backward-keys .sorted .ascending
+
+  immediate-at : (a : ℕ) → a < span → member (pair at a) fed ≡ isImmediate cs ps p port a
+  immediate-at a h =
+      let t = q .tables in
+      ap (λ (x : ℕ). member (pair x a) fed) (q .slot-is)
+      ∙ immediate-is few (q .scene .connections) (t .source-members) (t .sink-members) (t .slots-are) (t .fed-keys) (q .scene .ends) p port (q .place) (q .port-small) a h
+
+  graph-back : edges (componentCount cs) backward ≡ flip (signals cs ps)
+  graph-back =
+      let t = q .tables in
+      λ i a b. edges-back few (t .source-members) (t .sink-members) (ends-within cs ps (q .scene .ends)) (t .backward-keys) a b i
+
+  module _ {starts : List Bool} (long : length starts ≡ length inferred) (flags : Flags (length inferred) (λ a. member (pair at a) fed) starts) where
+    starts-are : starts ≡ tabulate (isImmediate cs ps p port) (componentCount cs)
+    starts-are =
+        let n = componentCount cs in
+        let test = isImmediate cs ps p port in
+        ext-getD false starts (tabulate test n) (long ∙ nodes ∙ sym (tabulated-length test n)) (λ a h.
+        flags .at a (omega (arith, long)) ∙ immediate-at a (omega (arith, long, nodes, few)) ∙ sym (tabulated-at test false n a (omega (arith, long, nodes))))
+
+    pub immediate-set : {lent : List Bool} {words : List ℕ} → lent ≡ starts → SetOf (length inferred) lent words → SetWhere (componentCount cs) (isImmediate cs ps p port) words
+    immediate-set {lent} {words} e s =
+        let all : Flags (length inferred) (isImmediate cs ps p port) lent = record {
+          long = omega (arith, ap length e, long);
+          at = λ a h. ap (λ (l : List Bool). marked l a) e ∙ flags .at a h ∙ immediate-at a (omega (arith, nodes, few));
+        } in
+        set-same nodes (λ k. refl) (set-where (omega arith) s all)
+
+    reached-are : reached (length inferred) (edges (length inferred) backward) starts ≡ upstream cs ps p port
+    unfolding upstream
+    reached-are =
+        let n = componentCount cs in
+        ap (λ (k : ℕ). reached k (edges k backward) starts) nodes
+        ∙ ap (λ (g : Edges). reached n g starts) graph-back
+        ∙ ap (reached n (flip (signals cs ps))) starts-are
+
+    pub inferred-set : {lent : List Bool} {stack words : List ℕ} → lent ≡ starts
+        → UpstreamSet (length inferred) (edges (length inferred) backward) lent inferred stack words → SetWhere (componentCount cs) (isInferredFor cs ps fs p port) words
+    unfolding isInferredFor
+    inferred-set e u =
+        let n = length inferred in
+        set-same nodes (λ k.
+        ap (λ (l : List Bool). marked (reached n (edges n backward) l) k && marked inferred k) e
+        ∙ ap (λ (l : List Bool). marked l k && marked inferred k) reached-are
+        ∙ ap (λ (l : List Bool). marked (upstream cs ps p port) k && marked l k) (q .inferred-are)) (u .set)
+
+-- a port of a component by the arrays of the prepared scene
+pub port-of : {cs ps : List ℤ} (fs : List ℤ) {sources sinks forward backward fed labelled members regionOf : List ℕ} {p port : ℕ} {inferred : List Bool}
+    → Scene cs ps → Prepared cs ps sources sinks forward backward fed labelled members regionOf → p < componentCount cs → port < ports
+    → inferred ≡ membersWhere cs (isInferred cs ps fs) → PortOf cs ps fs p port fed backward (slot (getD members p 0) port) inferred
+port-of fs {sources} {sinks} {forward} {p = p} {port = port} scene prepared h l e = record {
+  scene = scene;
+  sources = sources;
+  sinks = sinks;
+  forward = forward;
+  tables = prepared .tables;
+  place = h;
+  port-small = l;
+  slot-is = ap (λ (m : ℕ). slot m port) (prepared .members-are .at p h);
+  inferred-are = e;
+}
+
+-- ---- the port asked for
+
+pub row-place : (cs : List ℤ) (id port : ℕ) {found : Found} → placeOf cs id ≡ found → rowPlace cs id port ≡ withRow cs port found
+unfolding rowPlace
+row-place cs id port e = ap (withRow cs port) e
+
+pub place-below : (cs : List ℤ) (id : ℕ) {p : ℕ} → placeOf cs id ≡ At p → p < componentCount cs
+unfolding placeBelow
+place-below cs id {p} e = let f = found-at (λ k. eqb (component cs k .id) id) 0 (componentCount cs) p e in omega (arith, f .below)
+
+-- a port with a row is one of its component's ports
+pub row-found : (cs : List ℤ) (id port : ℕ) {p : ℕ} → rowPlace cs id port ≡ At p → (p < componentCount cs) × (port < ports)
+unfolding rowPlace
+row-found cs id port {p} e = go (placeOf cs id) refl e
+  where
+    at : (q : ℕ) (t : Bool) → cond t (At q) Nothing ≡ At p → (t ≡ true) × (q ≡ p)
+    at q true f = (refl, cc)
+    at q false f = let z : _≡_ {A = ℕ} 0 1 = cc in absurd (omega arith)
+
+    go : (found : Found) → placeOf cs id ≡ found → withRow cs port found ≡ At p → (p < componentCount cs) × (port < ports)
+    go (At q) f g =
+        let c = component cs q in
+        let is = at q (ltb port (length (portsOf c)) && isRequired c port) g in
+        let below = ltb-true port (length (portsOf c)) (both (ltb port (length (portsOf c))) (isRequired c port) (is .0) .0) in
+        (omega (arith, is .1, place-below cs id f), omega (arith, below, ports-few (c .kind) (c .facing) (c .support) (c .conducts)))
+    go Nothing f g = let z : _≡_ {A = ℕ} 0 1 = cc in absurd (omega arith)
+
+-- ---- the answer
+
+module _ {cs ps fs : List ℤ} {port : ℕ} {stack stack′ : List ℕ} {r : InputSources} where
+  -- a work slice of the same length
+  pub inputs-stack : {place : Found} {stack₂ : List ℕ} → length stack₂ ≡ length stack → InputsBy Accepted cs ps fs place port stack₂ stack′ r
+      → InputsBy Accepted cs ps fs place port stack stack′ r
+  inputs-stack e a = record {
+    answer = a .answer;
+    stack-left = a .stack-left ∙ ap (λ (k : ℕ). replicate k 0) e;
+    immediate-set = a .immediate-set;
+    inferred-set = a .inferred-set;
+  }
+
+  -- by what was found
+  pub inputs-found : (id : ℕ) {found : Found} → rowPlace cs id port ≡ found → InputsBy (refuse 8 3 (tooShort (isFound found))) cs ps fs found port stack stack′ r
+      → InputsBy (refuse 8 3 (tooShort (isFound (rowPlace cs id port)))) cs ps fs (rowPlace cs id port) port stack stack′ r
+  inputs-found id e a = subst (λ (f : Found). InputsBy (refuse 8 3 (tooShort (isFound f))) cs ps fs f port stack stack′ r) (sym e) a
+
+  -- by what the checks of the lists say
+  pub inputs-checked : (id : ℕ) {checks : Checked} → queryRefusal cs ps fs (length stack) ≡ checks
+      → InputsBy (checks or-else refuse 8 3 (tooShort (isFound (rowPlace cs id port)))) cs ps fs (rowPlace cs id port) port stack stack′ r
+      → Answered cs ps fs id port stack stack′ r
+  inputs-checked id e a = record {
+    by = subst (λ (c : Checked). InputsBy (c or-else refuse 8 3 (tooShort (isFound (rowPlace cs id port)))) cs ps fs (rowPlace cs id port) port stack stack′ r) (sym e) a;
+  }

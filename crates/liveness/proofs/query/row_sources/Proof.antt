@@ -1,0 +1,88 @@
+-- `liveness::query::row_sources` meets its contract: the flags of the slot's keys are the immediate sources; then upstream of them.
+-- Assumes nothing.
+use mathlib.Core.Path.{_≡_, refl, sym, ap, _∙_}
+use mathlib.Core.Bool.{Bool, false}
+use mathlib.Core.List.{List, _++_}
+use Prim.Native.Nat.{ℕ, _≤_}
+use native.Mathlib.Omega.{arith}
+use lib.ListN.{length, take, drop, replicate}
+use lib.Seq.{length-take-le}
+use Rattle.lists.specs.Limits.{componentLimit}
+use Rattle.regions.proofs.Fill.{zeros-cleared}
+use Rattle.liveness.proofs.Lent.{front, front-long}
+use Rattle.liveness.proofs.Asked.{slot-asked, nodes-few, back-rises, immediate-set, inferred-set}
+use Rattle.liveness.proofs.query.row_sources.Statement.{statement}
+use Rattle.liveness.proofs.query.row_sources.Tie as tie
+
+abbrev nodes : tie.Start → ℕ
+nodes s = length (s .args .inferred .now)
+
+small : (s : tie.Start) → nodes s ≤ 1024
+small s = nodes-few (s .pre .0 .5)
+
+lent : (s : tie.Start) → length (take (nodes s) (replicate componentLimit false)) ≡ nodes s
+lent s = length-take-le _ _ (small s)
+
+-- ---- the flags that came back stand at the front of the array
+
+abbrev start : tie.After-immediate-flags → tie.Start
+start c = c .before .before .before .before .before .before
+
+abbrev flags : tie.After-immediate-flags → List Bool
+flags c = c .immediate-flags .last .1 .1 .0
+
+abbrev rest : tie.After-immediate-flags → List Bool
+rest c = drop (nodes (start c)) (replicate componentLimit false)
+
+long : (c : tie.After-immediate-flags) → length (flags c) ≡ nodes (start c)
+long c = c .immediate-flags .kept .1 .1 .0 ∙ lent (start c)
+
+front-is : (c : tie.After-immediate-flags) → take (nodes (start c)) (flags c ++ rest c) ≡ flags c
+front-is c = front _ (flags c) (rest c) (long c)
+
+front-length : (c : tie.After-immediate-flags) → length (take (nodes (start c)) (flags c ++ rest c)) ≡ nodes (start c)
+front-length c = ap length (front-is c) ∙ long c
+
+set-of-requires : tie.Need-set-of-requires
+set-of-requires c κs = let f = c .before .before in (omega (arith, front-length f), small (start f))
+
+upstream-inputs-requires : tie.Need-upstream-inputs-requires
+upstream-inputs-requires c κs =
+    let f = c .before .before .before .before .before in
+    let s = start f in
+    record {
+      keys-rise = back-rises (s .pre .0 .5);
+      few = small s;
+      immediate-room = front-length f;
+      stack-room = s .pre .1 .0;
+      stack-zeros = s .pre .1 .1;
+    }
+
+returns : tie.Need-returns
+returns c cs ps fs p port q =
+    let f = c .before .before .before .before .before .before .before .before in
+    let s = start f in
+    let u = c .before .before .upstream-inputs in
+    let given = rw (lent s) at (f .immediate-flags .ensures) in
+    record {
+      answer = refl;
+      stack-left = zeros-cleared _ (u .ensures .stack-zeros) ∙ ap (λ (k : ℕ). replicate k 0) (u .kept .1 .1 .1 .0);
+      immediate-set = immediate-set q (long f) given (front-is f) (c .before .before .before .before .before .set-of .ensures);
+      inferred-set = inferred-set q (long f) given (front-is f) (u .ensures);
+    }
+
+pub row-sources-spec : {M : Type 1} → statement M
+row-sources-spec =
+    tie.close
+    (tie.spec
+    (λ c. small (c .before .before .before .before))
+    (λ c. sym (lent (c .before .before .before .before .before)))
+    (λ c κs. let s = c .before .before .before .before .before in slot-asked (s .pre .0 .5) _ (lent s))
+    (λ c. let f = c .before in front-long _ (flags f) (rest f) (long f))
+    (λ c. sym (front-length (c .before .before)))
+    set-of-requires
+    (λ c. let f = c .before .before .before in front-long _ (flags f) (rest f) (long f))
+    (λ c. sym (front-length (c .before .before .before .before)))
+    upstream-inputs-requires
+    (λ c. c .before .before .upstream-inputs .kept .1 .1 .1 .0)
+    returns)

@@ -1,0 +1,347 @@
+// The input query: the immediate sources of a port, and the inferred inputs among these and all upstream of them.
+use super::InputSources;
+use super::flags::and_flags;
+use super::flags::gather;
+use super::flags::set_of;
+use super::signals::PORTS;
+use super::steps::flag_drive;
+use super::steps::flag_inferred;
+use super::steps::prepare;
+use super::verdicts::first_required;
+use super::verdicts::required_count;
+use lists::COMPONENT;
+use lists::COMPONENTS;
+use lists::CONNECTIONS;
+use lists::Checked;
+use lists::Found;
+use lists::PORT;
+use lists::Refusal;
+use lists::ids::place_of;
+use lists::numbers::natural_at;
+use sets::ComponentSet;
+use tables::SPAN;
+ghost use mathlib.Core.Path.{_≡_};
+ghost use mathlib.Core.Bool.{_&&_};
+ghost use mathlib.Core.List.{List};
+ghost use Prim.Native.Nat.{ℕ, _+_, _*_, _^_, _≤_, _<_};
+ghost use lib.Dec.{leb, ltb};
+ghost use lib.ListN.{length};
+ghost use lib.IntN.{ℤ};
+ghost use Rattle.tables.specs.Order.{Ascending, member};
+ghost use Rattle.tables.specs.Pairs.{pair, span};
+ghost use Rattle.lists.specs.Records.{componentCount};
+ghost use Rattle.lists.specs.Within.{Components};
+ghost use Rattle.lists.specs.First.{isFound};
+ghost use Rattle.lists.specs.Ids.{IdTable};
+ghost use Rattle.lists.specs.Refusals.{refuse, tooShort};
+ghost use Rattle.lists.specs.declared.Found.{Found};
+ghost use Rattle.lists.specs.declared.Found.the-variants.{At};
+ghost use Rattle.lists.specs.declared.Checked.the-variants.{Accepted, Refused};
+ghost use Rattle.regions.specs.Search.{Zeros};
+ghost use Rattle.regions.specs.Keys.{edges};
+ghost use Rattle.liveness.specs.Regions.{isInferred};
+ghost use Rattle.liveness.specs.Drive.{membersWhere};
+ghost use Rattle.liveness.specs.Query.{withRow, rowPlace, InputsBy};
+ghost use Rattle.liveness.specs.Flags.{Flags};
+ghost use Rattle.liveness.specs.Rows.{firstRequired, requiredCount, SlotWithin};
+ghost use Rattle.liveness.specs.Scene.{Scene, Prepared};
+ghost use Rattle.liveness.specs.Inputs.{PortOf, UpstreamRoom, UpstreamSet};
+
+// ---- one port
+
+// Flags the second numbers of the keys of a slot, and clears the others.
+fn immediate_flags(keys: &[u64], slot: usize, flags: &mut [bool])
+    requires { ⌜ Ascending (now keys) × (slot < 2 ^ 32) ⌝ }
+    requires { ⌜ SlotWithin (now keys) slot (length (now flags)) × (length (now flags) ≤ span) ⌝ }
+    ensures { λ _. ⌜ Flags (length (now (flags .entry))) (λ a. member (pair slot a) (now (keys .entry))) (now (flags .exit)) ⌝ }
+{
+    regions::clear_flags(flags);
+    let mut at = tables::lower_bound(keys, slot as u64 * SPAN);
+    while at < keys.len() {
+        let key = keys[at];
+        if key / SPAN != slot as u64 {
+            return;
+        }
+        flags[(key % SPAN) as usize] = true;
+        at += 1;
+    }
+}
+
+// The inferred inputs among the flagged members and all upstream of them.
+fn upstream_inputs(
+    backward: &[u64],
+    immediate: &[bool],
+    inferred: &[bool],
+    stack: &mut [usize],
+) -> ComponentSet
+    requires { ⌜ UpstreamRoom (now backward) (now immediate) (now inferred) (now stack) ⌝ }
+    ensures { λ r. ⌜ UpstreamSet (length (now (inferred .entry))) (edges (length (now (inferred .entry))) (now (backward .entry))) (now (immediate .entry)) (now (inferred .entry)) (now (stack .exit)) (r .words) ⌝ }
+{
+    let n = inferred.len();
+    let mut upstream = [false; COMPONENTS];
+    let mut order = [0usize; COMPONENTS];
+    let mut both = [false; COMPONENTS];
+    regions::reach_from(
+        backward,
+        n,
+        immediate,
+        &mut upstream[..n],
+        &mut order,
+        stack,
+    );
+    and_flags(n, &upstream[..n], inferred, &mut both);
+    set_of(n, &both)
+}
+
+// The sets of one port, given the tables of the scene by the ports that are fed and backward, the port's slot, and the inferred inputs by
+// member. The stack is zero before and after.
+pub fn row_sources(
+    fed: &[u64],
+    backward: &[u64],
+    slot: usize,
+    inferred: &[bool],
+    stack: &mut [usize],
+) -> InputSources
+    requires { ⌜ ((cs ps fs : List ℤ) × (p port : ℕ) × PortOf cs ps fs p port (now fed) (now backward) slot (now inferred)) ⌝ }
+    requires { ⌜ (2 * length (now inferred) ≤ length (now stack)) × Zeros (now stack) ⌝ }
+    ensures { λ r. ⌜ ((cs ps fs : List ℤ) (p port : ℕ) → PortOf cs ps fs p port (now (fed .entry)) (now (backward .entry)) slot (now (inferred .entry)) →
+        InputsBy Accepted cs ps fs (At p) port (now (stack .entry)) (now (stack .exit)) r) ⌝ }
+{
+    let n = inferred.len();
+    let mut immediate = [false; COMPONENTS];
+    immediate_flags(fed, slot, &mut immediate[..n]);
+    InputSources {
+        checked: Checked::Accepted,
+        immediate: set_of(n, &immediate[..n]),
+        inferred: upstream_inputs(backward, &immediate[..n], inferred, stack),
+    }
+}
+
+// ---- the port asked for
+
+// Ids are below this; the table of ids has no key past it.
+const IDS: u64 = 1 << 32;
+
+// Whether a port of a kind has a verdict row.
+fn has_row(kind: u64, port: u64) -> bool
+    ensures { λ r. ⌜ r ≡ (leb (firstRequired kind) port && ltb port (firstRequired kind + requiredCount kind)) ⌝ }
+{
+    let first = first_required(kind) as u64;
+    (first <= port) & (port < first + required_count(kind) as u64)
+}
+
+// The place, where the port of its component has a verdict row.
+fn with_row(components: &[i64], port: u64, p: usize) -> Found
+    requires { ⌜ Components (now components) × (p < componentCount (now components)) ⌝ }
+    ensures { λ r. ⌜ r ≡ withRow (now (components .entry)) port (At p) ⌝ }
+{
+    let kind = natural_at(components, p * COMPONENT + 4);
+    if has_row(kind, port) {
+        return Found::At(p);
+    }
+    Found::Nothing
+}
+
+// Where the component of the port asked for stands, if the port has a verdict row.
+fn row_place(keys: &[u64], components: &[i64], id: u64, port: u64) -> Found
+    requires { ⌜ Components (now components) × IdTable (now components) (now keys) ⌝ }
+    ensures { λ r. ⌜ r ≡ rowPlace (now (components .entry)) id port ⌝ }
+{
+    if IDS <= id {
+        return Found::Nothing;
+    }
+    let place = place_of(keys, id);
+    match place {
+        Found::At(p) => with_row(components, port, p),
+        Found::Nothing => Found::Nothing,
+    }
+}
+
+// ---- the query of an accepted scene
+
+// Flags the inferred inputs of a prepared scene, by member.
+fn inferred_members(
+    components: &[i64],
+    ports: &[i64],
+    frontiers: &[i64],
+    source_at: &[usize],
+    sink_at: &[usize],
+    forward: &[u64],
+    backward: &[u64],
+    labels: &[usize],
+    members: &[usize],
+    region_at: &[usize],
+    inferred: &mut [bool],
+)
+    requires { ⌜ Scene (now components) (now ports) ⌝ }
+    requires { ⌜ ((fed : List ℕ) × Prepared (now components) (now ports) (now «source_at») (now «sink_at») (now forward) (now backward) fed (now labels) (now members) (now «region_at»)) ⌝ }
+    requires { ⌜ length (now inferred) ≡ componentCount (now components) ⌝ }
+    ensures { λ _. ⌜ now (inferred .exit) ≡ membersWhere (now (components .entry)) (isInferred (now (components .entry)) (now (ports .entry)) (now (frontiers .entry))) ⌝ }
+{
+    let mut on_frontier = [false; COMPONENTS];
+    let mut drive_at = [false; COMPONENTS];
+    let mut has_drive = [false; COMPONENTS];
+    let mut inferred_at = [false; COMPONENTS];
+    flag_drive(
+        components,
+        frontiers,
+        region_at,
+        &mut on_frontier,
+        &mut drive_at,
+        &mut has_drive,
+    );
+    flag_inferred(
+        components,
+        ports,
+        source_at,
+        sink_at,
+        forward,
+        backward,
+        labels,
+        members,
+        region_at,
+        &has_drive,
+        &mut inferred_at,
+    );
+    gather(
+        components.len() / COMPONENT,
+        members,
+        &inferred_at,
+        inferred,
+    );
+}
+
+// The sets of a port of the component at p, of a prepared scene.
+fn port_sources(
+    components: &[i64],
+    ports: &[i64],
+    frontiers: &[i64],
+    source_at: &[usize],
+    sink_at: &[usize],
+    forward: &[u64],
+    backward: &[u64],
+    fed: &[u64],
+    labels: &[usize],
+    members: &[usize],
+    region_at: &[usize],
+    p: usize,
+    port: usize,
+    stack: &mut [usize],
+) -> InputSources
+    requires { ⌜ Scene (now components) (now ports) ⌝ }
+    requires { ⌜ Prepared (now components) (now ports) (now «source_at») (now «sink_at») (now forward) (now backward) (now fed) (now labels) (now members) (now «region_at») ⌝ }
+    requires { ⌜ (p < componentCount (now components)) × (port < 2 ^ 8) ⌝ }
+    requires { ⌜ (2 * componentCount (now components) ≤ length (now stack)) × Zeros (now stack) ⌝ }
+    ensures { λ r. ⌜ InputsBy Accepted (now (components .entry)) (now (ports .entry)) (now (frontiers .entry)) (At p) port (now (stack .entry)) (now (stack .exit)) r ⌝ }
+{
+    let n = components.len() / COMPONENT;
+    let mut inferred = [false; COMPONENTS];
+    inferred_members(
+        components,
+        ports,
+        frontiers,
+        source_at,
+        sink_at,
+        forward,
+        backward,
+        labels,
+        members,
+        region_at,
+        &mut inferred[..n],
+    );
+    let slot = members[p] * PORTS + port;
+    row_sources(fed, backward, slot, &inferred[..n], stack)
+}
+
+// The sets of a port of the component at p, of an accepted scene, given its table of ids.
+fn input_sources(
+    keys: &[u64],
+    components: &[i64],
+    ports: &[i64],
+    frontiers: &[i64],
+    p: usize,
+    port: usize,
+    stack: &mut [usize],
+) -> InputSources
+    requires { ⌜ Scene (now components) (now ports) × IdTable (now components) (now keys) ⌝ }
+    requires { ⌜ (p < componentCount (now components)) × ((port < 2 ^ 8) × (2 * componentCount (now components) ≤ length (now stack))) ⌝ }
+    ensures { λ r. ⌜ InputsBy Accepted (now (components .entry)) (now (ports .entry)) (now (frontiers .entry)) (At p) port (now (stack .entry)) (now (stack .exit)) r ⌝ }
+{
+    let n = keys.len();
+    let m = ports.len() / PORT;
+    let mut source_at = [0usize; CONNECTIONS];
+    let mut sink_at = [0usize; CONNECTIONS];
+    let mut forward = [0u64; CONNECTIONS];
+    let mut backward = [0u64; CONNECTIONS];
+    let mut fed = [0u64; CONNECTIONS];
+    let mut labels = [0usize; COMPONENTS];
+    let mut members = [0usize; COMPONENTS];
+    let mut region_at = [0usize; COMPONENTS];
+    regions::clear(stack);
+    prepare(
+        keys,
+        components,
+        ports,
+        &mut source_at,
+        &mut sink_at,
+        &mut forward[..m],
+        &mut backward[..m],
+        &mut fed[..m],
+        &mut labels[..n],
+        &mut members,
+        &mut region_at,
+        stack,
+    );
+    port_sources(
+        components,
+        ports,
+        frontiers,
+        &source_at,
+        &sink_at,
+        &forward[..m],
+        &backward[..m],
+        &fed[..m],
+        &labels[..n],
+        &members,
+        &region_at,
+        p,
+        port,
+        stack,
+    )
+}
+
+// The answer beside a refusal: empty sets.
+pub(crate) fn refused_input(refusal: Refusal) -> InputSources
+    ensures { λ r. ⌜ ((cs ps fs : List ℤ) (place : Found) (port : ℕ) (stack : List ℕ) → InputsBy (Refused refusal) cs ps fs place port stack stack r) ⌝ }
+{
+    InputSources {
+        checked: Checked::Refused(refusal),
+        immediate: sets::empty(),
+        inferred: sets::empty(),
+    }
+}
+
+// The query of an accepted scene, given its table of ids; 8 where the port asked for has no verdict row.
+pub(crate) fn query_scene(
+    keys: &[u64],
+    components: &[i64],
+    ports: &[i64],
+    frontiers: &[i64],
+    id: u64,
+    port: u64,
+    stack: &mut [usize],
+) -> InputSources
+    requires { ⌜ Scene (now components) (now ports) × IdTable (now components) (now keys) ⌝ }
+    requires { ⌜ 2 * componentCount (now components) ≤ length (now stack) ⌝ }
+    ensures { λ r. ⌜ InputsBy (refuse 8 3 (tooShort (isFound (rowPlace (now (components .entry)) id port)))) (now (components .entry)) (now (ports .entry)) (now (frontiers .entry)) (rowPlace (now (components .entry)) id port) port (now (stack .entry)) (now (stack .exit)) r ⌝ }
+{
+    let place = row_place(keys, components, id, port);
+    match place {
+        Found::At(p) => input_sources(keys, components, ports, frontiers, p, port as usize, stack),
+        Found::Nothing => refused_input(Refusal {
+            number: 8,
+            list: 3,
+            item: 0,
+        }),
+    }
+}
