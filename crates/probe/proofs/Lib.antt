@@ -1,1 +1,2 @@
 pub mod Selected
+pub mod Asking

@@ -1,6 +1,7 @@
 // What the tests from Rust call and the product does not export: refusals as one number, the table of ids, ports and groups.
 mod groups;
 mod ports;
+mod query;
 
 ghost use mathlib.Core.Path.{_≡_};
 ghost use mathlib.Core.Bool.{true};

@@ -5,7 +5,7 @@
 use std::fmt::{self, Display};
 
 use probe::capi::{self, RowCounts};
-use probe::query::required_input;
+use probe::query::{Asked, input_refusal, required_input};
 use scenes::bytes::{self, LivenessLent, NUMBER, SET_WORDS};
 use scenes::limits::COMPONENT;
 use scenes::{Lent, Scene};
@@ -75,9 +75,18 @@ pub struct Alive {
     queries: u64,
 }
 
-/// Rows asked for by the query in a scene with more components than a few.
-const ASKED: usize = 12;
-const FEW: usize = 16;
+/// Up to this many components every row is asked for.
+const FEW: usize = 8;
+
+/// Rows asked for in a scene with more components.
+const ASKED: usize = 4;
+
+/// 8: the port asked for has no verdict row.
+const NO_ROW: probe::Refusal = probe::Refusal {
+    number: 8,
+    list: 3,
+    item: 0,
+};
 
 /// The slices that are lent to one call.
 struct Slices {
@@ -163,7 +172,7 @@ impl Alive {
     }
 
     /// The immediate and the inferred set of verdict rows: of all of them in a
-    /// small scene, else of some.
+    /// small scene, else of some. A port beside them has no row and is refused.
     fn queries(&mut self, report: &oracle::Liveness, scene: &Scene, case: &dyn Display) {
         let few = scene.components.len() / COMPONENT <= FEW;
         let step = if few {
@@ -174,19 +183,24 @@ impl Alive {
         for input in report.inputs.iter().step_by(step) {
             self.queries += 1;
             let [id, port] = [input.device, input.port].map(i64::unsigned_abs);
-            let mut stack = Guarded::new(Lent::enough(scene).stack, 0);
-            let given = required_input(
-                &scene.components,
-                &scene.ports,
-                &scene.frontiers,
+            let mut asked = Asked {
+                components: &scene.components,
+                ports: &scene.ports,
+                frontiers: &scene.frontiers,
                 id,
                 port,
-                stack.lent(),
-            );
+            };
+            let length = Lent::enough(scene).stack;
+            let mut stack = Guarded::new(length, 0);
+            let given = required_input(&asked, stack.lent());
             let sets = [&input.immediate, &input.inferred].map(|ids| members(ids, scene));
             assert_eq!(given, Ok(sets), "input {id} {port}, {case}{scene}");
-            let zero = vec![0; Lent::enough(scene).stack];
-            assert!(stack.holds(&zero), "stack, {case}{scene}");
+            assert!(stack.holds(&vec![0; length]), "stack, {case}{scene}");
+            asked.port += 5;
+            let mut stack = Guarded::new(length, 0);
+            let given = input_refusal(&asked, stack.lent());
+            assert_eq!(given, Some(NO_ROW), "no row, {case}{scene}");
+            assert!(stack.holds(&[]), "a refusal wrote, {case}{scene}");
         }
     }
 

@@ -18,6 +18,12 @@ impl Filling for u8 {
     }
 }
 
+impl Filling for usize {
+    fn filling(place: usize) -> Self {
+        1 + place * 1_000_003
+    }
+}
+
 impl Filling for i64 {
     /// Negative, which no number of an answer is.
     fn filling(place: usize) -> Self {

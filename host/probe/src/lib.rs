@@ -7,6 +7,7 @@
 
 pub mod capi;
 pub mod ports;
+pub mod query;
 
 mod raw {
     //! A slice passes as a pointer and then a length in numbers.
