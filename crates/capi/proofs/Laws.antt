@@ -1,7 +1,9 @@
 -- What a host can rely on, besides the contract.
 --     read-back                       numbers that were written as bytes are read as the same numbers
 --     accepted-parts, refused-parts   the parts of an answer
+--     liveness-accepted-parts         the parts of the liveness entry's answer
 --     told-apart                      the sixteen lowest bits of an answer are 0 exactly where the scene is accepted
+--     liveness-told-apart             the same of the liveness entry
 -- Assumes nothing.
 use mathlib.Core.Path.{_≡_, refl, sym, ap, _∙_}
 use mathlib.Core.Bool.{Bool, _&&_}
@@ -13,23 +15,26 @@ use lib.Dec.{lit<}
 use lib.ListN.{length, getD, take, drop}
 use lib.Seq.{take-suc, take-length, take-at, drop-append-add}
 use lib.IntN.{ℤ, pos, negsuc}
-use Rattle.lists.specs.Limits.{componentLimit, connectionLimit, frontierLimit, componentWidth, connectionWidth, frontierWidth}
+use Rattle.sets.specs.Members.{wordCount}
+use Rattle.lists.specs.Limits.{componentLimit, connectionLimit, frontierLimit, componentWidth, connectionWidth, portWidth, frontierWidth}
 use Rattle.lists.specs.Records.{componentCount}
-use Rattle.lists.specs.Ranges.{firstOutOfRange, componentLow, componentHigh, connectionLow, connectionHigh, frontierLow, frontierHigh}
+use Rattle.lists.specs.Ranges.{firstOutOfRange, componentLow, componentHigh, connectionLow, connectionHigh, portLow, portHigh, frontierLow, frontierHigh}
 use Rattle.lists.specs.Order.{firstNotAscending, componentOrder, connectionOrder}
-use Rattle.lists.specs.Ids.{firstRepeated}
-use Rattle.lists.specs.Refusals.{refuse, _or-else_, notWhole, tooShort, roomFor, groupingLists, Small}
+use Rattle.lists.specs.Ids.{firstRepeated, firstEndMissing}
+use Rattle.lists.specs.Refusals.{refuse, _or-else_, notWhole, tooShort, roomFor, groupingLists, livenessLists, livenessRoom, Small}
 use Rattle.lists.specs.declared.Refusal.{Refusal}
 use Rattle.lists.specs.declared.Found.{Found}
 use Rattle.lists.specs.declared.Found.the-variants.{At, Nothing}
 use Rattle.lists.specs.declared.Checked.{Checked}
 use Rattle.lists.specs.declared.Checked.the-variants.{Accepted, Refused}
-use Rattle.lists.proofs.Small.{small-or-else, grouping-small}
+use Rattle.lists.proofs.Small.{small-or-else, grouping-small, liveness-small}
 use Rattle.capi.specs.Bytes.{numberBytes, littleEndian, signed, firstNumbers, numbers, lowBytes, bytesOf}
 use Rattle.capi.specs.Entry.{groupsWhole, groupsRefusal, groupsNumber, GroupsByBytes}
+use Rattle.capi.specs.Liveness.{setCount, livenessWhole, livenessBytesRefusal, livenessNumber, LivenessByBytes}
 use Rattle.capi.proofs.Reading.{signed-low}
 use Rattle.capi.proofs.Writing.{length-low, length-bytes, read-written}
 use Rattle.capi.proofs.Answers.{whole-fits}
+use Rattle.capi.proofs.LivenessLaws.{three-fit}
 
 -- ---- bytes
 
@@ -81,6 +86,17 @@ pub record RefusedParts (r : ℕ) (refusal : Refusal) : Type 0 where
 
 pub refused-parts : (refusal : Refusal) (nets fragments : ℕ) → Small (Refused refusal) → RefusedParts (groupsNumber (Refused refusal) nets fragments) refusal
 refused-parts refusal nets fragments small = record { number-is = omega arith; list-is = omega arith; item-is = omega arith }
+
+pub record LivenessParts (r regions sources inputs : ℕ) : Type 0 where
+  pub accepted : r % 65536 ≡ 0
+  pub regions-are : r / 65536 % 65536 ≡ regions
+  pub sources-are : r / 4294967296 % 65536 ≡ sources
+  pub inputs-are : r / 281474976710656 ≡ inputs
+
+pub liveness-accepted-parts : (regions sources inputs : ℕ) → regions ≤ componentLimit → sources ≤ 2 * componentLimit
+    → LivenessParts (livenessNumber Accepted regions sources inputs) regions sources inputs
+liveness-accepted-parts regions sources inputs h l =
+    record { accepted = omega arith; regions-are = omega arith; sources-are = omega arith; inputs-are = omega arith }
 
 -- ---- acceptance and refusal, told apart
 
@@ -136,3 +152,44 @@ told-apart components connections nets nets′ fragments fragments′ r laid-so 
     let small = small-or-else (groupsWhole components connections) (groupingLists cs ps [] enough) (whole-fits components connections) (λ _. grouping-small cs ps [] enough) in
     let numbered = whole-numbered components connections then grouping-numbered cs ps [] enough in
     rw (laid-so .answer) (told (groupsRefusal components connections (length nets) (length fragments)) _ _ small (numbered .number))
+
+-- ---- the liveness entry
+
+liveness-numbered : (cs ps fs : List ℤ) (enough : Bool) → Has (livenessLists cs ps fs enough)
+unfolding livenessLists
+liveness-numbered cs ps fs enough =
+    has 1 0 (notWhole componentWidth componentLimit (length cs)) (lit< tt)
+    then has 1 1 (notWhole portWidth connectionLimit (length ps)) (lit< tt)
+    then has 1 2 (notWhole frontierWidth frontierLimit (length fs)) (lit< tt)
+    then has 2 3 (tooShort enough) (lit< tt)
+    then has 3 0 (firstOutOfRange componentLow componentHigh cs) (lit< tt)
+    then has 3 1 (firstOutOfRange portLow portHigh ps) (lit< tt)
+    then has 3 2 (firstOutOfRange frontierLow frontierHigh fs) (lit< tt)
+    then has 4 0 (firstNotAscending componentOrder componentWidth cs) (lit< tt)
+    then has 5 0 (firstRepeated cs) (lit< tt)
+    then has 7 1 (firstEndMissing cs ps) (lit< tt)
+
+three-numbered : (components ports frontiers : List ℕ) → Has (livenessWhole components ports frontiers)
+three-numbered components ports frontiers =
+    has 1 0 (notWhole (numberBytes * componentWidth) componentLimit (length components)) (lit< tt)
+    then has 1 1 (notWhole (numberBytes * portWidth) connectionLimit (length ports)) (lit< tt)
+    then has 1 2 (notWhole (numberBytes * frontierWidth) frontierLimit (length frontiers)) (lit< tt)
+
+liveness-told : (checked : Checked) (regions sources inputs : ℕ) → Small checked → Numbered checked
+    → (livenessNumber checked regions sources inputs % 65536 ≡ 0) ↔ (checked ≡ Accepted)
+liveness-told Accepted regions sources inputs small numbered = (λ _. refl, λ _. omega arith)
+liveness-told (Refused r) regions sources inputs small numbered = (λ e. absurd (omega arith), λ e. let z : _≡_ {A = ℕ} 0 1 = cc in absurd (omega arith))
+
+pub liveness-told-apart : (components ports frontiers regions regions′ sources sources′ inputs inputs′ sets sets′ stack stack′ : List ℕ) (r : ℕ)
+    → LivenessByBytes components ports frontiers regions regions′ sources sources′ inputs inputs′ sets sets′ stack stack′ r
+    → (r % 65536 ≡ 0) ↔ (livenessBytesRefusal components ports frontiers (length regions) (length sources) (length inputs) (length sets) (length stack) ≡ Accepted)
+liveness-told-apart components ports frontiers regions regions′ sources sources′ inputs inputs′ sets sets′ stack stack′ r laid-so =
+    let cs = numbers components in
+    let ps = numbers ports in
+    let fs = numbers frontiers in
+    let enough = roomFor setCount wordCount (length sets / numberBytes)
+    && livenessRoom cs (length regions / numberBytes) (length sources / numberBytes) (length inputs / numberBytes) (length stack / numberBytes) in
+    let small = small-or-else (livenessWhole components ports frontiers) (livenessLists cs ps fs enough) (three-fit components ports frontiers) (λ _. liveness-small cs ps fs enough) in
+    let numbered = three-numbered components ports frontiers then liveness-numbered cs ps fs enough in
+    rw (laid-so .answer)
+    (liveness-told (livenessBytesRefusal components ports frontiers (length regions) (length sources) (length inputs) (length sets) (length stack)) _ _ _ small (numbered .number))

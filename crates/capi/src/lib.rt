@@ -53,11 +53,11 @@ pub extern "C" fn dustroute_liveness(
 ) -> u64
     ensures { λ r. ⌜ LivenessByBytes (now (components .entry)) (now (ports .entry)) (now (frontiers .entry)) (now (regions .entry)) (now (regions .exit)) (now (sources .entry)) (now (sources .exit)) (now (inputs .entry)) (now (inputs .exit)) (now (sets .entry)) (now (sets .exit)) (now (stack .entry)) (now (stack .exit)) r ⌝ }
 {
-    let first = not_whole(NUMBER * COMPONENT, COMPONENTS, components.len());
-    let second = not_whole(NUMBER * PORT, CONNECTIONS, ports.len());
-    let third = not_whole(NUMBER * FRONTIER, FRONTIERS, frontiers.len());
-    let later = or_else(refuse_at(1, 1, second), refuse_at(1, 2, third));
-    let whole = or_else(refuse_at(1, 0, first), later);
+    let in_components = not_whole(NUMBER * COMPONENT, COMPONENTS, components.len());
+    let in_ports = not_whole(NUMBER * PORT, CONNECTIONS, ports.len());
+    let in_frontiers = not_whole(NUMBER * FRONTIER, FRONTIERS, frontiers.len());
+    let later = or_else(refuse_at(1, 1, in_ports), refuse_at(1, 2, in_frontiers));
+    let whole = or_else(refuse_at(1, 0, in_components), later);
     let Checked::Accepted = whole else {
         return pack(whole);
     };
