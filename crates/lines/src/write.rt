@@ -19,7 +19,7 @@ fn magnitude(value: i64) -> u64
 }
 
 // How many decimal digits a number has.
-fn digit_count(n: u64) -> usize
+pub fn digit_count(n: u64) -> usize
     ensures { λ r. ⌜ r ≡ length (digits n []) ⌝ }
 {
     let mut k = 1;
@@ -31,7 +31,7 @@ fn digit_count(n: u64) -> usize
     k
 }
 
-fn put_byte(out: &mut [u8], b: u8) -> usize
+pub fn put_byte(out: &mut [u8], b: u8) -> usize
     requires { ⌜ 1 ≤ length (now out) ⌝ }
     ensures { λ r. ⌜ Wrote (b ∷ []) (now (out .entry)) (now (out .exit)) r ⌝ }
 {
@@ -39,7 +39,7 @@ fn put_byte(out: &mut [u8], b: u8) -> usize
     1
 }
 
-fn put_bytes(out: &mut [u8], bytes: &[u8]) -> usize
+pub fn put_bytes(out: &mut [u8], bytes: &[u8]) -> usize
     requires { ⌜ length (now bytes) ≤ length (now out) ⌝ }
     ensures { λ r. ⌜ Wrote (now (bytes .entry)) (now (out .entry)) (now (out .exit)) r ⌝ }
 {
@@ -51,7 +51,7 @@ fn put_bytes(out: &mut [u8], bytes: &[u8]) -> usize
     i
 }
 
-fn put_digits(out: &mut [u8], n: u64) -> usize
+pub fn put_digits(out: &mut [u8], n: u64) -> usize
     requires { ⌜ length (digits n []) ≤ length (now out) ⌝ }
     ensures { λ r. ⌜ Wrote (digits n []) (now (out .entry)) (now (out .exit)) r ⌝ }
 {

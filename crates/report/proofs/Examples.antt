@@ -1,0 +1,40 @@
+-- The worked example of document 01, as antt computes it: Lever 1 at 0,0,0 and Repeater 2 at 1,0,0 facing 2, one connection 1 to 2 of kind 5,
+-- no frontier.
+-- Assumes nothing.
+use mathlib.Core.Path.{_≡_, refl}
+use mathlib.Core.List.{List, [], _∷_}
+use lib.IntN.{ℤ, pos}
+use Rattle.sets.specs.Members.{countBelow}
+use Rattle.lists.specs.First.{firstFrom, tabulate}
+use Rattle.lists.specs.Ids.{placeBelow, smallerIds}
+use Rattle.lines.specs.Text.{ascii}
+use Rattle.lines.specs.Decimal.{digitsThen}
+use Rattle.sheet.specs.Writing.{fieldLines}
+use Rattle.circuit.specs.Forest as forest
+use Rattle.circuit.specs.Groups.{rootsBelow, groupsOf}
+use Rattle.circuit.specs.Topology.{joins}
+use Rattle.scene.specs.Ports.{opposite, faceOr, neither, repeaterPorts, portsFor}
+use Rattle.scene.specs.Select.{serves, selectPort, transferOf}
+use Rattle.scene.specs.Step.{shiftBetween, facingBetween}
+use Rattle.scene.specs.Kept.{portsBetween, rowsBelow}
+use Rattle.regions.specs.Graph as graph
+use Rattle.regions.specs.Kosaraju as walk
+use Rattle.liveness.specs.Signals.{signals}
+use Rattle.liveness.specs.Sources.{sourceKind, firstAt, onFrontier}
+use Rattle.liveness.specs.Regions.{isCyclic, hasDrive, fedFromOutside, neighbours, isInferred}
+use Rattle.liveness.specs.Drive.{membersWhere, drive, potential}
+use Rattle.liveness.specs.Verdicts.{fedBy, statusOf, portRows, verdictRows, sourcesAt, sourceRowsBelow}
+use Rattle.liveness.specs.Query.{isImmediate, upstream, isInferredFor}
+use Rattle.report.specs.Report.{allRows, spaced, memberId, idsBelow, portLines, verdictLines, reportOf}
+
+abbrev leverAndRepeater : List ℤ
+leverAndRepeater =
+    pos 1 ∷ pos 0 ∷ pos 0 ∷ pos 0 ∷ pos 4 ∷ pos 0 ∷ pos 0 ∷ pos 0
+    ∷ pos 2 ∷ pos 1 ∷ pos 0 ∷ pos 0 ∷ pos 1 ∷ pos 2 ∷ pos 0 ∷ pos 0 ∷ []
+
+abbrev fromLever : List ℤ
+fromLever = pos 1 ∷ pos 2 ∷ pos 5 ∷ []
+
+pub worked-report : reportOf leverAndRepeater fromLever [] ≡ ascii "answer=0\ncomponents=2\nid=1\nnet=0\nfragment=0\nregion=0\ndrive=1\npotential=1\nid=2\nnet=1\nfragment=0\nregion=1\ndrive=1\npotential=1\nconnections=1\nsource=1\nsource_port=1\nsink=2\nsink_port=1\ntransfer=4\nregions=2\ncyclic=0\nhas_drive=1\ncyclic=0\nhas_drive=0\nsources=1\nid=1\nkind=0\ninputs=1\ndevice=2\nport=1\nstatus=0\nimmediate=1\ninferred=\n"
+unfolding countBelow firstFrom tabulate placeBelow smallerIds digitsThen fieldLines forest.range forest.singletons forest.redirect forest.link forest.uniteRoots forest.unite forest.uniteAll rootsBelow groupsOf joins opposite faceOr neither repeaterPorts portsFor serves selectPort transferOf shiftBetween facingBetween portsBetween rowsBelow graph.range graph.filter graph.each graph.next walk.visit walk.order walk.paint walk.label walk.labels walk.reached signals sourceKind firstAt onFrontier isCyclic hasDrive fedFromOutside neighbours isInferred membersWhere drive potential fedBy statusOf portRows verdictRows sourcesAt sourceRowsBelow isImmediate upstream isInferredFor allRows spaced memberId idsBelow portLines verdictLines reportOf
+worked-report = refl

@@ -1,0 +1,73 @@
+-- The lines of a block's rows, a line at a time, and how long a line is at most.
+--     fields-one, fields-none     line k and the lines after it; none
+--     field-short, count-short    a line of a block fits in 40 bytes
+-- Assumes nothing.
+use mathlib.Core.Path.{_≡_, refl}
+use mathlib.Core.Bool.{Bool, true, false, cond, _&&_}
+use mathlib.Core.List.{List, [], _∷_, _++_, map}
+use Prim.Native.Nat.{ℕ, zero, suc, _+_, _≤_, _<_}
+use native.Mathlib.Omega.{arith}
+use lib.Dec.{eqb, leb}
+use lib.IntN.{pos}
+use lib.ListN.{length, getD, drop, drop-of-length-le}
+use lib.Seq.{drop-cons}
+use borrow.Author.Tests.{leb-true}
+use Rattle.lists.proofs.Search.{both}
+use Rattle.lines.specs.Decimal.{limit, digits, lineOf}
+use Rattle.lines.proofs.Digits.{count-most, length-of-digits}
+use Rattle.lines.proofs.Writing.{line-size}
+use Rattle.sheet.specs.Keys.{fieldKey}
+use Rattle.sheet.specs.Writing.{fieldLines}
+use Rattle.report.specs.Report.{componentKeys, connectionKeys, regionKeys, sourceKeys, inputKeys}
+use Rattle.report.specs.Blocks.{blockKeys, countName}
+
+module _ (keys : List (List ℕ)) (k : ℕ) (rows : List ℕ) where
+  pub fields-one : k < length rows → fieldLines keys k (map pos (drop k rows)) ≡ lineOf (fieldKey keys k) (pos (getD rows k 0)) ++ fieldLines keys (suc k) (map pos (drop (suc k) rows))
+  unfolding fieldLines
+  fields-one h = rw (drop-cons rows k 0 h)
+
+  pub fields-none : length rows ≤ k → fieldLines keys k (map pos (drop k rows)) ≡ []
+  unfolding fieldLines
+  fields-none h = rw (drop-of-length-le rows h)
+
+-- ---- lengths
+
+-- of two, whichever the test takes
+either : {A : Type 0} (P : A → Type 0) (t : Bool) {x y : A} → P x → P y → P (cond t x y)
+either P true p q = p
+either P false p q = q
+
+abbrev allShort : List (List ℕ) → Bool
+allShort [] = true
+allShort (key ∷ keys) = leb (length key) 11 && allShort keys
+
+abbrev Short : List (List ℕ) → Type 0
+Short keys = allShort keys ≡ true
+
+short-at : (keys : List (List ℕ)) (j : ℕ) → Short keys → length (getD keys j []) ≤ 11
+short-at [] j e = omega arith
+short-at (key ∷ keys) zero e = leb-true (length key) 11 (both (leb (length key) 11) (allShort keys) e .0)
+short-at (key ∷ keys) (suc j) e = short-at keys j (both (leb (length key) 11) (allShort keys) e .1)
+
+block-short : (b : ℕ) → Short (blockKeys b)
+block-short b =
+    either Short (eqb b 0) {x = componentKeys} refl
+    (either Short (eqb b 1) {x = connectionKeys} refl
+    (either Short (eqb b 2) {x = regionKeys} refl (either Short (eqb b 3) {x = sourceKeys} {y = inputKeys} refl refl)))
+
+name-short : (b : ℕ) → length (countName b) ≤ 11
+name-short b =
+    let P : List ℕ → Type 0 = λ key. length key ≤ 11 in
+    either P (eqb b 0) (omega arith)
+    (either P (eqb b 1) (omega arith) (either P (eqb b 2) (omega arith) (either P (eqb b 3) (omega arith) (omega arith))))
+
+line-short : (key : List ℕ) (value : ℕ) → length key ≤ 11 → value ≤ limit → 0 + length (lineOf key (pos value)) ≤ 40
+line-short key value h l =
+    let small : value < 18446744073709551616 = omega arith in
+    omega (arith, line-size key (pos value), length-of-digits value small [], count-most value small)
+
+pub field-short : (b k value : ℕ) → value ≤ limit → 0 + length (lineOf (fieldKey (blockKeys b) k) (pos value)) ≤ 40
+field-short b k value l = line-short (fieldKey (blockKeys b) k) value (short-at (blockKeys b) _ (block-short b)) l
+
+pub count-short : (b count : ℕ) → count ≤ limit → 0 + length (lineOf (countName b) (pos count)) ≤ 40
+count-short b count l = line-short (countName b) count (name-short b) l

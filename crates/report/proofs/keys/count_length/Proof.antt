@@ -1,0 +1,23 @@
+-- `report::keys::count_length` meets its contract: a line fits in 40 bytes, and ends where it was written to.
+-- Assumes nothing.
+use borrow.Author.Needs.{needs}
+use native.Mathlib.Omega.{arith}
+use Rattle.report.proofs.FieldText.{count-short}
+use Rattle.report.proofs.keys.count_length.Statement.{statement}
+use Rattle.report.proofs.keys.count_length.Tie as tie
+
+put-count-requires : tie.Need-put-count-requires
+put-count-requires c κs =
+    let s = c .before in
+    (s .pre, count-short (s .args .block) (s .args .count) (s .pre))
+
+returns : tie.Need-returns
+returns c = omega (arith, c .before .put-count .ensures .count)
+
+pub count-length-spec : {M : Type 1} → statement M
+count-length-spec =
+    tie.close
+    (tie.spec
+    (λ c. search needs)
+    put-count-requires
+    returns)
