@@ -38,3 +38,11 @@ fromLever = pos 1 ∷ pos 2 ∷ pos 5 ∷ []
 pub worked-report : reportOf leverAndRepeater fromLever [] ≡ ascii "answer=0\ncomponents=2\nid=1\nnet=0\nfragment=0\nregion=0\ndrive=1\npotential=1\nid=2\nnet=1\nfragment=0\nregion=1\ndrive=1\npotential=1\nconnections=1\nsource=1\nsource_port=1\nsink=2\nsink_port=1\ntransfer=4\nregions=2\ncyclic=0\nhas_drive=1\ncyclic=0\nhas_drive=0\nsources=1\nid=1\nkind=0\ninputs=1\ndevice=2\nport=1\nstatus=0\nimmediate=1\ninferred=\n"
 unfolding countBelow firstFrom tabulate placeBelow smallerIds digitsThen fieldLines forest.range forest.singletons forest.redirect forest.link forest.uniteRoots forest.unite forest.uniteAll rootsBelow groupsOf joins opposite faceOr neither repeaterPorts portsFor serves selectPort transferOf shiftBetween facingBetween portsBetween rowsBelow graph.range graph.filter graph.each graph.next walk.visit walk.order walk.paint walk.label walk.labels walk.reached signals sourceKind firstAt onFrontier isCyclic hasDrive fedFromOutside neighbours isInferred membersWhere drive potential fedBy statusOf portRows verdictRows sourcesAt sourceRowsBelow isImmediate upstream isInferredFor allRows spaced memberId idsBelow portLines verdictLines reportOf
 worked-report = refl
+
+-- a Support connection more, which is dropped, changes nothing: `connections=` counts those kept
+abbrev andSupport : List ℤ
+andSupport = pos 1 ∷ pos 2 ∷ pos 5 ∷ pos 2 ∷ pos 1 ∷ pos 9 ∷ []
+
+pub dropped-uncounted : reportOf leverAndRepeater andSupport [] ≡ reportOf leverAndRepeater fromLever []
+unfolding countBelow firstFrom tabulate placeBelow smallerIds digitsThen fieldLines forest.range forest.singletons forest.redirect forest.link forest.uniteRoots forest.unite forest.uniteAll rootsBelow groupsOf joins opposite faceOr neither repeaterPorts portsFor serves selectPort transferOf shiftBetween facingBetween portsBetween rowsBelow graph.range graph.filter graph.each graph.next walk.visit walk.order walk.paint walk.label walk.labels walk.reached signals sourceKind firstAt onFrontier isCyclic hasDrive fedFromOutside neighbours isInferred membersWhere drive potential fedBy statusOf portRows verdictRows sourcesAt sourceRowsBelow isImmediate upstream isInferredFor allRows spaced memberId idsBelow portLines verdictLines reportOf
+dropped-uncounted = refl

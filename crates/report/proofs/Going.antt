@@ -1,6 +1,6 @@
 -- A text that is written a piece at a time: what stands and what is still to be written are the whole.
 --     goes-from, goes-room, goes-on, goes-done     nothing stands yet; room for the next piece; a piece more; nothing is left
---     left-none, left-then                         the room that is left, a piece at a time
+--     left-none, left-then, left-on                the room that is left, a piece at a time
 --     left-fits, left-short                        what the last answer says of the whole
 -- Assumes nothing.
 use mathlib.Core.Path.{_≡_, refl, sym, ap, _∙_}
@@ -8,7 +8,7 @@ use mathlib.Core.Logic.{⊎-elim}
 use mathlib.Core.List.{List, [], _++_, append-assoc, append-nil}
 use Prim.Native.Nat.{ℕ, _+_, _-_, _≤_, _<_}
 use native.Mathlib.Omega.{arith}
-use lib.ListN.{length, take, drop, length-append, take-append-drop}
+use lib.ListN.{length, length-append, take-append-drop}
 use borrow.Author.Tests.{le-leb, lt-leb}
 use Rattle.tables.specs.Laws.{order?}
 use Rattle.lists.specs.declared.Found.{Found}
@@ -73,6 +73,13 @@ left-then (At left) m n =
     (λ (h : left < m). ap (λ f. leftAfter f n) (left-over left m h) ∙ sym (left-over left (m + n) (omega arith)))
     (order? m left)
 left-then Nothing m n = refl
+
+-- t is measured, and then u is left of s = t ++ u
+pub left-on : (rest : Found) (t u : List ℕ) {s : List ℕ} {less whole : Found} {m : ℕ} → s ≡ t ++ u → m ≡ length t → less ≡ leftAfter rest m → leftAfter rest (length s) ≡ whole
+    → leftAfter less (length u) ≡ whole
+left-on rest t u {s} {less} {whole} {m} e f l w =
+    let both : m + length u ≡ length s = omega (arith, ap length e, length-append t u) in
+    ap (λ (r : Found). leftAfter r (length u)) l ∙ left-then rest m (length u) ∙ ap (leftAfter rest) both ∙ w
 
 -- ---- the whole fits, or it does not
 

@@ -1,13 +1,15 @@
 -- The ids of a set's members, a member at a time.
 --     ids-least, text-at, text-end     from a place on: the least member's id, and then those behind it
+--     ids-from, ids-room, ids-on, ..   the line's rest, written and measured a member at a time
 --     ids-are                          by the table of ids they are the ids of the components that pass the set's test
 -- Assumes nothing.
-use mathlib.Core.Path.{_≡_, refl, sym, ap, _∙_}
-use mathlib.Core.Bool.{Bool, true, false, cond, _&&_}
+use mathlib.Core.Path.{_≡_, refl, sym, ap, _∙_, subst}
+use mathlib.Core.Bool.{Bool, true, false, cond}
 use mathlib.Core.Logic.{⊎-elim}
 use mathlib.Core.List.{List, [], _∷_, _++_, append-nil, append-assoc}
 use Prim.Native.Nat.{ℕ, zero, suc, _+_, _-_, _*_, _/_, _≤_, _<_}
 use native.Mathlib.Nat.{add-zero, zero-add}
+use native.Mathlib.Numerals.{add-one}
 use native.Mathlib.Omega.{arith}
 use lib.Dec.{eqb, ltb}
 use lib.IntN.{ℤ}
@@ -16,7 +18,7 @@ use borrow.Author.Tests.{eqb-true, eq-eqb, lt-ltb, le-ltb}
 use Rattle.tables.specs.Laws.{order?}
 use Rattle.tables.specs.Pairs.{span}
 use Rattle.sets.specs.Members.{memberOf, LeastFrom}
-use Rattle.lists.specs.Records.{component, componentCount}
+use Rattle.lists.specs.Records.{componentCount}
 use Rattle.lists.specs.First.{firstFrom}
 use Rattle.lists.specs.Ids as ids
 use Rattle.lists.specs.Ids.{IdTable, MemberId, firstRepeated}
@@ -26,10 +28,12 @@ use Rattle.lists.proofs.Search.{never, none-found, found-at}
 use Rattle.lists.proofs.Table.{table-long}
 use Rattle.lists.proofs.Members.{member-key, member-id}
 use Rattle.lines.specs.Decimal.{digits}
+use Rattle.lines.specs.Wrote.{Put}
 use Rattle.lines.proofs.Digits.{digits-append}
 use Rattle.liveness.specs.Sets.{SetWhere}
 use Rattle.report.specs.Report.{spaced, idAt, memberId, idsBelow, idsWhere}
-use Rattle.report.specs.Blocks.{idsFrom, idsIn, blankIf}
+use Rattle.report.specs.Blocks.{idsFrom, idsIn, blankIf, leftAfter}
+use Rattle.report.proofs.Going.{Going, goes-from, goes-room, goes-on, goes-done, left-none, left-on}
 
 spaced-last : (id : ℕ) → spaced (id ∷ []) ≡ digits id [] ++ spaced []
 unfolding spaced
@@ -107,6 +111,95 @@ module _ (keys words : List ℕ) where
           ++ cond (memberOf words (suc m + k)) (getD keys (suc m + k) 0 / span ∷ []) []
       go true e = ap (λ (l : List ℕ). getD keys m 0 / span ∷ l) e
       go false e = e
+
+-- ---- a member at a time
+
+-- a search from a place on does not answer a place before it
+pub least-past : (words : List ℕ) (start n r : ℕ) → start ≤ n → n ≤ 64 * length words → LeastFrom words start r → start ≤ r
+least-past words start n r h w l =
+    ⊎-elim (λ (past : 64 * length words ≤ r). omega arith) (λ (less : r < 64 * length words). l .found less .0) (order? (64 * length words) r)
+
+module _ (keys words : List ℕ) where
+  -- what follows the sign `=`
+  abbrev pub listed : List ℕ
+  listed = spaced (idsIn keys words) ++ (10 ∷ [])
+
+  -- the ids of the members from m on are still to be written, and m is one of them
+  pub record IdsGoing (at : ℕ) (old new : List ℕ) (p m : ℕ) : Type 0 where
+    pub member : m < length keys → memberOf words m ≡ true
+    pub going : Going listed at old (spaced (idsFrom keys words m (length keys - m)) ++ (10 ∷ [])) new p
+
+  -- or to be measured
+  pub record IdsLeft (first rest : Found) (m : ℕ) : Type 0 where
+    pub member : m < length keys → memberOf words m ≡ true
+    pub left : leftAfter rest (length (spaced (idsFrom keys words m (length keys - m)))) ≡ leftAfter first (length (spaced (idsIn keys words)))
+
+  module _ (w : length keys ≤ 64 * length words) where
+    first-ids : {r : ℕ} → LeastFrom words 0 r → idsIn keys words ≡ idsFrom keys words r (length keys - r)
+    first-ids {r} l =
+        let e : length keys ≡ length keys - 0 = omega arith in
+        ap (idsFrom keys words 0) e ∙ ids-least keys words 0 (length keys) r (omega arith) w l
+
+    found-member : {start r : ℕ} → LeastFrom words start r → r < length keys → memberOf words r ≡ true
+    found-member l h = l .found (omega arith) .1
+
+    pub ids-from : {at r : ℕ} {old : List ℕ} → at + length listed ≤ length old → LeastFrom words 0 r → IdsGoing at old old at r
+    ids-from {at} {r} {old} h l = record {
+      member = found-member l;
+      going = subst (λ (s : List ℕ). Going listed at old (spaced s ++ (10 ∷ [])) old at) (first-ids l) (goes-from h);
+    }
+
+    pub left-from : {r : ℕ} {first : Found} → LeastFrom words 0 r → IdsLeft first first r
+    left-from {r} {first} l = record {
+      member = found-member l;
+      left = ap (λ (s : List ℕ). leftAfter first (length (spaced s))) (sym (first-ids l));
+    }
+
+    module _ (m next : ℕ) (h : m < length keys) (l : LeastFrom words (m + 1) next) where
+      -- what is written of member m
+      abbrev pub idText : List ℕ
+      idText = digits (getD keys m 0 / span) (blankIf (ltb next (length keys)))
+
+      next-text : memberOf words m ≡ true → spaced (idsFrom keys words m (length keys - m)) ≡ idText ++ spaced (idsFrom keys words next (length keys - next))
+      next-text e = text-at keys words m (length keys) next h w e (rw (add-one m) at l)
+
+      next-going : {at p : ℕ} {old new : List ℕ} → IdsGoing at old new p m
+          → Going listed at old (idText ++ (spaced (idsFrom keys words next (length keys - next)) ++ (10 ∷ []))) new p
+      next-going {at} {p} {old} {new} g =
+          let e = next-text (g .member h) in
+          subst (λ (s : List ℕ). Going listed at old s new p)
+          (ap (λ (s : List ℕ). s ++ (10 ∷ [])) e ∙ append-assoc idText (spaced (idsFrom keys words next (length keys - next))) (10 ∷ []))
+          (g .going)
+
+      pub ids-room : {at p : ℕ} {old new : List ℕ} → at + length listed ≤ length old → IdsGoing at old new p m → p + length idText ≤ length new
+      ids-room r g = goes-room idText (spaced (idsFrom keys words next (length keys - next)) ++ (10 ∷ [])) r (next-going g)
+
+      pub ids-on : {at p q : ℕ} {old new newer : List ℕ} → IdsGoing at old new p m → Put p idText new newer q → IdsGoing at old newer q next
+      ids-on g s = record {
+        member = found-member l;
+        going = goes-on idText (spaced (idsFrom keys words next (length keys - next)) ++ (10 ∷ [])) (next-going g) s;
+      }
+
+      pub left-next : {n : ℕ} {first rest less : Found} → IdsLeft first rest m → n ≡ length idText → less ≡ leftAfter rest n → IdsLeft first less next
+      left-next {n} {first} {rest} {less} g e f = record {
+        member = found-member l;
+        left = left-on rest idText (spaced (idsFrom keys words next (length keys - next))) (next-text (g .member h)) e f (g .left);
+      }
+
+  -- the last sign
+  last-going : {at p m : ℕ} {old new : List ℕ} → length keys ≤ m → IdsGoing at old new p m → Going listed at old ((10 ∷ []) ++ []) new p
+  last-going {at} {p} {m} {old} {new} h g =
+      subst (λ (s : List ℕ). Going listed at old (s ++ (10 ∷ [])) new p) (text-end keys words m (length keys) h) (g .going)
+
+  pub ids-last : {at p m : ℕ} {old new : List ℕ} → at + length listed ≤ length old → length keys ≤ m → IdsGoing at old new p m → p + 1 ≤ length new
+  ids-last r h g = goes-room (10 ∷ []) [] r (last-going h g)
+
+  pub ids-done : {at p q m : ℕ} {old new newer : List ℕ} → length keys ≤ m → IdsGoing at old new p m → Put p (10 ∷ []) new newer q → Put at listed old newer q
+  ids-done h g s = goes-done (goes-on (10 ∷ []) [] (last-going h g) s)
+
+  pub left-done : {m : ℕ} {first rest : Found} → length keys ≤ m → IdsLeft first rest m → rest ≡ leftAfter first (length (spaced (idsIn keys words)))
+  left-done {m} {first} {rest} h g =
+      sym (left-none rest) ∙ ap (λ (s : List ℕ). leftAfter rest (length s)) (sym (text-end keys words m (length keys) h)) ∙ g .left
 
 -- ---- by the table of ids
 

@@ -2,4 +2,6 @@
 pub mod Going
 pub mod FieldText
 pub mod IdText
+pub mod RowText
+pub mod Shown
 mod Examples

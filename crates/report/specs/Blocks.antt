@@ -4,7 +4,7 @@
 --     idsIn                              the ids of a set's members, by the table of ids
 --     componentRowBy, regionRowBy        rows by what the entries wrote and answered
 -- Assumes nothing: these are definitions.
-use Prim.Native.Nat.{ℕ, zero, suc, _-_, _/_, _≤_, _<_}
+use Prim.Native.Nat.{ℕ, zero, suc, _-_, _/_}
 use mathlib.Core.Path.{_≡_}
 use mathlib.Core.Bool.{Bool, true, false, cond}
 use mathlib.Core.List.{List, [], _∷_, map}
@@ -17,9 +17,7 @@ use Rattle.lists.specs.Records.{component}
 use Rattle.lists.specs.Ids as ids
 use Rattle.lists.specs.declared.Found.{Found}
 use Rattle.lists.specs.declared.Found.the-variants.{At, Nothing}
-use Rattle.lists.specs.declared.Refusal.{Refusal}
 use Rattle.lines.specs.Text.{ascii}
-use Rattle.lines.specs.Decimal.{limit}
 use Rattle.report.specs.Report.{componentKeys, connectionKeys, regionKeys, sourceKeys, inputKeys, block}
 
 -- ---- blocks
@@ -37,11 +35,6 @@ countName b =
 
 abbrev pub blockText : ℕ → List ℕ → List ℕ
 blockText b rows = block (countName b) (blockKeys b) rows
-
--- the count of the rows and each of their numbers can stand in a line
-pub record Printable (rows : List ℕ) : Type 0 where
-  pub few : length rows ≤ limit
-  pub small : (i : ℕ) → i < length rows → getD rows i 0 ≤ limit
 
 -- ---- room
 
@@ -65,12 +58,6 @@ idsIn keys words = idsFrom keys words 0 (length keys)
 abbrev pub blankIf : Bool → List ℕ
 blankIf true = 32 ∷ []
 blankIf false = []
-
--- a refusal's numbers can stand in lines
-pub record PrintableRefusal (r : Refusal) : Type 0 where
-  pub small-number : r .number ≤ limit
-  pub small-list : r .list ≤ limit
-  pub small-item : r .item ≤ limit
 
 -- ---- rows
 

@@ -5,7 +5,7 @@ ghost use mathlib.Core.List.{[]};
 ghost use Prim.Native.Nat.{_+_, _≤_, _<_};
 ghost use lib.ListN.{length, getD};
 ghost use lib.IntN.{pos};
-ghost use Rattle.lines.specs.Decimal.{limit, lineOf};
+ghost use Rattle.lines.specs.Decimal.{lineOf};
 ghost use Rattle.lines.specs.Wrote.{Put};
 ghost use Rattle.sheet.specs.Keys.{fieldKey};
 ghost use Rattle.report.specs.Report.{componentKeys, connectionKeys, regionKeys, sourceKeys, inputKeys};
@@ -26,7 +26,7 @@ pub fn width(block: u64) -> usize
 
 // Line j of a component.
 fn put_component(out: &mut [u8], at: usize, j: usize, value: u64) -> usize
-    requires { ⌜ (value ≤ limit) × (j < 6) ⌝ }
+    requires { ⌜ j < 6 ⌝ }
     requires { ⌜ at + length (lineOf (getD componentKeys j []) (pos value)) ≤ length (now out) ⌝ }
     ensures { λ r. ⌜ Put at (lineOf (getD componentKeys j []) (pos value)) (now (out .entry)) (now (out .exit)) r ⌝ }
 {
@@ -42,7 +42,7 @@ fn put_component(out: &mut [u8], at: usize, j: usize, value: u64) -> usize
 
 // Line j of a connection.
 fn put_connection(out: &mut [u8], at: usize, j: usize, value: u64) -> usize
-    requires { ⌜ (value ≤ limit) × (j < 5) ⌝ }
+    requires { ⌜ j < 5 ⌝ }
     requires { ⌜ at + length (lineOf (getD connectionKeys j []) (pos value)) ≤ length (now out) ⌝ }
     ensures { λ r. ⌜ Put at (lineOf (getD connectionKeys j []) (pos value)) (now (out .entry)) (now (out .exit)) r ⌝ }
 {
@@ -57,7 +57,7 @@ fn put_connection(out: &mut [u8], at: usize, j: usize, value: u64) -> usize
 
 // Line j of a region.
 fn put_region(out: &mut [u8], at: usize, j: usize, value: u64) -> usize
-    requires { ⌜ (value ≤ limit) × (j < 2) ⌝ }
+    requires { ⌜ j < 2 ⌝ }
     requires { ⌜ at + length (lineOf (getD regionKeys j []) (pos value)) ≤ length (now out) ⌝ }
     ensures { λ r. ⌜ Put at (lineOf (getD regionKeys j []) (pos value)) (now (out .entry)) (now (out .exit)) r ⌝ }
 {
@@ -69,7 +69,7 @@ fn put_region(out: &mut [u8], at: usize, j: usize, value: u64) -> usize
 
 // Line j of a source.
 fn put_source(out: &mut [u8], at: usize, j: usize, value: u64) -> usize
-    requires { ⌜ (value ≤ limit) × (j < 2) ⌝ }
+    requires { ⌜ j < 2 ⌝ }
     requires { ⌜ at + length (lineOf (getD sourceKeys j []) (pos value)) ≤ length (now out) ⌝ }
     ensures { λ r. ⌜ Put at (lineOf (getD sourceKeys j []) (pos value)) (now (out .entry)) (now (out .exit)) r ⌝ }
 {
@@ -81,7 +81,7 @@ fn put_source(out: &mut [u8], at: usize, j: usize, value: u64) -> usize
 
 // Line j of an input.
 fn put_verdict(out: &mut [u8], at: usize, j: usize, value: u64) -> usize
-    requires { ⌜ (value ≤ limit) × (j < 3) ⌝ }
+    requires { ⌜ j < 3 ⌝ }
     requires { ⌜ at + length (lineOf (getD inputKeys j []) (pos value)) ≤ length (now out) ⌝ }
     ensures { λ r. ⌜ Put at (lineOf (getD inputKeys j []) (pos value)) (now (out .entry)) (now (out .exit)) r ⌝ }
 {
@@ -94,7 +94,6 @@ fn put_verdict(out: &mut [u8], at: usize, j: usize, value: u64) -> usize
 
 // Line k of a block's rows.
 pub fn put_field(out: &mut [u8], at: usize, block: u64, k: usize, value: u64) -> usize
-    requires { ⌜ value ≤ limit ⌝ }
     requires { ⌜ at + length (lineOf (fieldKey (blockKeys block) k) (pos value)) ≤ length (now out) ⌝ }
     ensures { λ r. ⌜ Put at (lineOf (fieldKey (blockKeys block) k) (pos value)) (now (out .entry)) (now (out .exit)) r ⌝ }
 {
@@ -109,7 +108,6 @@ pub fn put_field(out: &mut [u8], at: usize, block: u64, k: usize, value: u64) ->
 
 // The line of a block's count.
 pub fn put_count(out: &mut [u8], at: usize, block: u64, count: u64) -> usize
-    requires { ⌜ count ≤ limit ⌝ }
     requires { ⌜ at + length (lineOf (countName block) (pos count)) ≤ length (now out) ⌝ }
     ensures { λ r. ⌜ Put at (lineOf (countName block) (pos count)) (now (out .entry)) (now (out .exit)) r ⌝ }
 {
@@ -124,7 +122,6 @@ pub fn put_count(out: &mut [u8], at: usize, block: u64, count: u64) -> usize
 
 // How many bytes line k of a block's rows takes.
 pub(crate) fn field_length(block: u64, k: usize, value: u64) -> usize
-    requires { ⌜ value ≤ limit ⌝ }
     ensures { λ r. ⌜ r ≡ length (lineOf (fieldKey (blockKeys block) k) (pos value)) ⌝ }
 {
     let mut line = [0u8; 40];
@@ -133,7 +130,6 @@ pub(crate) fn field_length(block: u64, k: usize, value: u64) -> usize
 
 // How many bytes the line of a block's count takes.
 pub(crate) fn count_length(block: u64, count: u64) -> usize
-    requires { ⌜ count ≤ limit ⌝ }
     ensures { λ r. ⌜ r ≡ length (lineOf (countName block) (pos count)) ⌝ }
 {
     let mut line = [0u8; 40];

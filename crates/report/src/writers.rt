@@ -3,24 +3,14 @@ use lines::write::digit_count;
 use lines::write::put_byte;
 use lines::write::put_bytes;
 use lines::write::put_digits;
-use lines::write::put_line;
 ghost use mathlib.Core.Path.{_≡_};
 ghost use mathlib.Core.List.{[], _∷_, _++_};
 ghost use Prim.Native.Nat.{_+_, _≤_};
 ghost use lib.ListN.{length};
 ghost use lib.IntN.{pos};
-ghost use Rattle.lines.specs.Decimal.{limit, digits, lineOf};
+ghost use Rattle.lines.specs.Decimal.{digits, lineOf};
 ghost use Rattle.lines.specs.Wrote.{Put};
 ghost use Rattle.report.specs.Blocks.{blankIf};
-
-// The line of a key and a number with no sign.
-pub(crate) fn put_natural(out: &mut [u8], at: usize, key: &[u8], value: u64) -> usize
-    requires { ⌜ value ≤ limit ⌝ }
-    requires { ⌜ at + length (lineOf (now key) (pos value)) ≤ length (now out) ⌝ }
-    ensures { λ r. ⌜ Put at (lineOf (now (key .entry)) (pos value)) (now (out .entry)) (now (out .exit)) r ⌝ }
-{
-    put_line(out, at, key, value as i64)
-}
 
 fn put_text(out: &mut [u8], at: usize, bytes: &[u8]) -> usize
     requires { ⌜ at + length (now bytes) ≤ length (now out) ⌝ }
@@ -50,6 +40,16 @@ pub(crate) fn put_key(out: &mut [u8], at: usize, key: &[u8]) -> usize
 {
     let p = put_text(out, at, key);
     put_sign(out, p, b'=')
+}
+
+// The line of a key and a number with no sign.
+pub(crate) fn put_natural(out: &mut [u8], at: usize, key: &[u8], value: u64) -> usize
+    requires { ⌜ at + length (lineOf (now key) (pos value)) ≤ length (now out) ⌝ }
+    ensures { λ r. ⌜ Put at (lineOf (now (key .entry)) (pos value)) (now (out .entry)) (now (out .exit)) r ⌝ }
+{
+    let a = put_key(out, at, key);
+    let b = put_decimal(out, a, value);
+    put_sign(out, b, b'\n')
 }
 
 // A number, and a blank where more follow.

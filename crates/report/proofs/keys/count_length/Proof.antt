@@ -9,7 +9,7 @@ use Rattle.report.proofs.keys.count_length.Tie as tie
 put-count-requires : tie.Need-put-count-requires
 put-count-requires c κs =
     let s = c .before in
-    (s .pre, count-short (s .args .block) (s .args .count) (s .pre))
+    count-short (s .args .block) (s .args .count) (s .fits .count .fits)
 
 returns : tie.Need-returns
 returns c = omega (arith, c .before .put-count .ensures .count)

@@ -9,7 +9,7 @@ use Rattle.report.proofs.keys.field_length.Tie as tie
 put-field-requires : tie.Need-put-field-requires
 put-field-requires c κs =
     let s = c .before in
-    (s .pre, field-short (s .args .block) (s .args .k) (s .args .value) (s .pre))
+    field-short (s .args .block) (s .args .k) (s .args .value) (s .fits .value .fits)
 
 returns : tie.Need-returns
 returns c = omega (arith, c .before .put-field .ensures .count)

@@ -9,34 +9,34 @@ use Rattle.report.proofs.keys.put_component.Tie as tie
 put-natural-requires : tie.Need-put-natural-requires
 put-natural-requires c κs =
     let s = c .before .before .before .before in
-    (s .pre .0 .0, rw (c .before .before .match .keys1) at (s .pre .1))
+    rw (c .before .before .match .keys1) at (s .pre .1)
 
 put-natural-requires-2 : tie.Need-put-natural-requires-2
 put-natural-requires-2 c κs =
     let s = c .before .before .before .before in
-    (s .pre .0 .0, rw (c .before .before .match .keys2) at (s .pre .1))
+    rw (c .before .before .match .keys2) at (s .pre .1)
 
 put-natural-requires-3 : tie.Need-put-natural-requires-3
 put-natural-requires-3 c κs =
     let s = c .before .before .before .before in
-    (s .pre .0 .0, rw (c .before .before .match .keys3) at (s .pre .1))
+    rw (c .before .before .match .keys3) at (s .pre .1)
 
 put-natural-requires-4 : tie.Need-put-natural-requires-4
 put-natural-requires-4 c κs =
     let s = c .before .before .before .before in
-    (s .pre .0 .0, rw (c .before .before .match .keys4) at (s .pre .1))
+    rw (c .before .before .match .keys4) at (s .pre .1)
 
 put-natural-requires-5 : tie.Need-put-natural-requires-5
 put-natural-requires-5 c κs =
     let s = c .before .before .before .before in
-    (s .pre .0 .0, rw (c .before .before .match .keys5) at (s .pre .1))
+    rw (c .before .before .match .keys5) at (s .pre .1)
 
 put-natural-requires-6 : tie.Need-put-natural-requires-6
 put-natural-requires-6 c κs =
     let s = c .before .before .before .before in
     let r = c .before .before .match .rest in
-    let e : s .args .j ≡ 5 = omega (arith, s .pre .0 .1, r .0 .0 .0 .0 .1, r .0 .0 .0 .1, r .0 .0 .1, r .0 .1, r .1) in
-    (s .pre .0 .0, rw e at (s .pre .1))
+    let e : s .args .j ≡ 5 = omega (arith, s .pre .0, r .0 .0 .0 .0 .1, r .0 .0 .0 .1, r .0 .0 .1, r .0 .1, r .1) in
+    rw e at (s .pre .1)
 
 returns : tie.Need-returns
 returns c = rw (c .before .before .before .before .before .match .keys1) (c .before .before .put-natural .ensures)
@@ -57,7 +57,7 @@ returns-6 : tie.Need-returns-6
 returns-6 c =
     let s = c .before .before .before .before .before .before .before in
     let r = c .before .before .before .before .before .match .rest in
-    let e : s .args .j ≡ 5 = omega (arith, s .pre .0 .1, r .0 .0 .0 .0 .1, r .0 .0 .0 .1, r .0 .0 .1, r .0 .1, r .1) in
+    let e : s .args .j ≡ 5 = omega (arith, s .pre .0, r .0 .0 .0 .0 .1, r .0 .0 .0 .1, r .0 .0 .1, r .0 .1, r .1) in
     rw e (c .before .before .put-natural6 .ensures)
 
 pub put-component-spec : {M : Type 1} → statement M

@@ -8,28 +8,28 @@ use Rattle.report.proofs.keys.put_count.Tie as tie
 put-natural-requires : tie.Need-put-natural-requires
 put-natural-requires c κs =
     let s = c .before .before .before .before in
-    (s .pre .0, rw (c .before .before .match .keys1) at (s .pre .1))
+    rw (c .before .before .match .keys1) at (s .pre)
 
 put-natural-requires-2 : tie.Need-put-natural-requires-2
 put-natural-requires-2 c κs =
     let s = c .before .before .before .before in
-    (s .pre .0, rw (c .before .before .match .keys2) at (s .pre .1))
+    rw (c .before .before .match .keys2) at (s .pre)
 
 put-natural-requires-3 : tie.Need-put-natural-requires-3
 put-natural-requires-3 c κs =
     let s = c .before .before .before .before in
-    (s .pre .0, rw (c .before .before .match .keys3) at (s .pre .1))
+    rw (c .before .before .match .keys3) at (s .pre)
 
 put-natural-requires-4 : tie.Need-put-natural-requires-4
 put-natural-requires-4 c κs =
     let s = c .before .before .before .before in
-    (s .pre .0, rw (c .before .before .match .keys4) at (s .pre .1))
+    rw (c .before .before .match .keys4) at (s .pre)
 
 put-natural-requires-5 : tie.Need-put-natural-requires-5
 put-natural-requires-5 c κs =
     let s = c .before .before .before .before in
     let r = c .before .before .match .rest in
-    (s .pre .0, rw (ne-eqb _ _ (r .0 .0 .0 .1), ne-eqb _ _ (r .0 .0 .1), ne-eqb _ _ (r .0 .1), ne-eqb _ _ (r .1)) at (s .pre .1))
+    rw (ne-eqb _ _ (r .0 .0 .0 .1), ne-eqb _ _ (r .0 .0 .1), ne-eqb _ _ (r .0 .1), ne-eqb _ _ (r .1)) at (s .pre)
 
 returns : tie.Need-returns
 returns c = rw (c .before .before .before .before .before .match .keys1) (c .before .before .put-natural .ensures)

@@ -9,28 +9,28 @@ use Rattle.report.proofs.keys.put_field.Tie as tie
 put-component-requires : tie.Need-put-component-requires
 put-component-requires c κs =
     let s = c .before .before .before in
-    ((s .pre .0, omega arith), rw (c .before .match .keys1) at (s .pre .1))
+    (omega arith, rw (c .before .match .keys1) at (s .pre))
 
 put-connection-requires : tie.Need-put-connection-requires
 put-connection-requires c κs =
     let s = c .before .before .before in
-    ((s .pre .0, omega arith), rw (c .before .match .keys2) at (s .pre .1))
+    (omega arith, rw (c .before .match .keys2) at (s .pre))
 
 put-region-requires : tie.Need-put-region-requires
 put-region-requires c κs =
     let s = c .before .before .before in
-    ((s .pre .0, omega arith), rw (c .before .match .keys3) at (s .pre .1))
+    (omega arith, rw (c .before .match .keys3) at (s .pre))
 
 put-source-requires : tie.Need-put-source-requires
 put-source-requires c κs =
     let s = c .before .before .before in
-    ((s .pre .0, omega arith), rw (c .before .match .keys4) at (s .pre .1))
+    (omega arith, rw (c .before .match .keys4) at (s .pre))
 
 put-verdict-requires : tie.Need-put-verdict-requires
 put-verdict-requires c κs =
     let s = c .before .before .before in
     let r = c .before .match .rest in
-    ((s .pre .0, omega arith), rw (ne-eqb _ _ (r .0 .0 .0 .1), ne-eqb _ _ (r .0 .0 .1), ne-eqb _ _ (r .0 .1), ne-eqb _ _ (r .1)) at (s .pre .1))
+    (omega arith, rw (ne-eqb _ _ (r .0 .0 .0 .1), ne-eqb _ _ (r .0 .0 .1), ne-eqb _ _ (r .0 .1), ne-eqb _ _ (r .1)) at (s .pre))
 
 returns : tie.Need-returns
 returns c = rw (c .before .before .before .before .match .keys1) (c .before .before .put-component .ensures)

@@ -9,14 +9,14 @@ use Rattle.report.proofs.keys.put_region.Tie as tie
 put-natural-requires : tie.Need-put-natural-requires
 put-natural-requires c κs =
     let s = c .before .before .before .before in
-    (s .pre .0 .0, rw (c .before .before .match .keys1) at (s .pre .1))
+    rw (c .before .before .match .keys1) at (s .pre .1)
 
 put-natural-requires-2 : tie.Need-put-natural-requires-2
 put-natural-requires-2 c κs =
     let s = c .before .before .before .before in
     let r = c .before .before .match .rest in
-    let e : s .args .j ≡ 1 = omega (arith, s .pre .0 .1, r .1) in
-    (s .pre .0 .0, rw e at (s .pre .1))
+    let e : s .args .j ≡ 1 = omega (arith, s .pre .0, r .1) in
+    rw e at (s .pre .1)
 
 returns : tie.Need-returns
 returns c = rw (c .before .before .before .before .before .match .keys1) (c .before .before .put-natural .ensures)
@@ -25,7 +25,7 @@ returns-2 : tie.Need-returns-2
 returns-2 c =
     let s = c .before .before .before .before .before .before .before in
     let r = c .before .before .before .before .before .match .rest in
-    let e : s .args .j ≡ 1 = omega (arith, s .pre .0 .1, r .1) in
+    let e : s .args .j ≡ 1 = omega (arith, s .pre .0, r .1) in
     rw e (c .before .before .put-natural2 .ensures)
 
 pub put-region-spec : {M : Type 1} → statement M

@@ -9,19 +9,19 @@ use Rattle.report.proofs.keys.put_verdict.Tie as tie
 put-natural-requires : tie.Need-put-natural-requires
 put-natural-requires c κs =
     let s = c .before .before .before .before in
-    (s .pre .0 .0, rw (c .before .before .match .keys1) at (s .pre .1))
+    rw (c .before .before .match .keys1) at (s .pre .1)
 
 put-natural-requires-2 : tie.Need-put-natural-requires-2
 put-natural-requires-2 c κs =
     let s = c .before .before .before .before in
-    (s .pre .0 .0, rw (c .before .before .match .keys2) at (s .pre .1))
+    rw (c .before .before .match .keys2) at (s .pre .1)
 
 put-natural-requires-3 : tie.Need-put-natural-requires-3
 put-natural-requires-3 c κs =
     let s = c .before .before .before .before in
     let r = c .before .before .match .rest in
-    let e : s .args .j ≡ 2 = omega (arith, s .pre .0 .1, r .0 .1, r .1) in
-    (s .pre .0 .0, rw e at (s .pre .1))
+    let e : s .args .j ≡ 2 = omega (arith, s .pre .0, r .0 .1, r .1) in
+    rw e at (s .pre .1)
 
 returns : tie.Need-returns
 returns c = rw (c .before .before .before .before .before .match .keys1) (c .before .before .put-natural .ensures)
@@ -33,7 +33,7 @@ returns-3 : tie.Need-returns-3
 returns-3 c =
     let s = c .before .before .before .before .before .before .before in
     let r = c .before .before .before .before .before .match .rest in
-    let e : s .args .j ≡ 2 = omega (arith, s .pre .0 .1, r .0 .1, r .1) in
+    let e : s .args .j ≡ 2 = omega (arith, s .pre .0, r .0 .1, r .1) in
     rw e (c .before .before .put-natural3 .ensures)
 
 pub put-verdict-spec : {M : Type 1} → statement M

@@ -4,7 +4,6 @@ use borrow.Author.Needs.{needs}
 use native.Mathlib.Omega.{arith}
 use mathlib.Core.List.{[], _∷_}
 use borrow.Author.Tests.{not-true, not-false}
-use lib.ListN.{length-append}
 use Rattle.lines.proofs.Digits.{count-most, length-of-digits}
 use Rattle.report.proofs.writers.id_length.Statement.{statement}
 use Rattle.report.proofs.writers.id_length.Tie as tie
