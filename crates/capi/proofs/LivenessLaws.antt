@@ -32,14 +32,14 @@ use Rattle.lists.proofs.Accepts.{refuse-none, whole-few, whole-all}
 use Rattle.lists.proofs.Small.{small-or-else, whole-small}
 use Rattle.lists.proofs.Accepted.{liveness-accept}
 use Rattle.regions.proofs.Theorems.{region-laws}
-use Rattle.liveness.specs.Signals.{signals}
-use Rattle.liveness.specs.Regions.{regionCount, regionAt, regionsOf}
-use Rattle.liveness.specs.Drive.{drive, potential}
-use Rattle.liveness.specs.Verdicts.{sourceRows, inputRows}
+use Rattle.signals.specs.Signals.{signals}
+use Rattle.signals.specs.Regions.{regionCount, regionAt, regionsOf}
+use Rattle.signals.specs.Drive.{drive, potential}
+use Rattle.signals.specs.Verdicts.{sourceRows, inputRows}
 use Rattle.liveness.specs.Sets.{SetWhere}
 use Rattle.liveness.specs.Entry.{AnalyzedBy}
 use Rattle.liveness.specs.declared.Analysis.{Analysis}
-use Rattle.liveness.proofs.Tabulated.{tab-length}
+use Rattle.signals.proofs.Tabulated.{tab-length}
 use Rattle.liveness.proofs.Answers.{scene-of}
 use Rattle.liveness.proofs.Demands.{signals-within}
 use Rattle.capi.specs.Bytes.{numberBytes, numbers, bytesOf}

@@ -19,9 +19,9 @@ use Rattle.lists.specs.declared.Checked.{Checked}
 use Rattle.lists.specs.declared.Checked.the-variants.{Accepted, Refused}
 use Rattle.lists.specs.Slices.{leftOf, workOf}
 use Rattle.regions.specs.Graph.{marked}
-use Rattle.liveness.specs.Regions.{regionCount, regionsOf, isCyclic, hasDrive}
-use Rattle.liveness.specs.Drive.{drive, potential}
-use Rattle.liveness.specs.Verdicts.{sourceRows, inputRows}
+use Rattle.signals.specs.Regions.{regionCount, regionsOf, isCyclic, hasDrive}
+use Rattle.signals.specs.Drive.{drive, potential}
+use Rattle.signals.specs.Verdicts.{sourceRows, inputRows}
 use Rattle.capi.specs.Bytes.{numberBytes, numbers, bytesOf}
 
 -- 1: the bytes of the three lists are whole records within their limits

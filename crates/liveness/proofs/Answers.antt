@@ -25,9 +25,9 @@ use Rattle.lists.specs.declared.Checked.the-variants.{Accepted, Refused}
 use Rattle.lists.proofs.Chain.{refused-not}
 use Rattle.lists.proofs.Accepted.{LivenessScene}
 use Rattle.regions.specs.Graph.{marked}
-use Rattle.liveness.specs.Flags.{Flags, SetOf}
+use Rattle.signals.specs.Flags.{Flags, SetOf}
 use Rattle.liveness.specs.Sets.{SetWhere}
-use Rattle.liveness.specs.Regions.{regionsOf}
+use Rattle.signals.specs.Regions.{regionsOf}
 use Rattle.liveness.specs.Scene.{Scene, Prepared}
 use Rattle.liveness.specs.Entry.{AnalyzedBy, Analyzed}
 use Rattle.liveness.specs.declared.Analysis.{Analysis}

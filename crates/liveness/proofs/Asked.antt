@@ -40,24 +40,24 @@ use Rattle.scene.proofs.Sound.{ports-few}
 use Rattle.regions.specs.Graph.{Edges, marked, flip}
 use Rattle.regions.specs.Keys.{edges}
 use Rattle.regions.specs.Kosaraju.{reached}
-use Rattle.liveness.specs.Signals.{isSignal, sourceMember, sinkMember, signals}
-use Rattle.liveness.specs.Regions.{isInferred}
-use Rattle.liveness.specs.Drive.{membersWhere}
-use Rattle.liveness.specs.Verdicts.{isRequired}
-use Rattle.liveness.specs.Keys.{Settled, Slots, KeysOf, slot, ports}
-use Rattle.liveness.specs.Flags.{Flags, SetOf}
+use Rattle.signals.specs.Signals.{isSignal, sourceMember, sinkMember, signals}
+use Rattle.signals.specs.Regions.{isInferred}
+use Rattle.signals.specs.Drive.{membersWhere}
+use Rattle.signals.specs.Verdicts.{isRequired}
+use Rattle.signals.specs.Keys.{Settled, Slots, KeysOf, slot, ports}
+use Rattle.signals.specs.Flags.{Flags, SetOf}
 use Rattle.liveness.specs.Sets.{SetWhere}
-use Rattle.liveness.specs.Rows.{SlotWithin}
+use Rattle.signals.specs.Rows.{SlotWithin}
 use Rattle.liveness.specs.Query.{isImmediate, upstream, isInferredFor, withRow, rowPlace, InputsBy, Answered}
 use Rattle.liveness.specs.Scene.{Scene, Prepared}
 use Rattle.liveness.specs.Inputs.{PortOf, UpstreamSet}
 use Rattle.liveness.specs.declared.InputSources.{InputSources}
-use Rattle.liveness.proofs.Tabulated.{first-cong, tabulated-length, tabulated-at}
-use Rattle.liveness.proofs.Ends.{ends-within, sink-is}
-use Rattle.liveness.proofs.Graph.{noSlot, fed-at, edges-back, and-assoc}
-use Rattle.liveness.proofs.Marks.{set-marked}
-use Rattle.liveness.proofs.Fed.{here, outside}
-use Rattle.liveness.proofs.Statuses.{same-truth, fed-within}
+use Rattle.signals.proofs.Tabulated.{first-cong, tabulated-length, tabulated-at}
+use Rattle.signals.proofs.Ends.{ends-within, sink-is}
+use Rattle.signals.proofs.Graph.{noSlot, fed-at, edges-back, and-assoc}
+use Rattle.signals.proofs.Marks.{set-marked}
+use Rattle.signals.proofs.Fed.{here, outside}
+use Rattle.signals.proofs.Statuses.{same-truth, fed-within}
 use Rattle.liveness.proofs.Answers.{set-where, set-same}
 
 -- ---- the keys of a slot

@@ -30,14 +30,14 @@ use Rattle.lists.proofs.Fields.{first-most}
 use Rattle.lists.proofs.Members.{count-once, ids-distinct, member-below, member-inj}
 use Rattle.regions.specs.Graph.{Within, Reach, here, step, at}
 use Rattle.regions.proofs.Theorems.{region-laws}
-use Rattle.liveness.specs.Signals.{isSignal, sourceMember, sinkMember, signals}
-use Rattle.liveness.specs.Regions.{labels, regionCount, regionAt, regionsOf}
+use Rattle.signals.specs.Signals.{isSignal, sourceMember, sinkMember, signals}
+use Rattle.signals.specs.Regions.{labels, regionCount, regionAt, regionsOf}
 use Rattle.liveness.specs.Scene.{Scene}
 use Rattle.liveness.specs.Demand.{Chain, nil, link, RegionsOfScene}
-use Rattle.liveness.proofs.Tabulated.{tab-length, tab-at}
-use Rattle.liveness.proofs.Ends.{found-place, ends-below, ends-within, source-is}
-use Rattle.liveness.proofs.Fed.{some-at}
-use Rattle.liveness.proofs.Statuses.{some-found}
+use Rattle.signals.proofs.Tabulated.{tab-length, tab-at}
+use Rattle.signals.proofs.Ends.{found-place, ends-below, ends-within, source-is}
+use Rattle.signals.proofs.Fed.{some-at}
+use Rattle.signals.proofs.Statuses.{some-found}
 
 -- ---- every member stands for a component
 

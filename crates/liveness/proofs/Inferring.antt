@@ -23,17 +23,17 @@ use Rattle.lists.specs.Ids.{memberOf}
 use Rattle.lists.proofs.Members.{member-below}
 use Rattle.regions.specs.Graph.{Edges, at}
 use Rattle.regions.specs.Keys.{edges}
-use Rattle.liveness.specs.Signals.{isSignal, signals}
-use Rattle.liveness.specs.Regions.{labels, regionAt, wire, hasDrive, fedFromOutside, neighbours, isInferred}
-use Rattle.liveness.specs.Keys.{KeysOf, signalKey}
-use Rattle.liveness.specs.Flags.{Flags}
-use Rattle.liveness.specs.Seen.{Rows}
+use Rattle.signals.specs.Signals.{isSignal, signals}
+use Rattle.signals.specs.Regions.{labels, regionAt, wire, hasDrive, fedFromOutside, neighbours, isInferred}
+use Rattle.signals.specs.Keys.{KeysOf, signalKey}
+use Rattle.signals.specs.Flags.{Flags}
+use Rattle.signals.specs.Seen.{Rows}
 use Rattle.liveness.specs.Scene.{Scene, Prepared}
-use Rattle.liveness.specs.Stages.{inferredBy}
-use Rattle.liveness.proofs.Tabulated.{tab-length, tab-at}
-use Rattle.liveness.proofs.Ends.{ends-within}
-use Rattle.liveness.proofs.Graph.{source-at, sink-at, edges-signals, edges-back}
-use Rattle.liveness.proofs.Within.{labels-count, label-under}
+use Rattle.signals.specs.Stages.{inferredBy}
+use Rattle.signals.proofs.Tabulated.{tab-length, tab-at}
+use Rattle.signals.proofs.Ends.{ends-within}
+use Rattle.signals.proofs.Graph.{source-at, sink-at, edges-signals, edges-back}
+use Rattle.signals.proofs.Within.{labels-count, label-under}
 
 -- ---- rows
 

@@ -21,15 +21,15 @@ use Rattle.lists.specs.declared.Found.the-variants.{At, Nothing}
 use Rattle.lists.proofs.Search.{never, found-at, none-found, first-nothing}
 use Rattle.lists.proofs.Members.{member-below, member-inj}
 use Rattle.regions.specs.Graph.{marked, at}
-use Rattle.liveness.specs.Signals.{isSignal, sourceMember, sinkMember}
-use Rattle.liveness.specs.Regions.{labels, isPassive, kindAt, fedFromOutside}
-use Rattle.liveness.specs.Keys.{Settled}
-use Rattle.liveness.specs.Flags.{Flags, Numbers, Gathered}
-use Rattle.liveness.specs.Seen.{SinkRegions, outsideAt}
+use Rattle.signals.specs.Signals.{isSignal, sourceMember, sinkMember}
+use Rattle.signals.specs.Regions.{labels, isPassive, kindAt, fedFromOutside}
+use Rattle.signals.specs.Keys.{Settled}
+use Rattle.signals.specs.Flags.{Flags, Numbers, Gathered}
+use Rattle.signals.specs.Seen.{SinkRegions, outsideAt}
 use Rattle.liveness.specs.Scene.{Scene}
-use Rattle.liveness.proofs.Tabulated.{first-cong}
-use Rattle.liveness.proofs.Ends.{ends-below}
-use Rattle.liveness.proofs.Graph.{source-at, sink-at}
+use Rattle.signals.proofs.Tabulated.{first-cong}
+use Rattle.signals.proofs.Ends.{ends-below}
+use Rattle.signals.proofs.Graph.{source-at, sink-at}
 
 -- ---- tests
 

@@ -17,14 +17,14 @@ use Rattle.lists.specs.Ids.{supportTransfer, smallerIds, memberOf, placeOf}
 use Rattle.scene.specs.Ports.{portsOf}
 use Rattle.regions.specs.Graph.{Edges, at, marked, flip}
 use Rattle.regions.specs.Kosaraju.{regionOf, count, reached}
-use Rattle.liveness.specs.Signals.{signals}
-use Rattle.liveness.specs.Regions.{labels, regionAt, isCyclic, hasDrive, isPassive, kindAt, fedFromOutside, neighbours, isInferred}
-use Rattle.liveness.specs.Drive.{drive, potential}
-use Rattle.liveness.specs.Verdicts.{fedBy, statusOf, portRows, verdictRows, sourcesAt, sourceRowsBelow}
+use Rattle.signals.specs.Signals.{signals}
+use Rattle.signals.specs.Regions.{labels, regionAt, isCyclic, hasDrive, isPassive, kindAt, fedFromOutside, neighbours, isInferred}
+use Rattle.signals.specs.Drive.{drive, potential}
+use Rattle.signals.specs.Verdicts.{fedBy, statusOf, portRows, verdictRows, sourcesAt, sourceRowsBelow}
 use Rattle.liveness.specs.Query.{isImmediate, upstream, isInferredFor}
 use Rattle.liveness.specs.Demand.{SameConnections, SameAnswer}
-use Rattle.liveness.proofs.Fed.{some-at}
-use Rattle.liveness.proofs.Statuses.{some-found, same-truth}
+use Rattle.signals.proofs.Fed.{some-at}
+use Rattle.signals.proofs.Statuses.{some-found, same-truth}
 
 -- ---- a test
 

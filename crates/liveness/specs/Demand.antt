@@ -13,10 +13,10 @@ use mathlib.Core.Logic.{_↔_}
 use lib.ListN.{getD}
 use lib.IntN.{ℤ}
 use Rattle.lists.specs.Records.{component, portConnection, componentCount, portCount}
-use Rattle.liveness.specs.Signals.{isSignal}
-use Rattle.liveness.specs.Regions.{regionCount, regionsOf, isCyclic, hasDrive}
-use Rattle.liveness.specs.Drive.{drive, potential}
-use Rattle.liveness.specs.Verdicts.{sourceRows, inputRows}
+use Rattle.signals.specs.Signals.{isSignal}
+use Rattle.signals.specs.Regions.{regionCount, regionsOf, isCyclic, hasDrive}
+use Rattle.signals.specs.Drive.{drive, potential}
+use Rattle.signals.specs.Verdicts.{sourceRows, inputRows}
 use Rattle.liveness.specs.Query.{isImmediate, isInferredFor}
 
 -- from the id at its start to the id at its end; the empty chain leads only from an id to itself

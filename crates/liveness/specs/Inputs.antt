@@ -13,11 +13,11 @@ use Rattle.lists.specs.Ids.{memberOf}
 use Rattle.regions.specs.Graph.{Edges, marked}
 use Rattle.regions.specs.Kosaraju.{reached}
 use Rattle.regions.specs.Search.{Zeros}
-use Rattle.liveness.specs.Regions.{isInferred}
-use Rattle.liveness.specs.Drive.{membersWhere}
+use Rattle.signals.specs.Regions.{isInferred}
+use Rattle.signals.specs.Drive.{membersWhere}
 use Rattle.liveness.specs.Sets.{SetWhere}
-use Rattle.liveness.specs.Keys.{slot, ports}
-use Rattle.liveness.specs.Stages.{Tables}
+use Rattle.signals.specs.Keys.{slot, ports}
+use Rattle.signals.specs.Stages.{Tables}
 use Rattle.liveness.specs.Scene.{Scene}
 
 -- `at` is the slot of a port of the component at p in the tables of a scene, and `inferred` flags the members that are inferred inputs

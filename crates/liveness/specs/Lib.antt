@@ -1,17 +1,8 @@
--- What the contracts cite. To be read in this order; from Keys on they say what the functions hand on to each other.
-pub mod Signals
-pub mod Sources
-pub mod Regions
-pub mod Drive
-pub mod Verdicts
+-- What the contracts cite. To be read in this order, after the definitions of crate signals; from Scene on they say what the functions
+-- hand on to each other.
 pub mod Demand
 pub mod Sets
 pub mod Entry
 pub mod Query
-pub mod Keys
-pub mod Flags
-pub mod Seen
-pub mod Rows
-pub mod Stages
 pub mod Scene
 pub mod Inputs

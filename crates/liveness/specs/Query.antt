@@ -21,10 +21,10 @@ use Rattle.lists.specs.declared.Checked.{Checked}
 use Rattle.scene.specs.Ports.{portsOf}
 use Rattle.regions.specs.Graph.{marked, flip}
 use Rattle.regions.specs.Kosaraju.{reached}
-use Rattle.liveness.specs.Signals.{signals, sourceMember}
-use Rattle.liveness.specs.Regions.{isInferred}
-use Rattle.liveness.specs.Drive.{membersWhere}
-use Rattle.liveness.specs.Verdicts.{feedsPort, isRequired}
+use Rattle.signals.specs.Signals.{signals, sourceMember}
+use Rattle.signals.specs.Regions.{isInferred}
+use Rattle.signals.specs.Drive.{membersWhere}
+use Rattle.signals.specs.Verdicts.{feedsPort, isRequired}
 use Rattle.liveness.specs.Sets.{SetWhere, counted}
 use Rattle.liveness.specs.declared.InputSources.{InputSources}
 

@@ -15,11 +15,11 @@ use Rattle.lists.specs.Within.{Components, PortConnections}
 use Rattle.lists.specs.declared.Checked.the-variants.{Accepted}
 use Rattle.lists.specs.declared.Found.the-variants.{Nothing}
 use Rattle.regions.specs.Search.{Zeros}
-use Rattle.liveness.specs.Sources.{onFrontier, isDrive}
-use Rattle.liveness.specs.Regions.{labels, regionCount, regionAt, regionsOf, hasDrive, isInferred}
-use Rattle.liveness.specs.Drive.{drive, potential}
-use Rattle.liveness.specs.Flags.{Flags, Numbers, Indices, SetOf}
-use Rattle.liveness.specs.Stages.{Tables}
+use Rattle.signals.specs.Sources.{onFrontier, isDrive}
+use Rattle.signals.specs.Regions.{labels, regionCount, regionAt, regionsOf, hasDrive, isInferred}
+use Rattle.signals.specs.Drive.{drive, potential}
+use Rattle.signals.specs.Flags.{Flags, Numbers, Indices, SetOf}
+use Rattle.signals.specs.Stages.{Tables}
 use Rattle.liveness.specs.Sets.{SetWhere}
 use Rattle.liveness.specs.declared.Analysis.{Analysis}
 

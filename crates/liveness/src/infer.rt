@@ -1,13 +1,13 @@
 // Which wires are inferred inputs: the regions fed from outside, then a test for each component.
-use super::flags::gather;
-use super::inferred::is_inferred;
-use super::inferred::outside_flags;
-use super::inferred::passive_flags;
-use super::inferred::sink_regions;
 use lists::COMPONENT;
 use lists::COMPONENTS;
 use lists::CONNECTIONS;
 use lists::PORT;
+use signals::flags::gather;
+use signals::inferred::is_inferred;
+use signals::inferred::outside_flags;
+use signals::inferred::passive_flags;
+use signals::inferred::sink_regions;
 ghost use mathlib.Core.Path.{_≡_};
 ghost use mathlib.Core.Bool.{Bool, true, not, _&&_, _||_};
 ghost use Prim.Native.Nat.{ℕ, _≤_, _<_};
@@ -21,11 +21,11 @@ ghost use Rattle.lists.specs.First.{some};
 ghost use Rattle.regions.specs.Graph.{marked};
 ghost use Rattle.regions.specs.Keys.{edges};
 ghost use mathlib.Core.List.{List};
-ghost use Rattle.liveness.specs.Regions.{wire, fedFromOutside};
+ghost use Rattle.signals.specs.Regions.{wire, fedFromOutside};
 ghost use Rattle.liveness.specs.Scene.{Scene, Prepared};
-ghost use Rattle.liveness.specs.Flags.{Flags, Indices};
-ghost use Rattle.liveness.specs.Seen.{Rows, SignalEnds};
-ghost use Rattle.liveness.specs.Stages.{inferredBy};
+ghost use Rattle.signals.specs.Flags.{Flags, Indices};
+ghost use Rattle.signals.specs.Seen.{Rows, SignalEnds};
+ghost use Rattle.signals.specs.Stages.{inferredBy};
 
 // Flags the inferred inputs, by list place, given which regions have a drive source and which are fed from outside.
 pub(crate) fn infer(

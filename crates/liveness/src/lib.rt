@@ -1,13 +1,7 @@
 // Regions, sources, drive and verdicts of a scene.
-mod flags;
 mod infer;
-mod inferred;
 pub mod query;
-mod signals;
-mod sources;
-mod stages;
 mod steps;
-mod verdicts;
 
 use lists::COMPONENT;
 use lists::COMPONENTS;

@@ -19,11 +19,11 @@ use Rattle.scene.specs.Step.{shiftBetween, facingBetween}
 use Rattle.scene.specs.Kept.{portsBetween, rowsBelow}
 use Rattle.regions.specs.Graph as graph
 use Rattle.regions.specs.Kosaraju as walk
-use Rattle.liveness.specs.Signals.{signals}
-use Rattle.liveness.specs.Sources.{sourceKind, firstAt, onFrontier}
-use Rattle.liveness.specs.Regions.{isCyclic, hasDrive, fedFromOutside, neighbours, isInferred}
-use Rattle.liveness.specs.Drive.{membersWhere, drive, potential}
-use Rattle.liveness.specs.Verdicts.{fedBy, statusOf, portRows, verdictRows, sourcesAt, sourceRowsBelow}
+use Rattle.signals.specs.Signals.{signals}
+use Rattle.signals.specs.Sources.{sourceKind, firstAt, onFrontier}
+use Rattle.signals.specs.Regions.{isCyclic, hasDrive, fedFromOutside, neighbours, isInferred}
+use Rattle.signals.specs.Drive.{membersWhere, drive, potential}
+use Rattle.signals.specs.Verdicts.{fedBy, statusOf, portRows, verdictRows, sourcesAt, sourceRowsBelow}
 use Rattle.liveness.specs.Query.{isImmediate, upstream, isInferredFor}
 use Rattle.report.specs.Report.{allRows, spaced, memberId, idsBelow, portLines, verdictLines, reportOf}
 

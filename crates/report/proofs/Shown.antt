@@ -21,11 +21,11 @@ use Rattle.circuit.specs.Topology.{netKinds, fragmentKinds, forestOf, netsOf, f
 use Rattle.circuit.proofs.Roots.{length-groups}
 use Rattle.regions.specs.Graph.{marked}
 use Rattle.liveness.specs.Sets.{SetWhere}
-use Rattle.liveness.specs.Regions.{regionAt, regionsOf, regionCount, isCyclic, hasDrive}
-use Rattle.liveness.specs.Drive.{drive, potential}
-use Rattle.liveness.specs.Verdicts.{statusOf}
+use Rattle.signals.specs.Regions.{regionAt, regionsOf, regionCount, isCyclic, hasDrive}
+use Rattle.signals.specs.Drive.{drive, potential}
+use Rattle.signals.specs.Verdicts.{statusOf}
 use Rattle.liveness.specs.Query.{isImmediate, isInferredFor}
-use Rattle.liveness.proofs.Tabulated.{tab-length, tab-at}
+use Rattle.signals.proofs.Tabulated.{tab-length, tab-at}
 use Rattle.report.specs.Report.{allRows, keptList, componentRows, regionRows, inputText, inputLines}
 use Rattle.report.specs.Blocks.{componentRowBy, regionRowBy, idsIn}
 use Rattle.report.proofs.RowText.{rows-same}

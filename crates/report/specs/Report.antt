@@ -26,9 +26,9 @@ use Rattle.circuit.specs.Topology.{netsOf, fragmentsOf}
 use Rattle.scene.specs.Ports.{portsOf}
 use Rattle.scene.specs.Kept.{keptRows}
 use Rattle.regions.specs.Graph.{marked}
-use Rattle.liveness.specs.Regions.{regionAt, regionCount, isCyclic, hasDrive}
-use Rattle.liveness.specs.Drive.{drive, potential}
-use Rattle.liveness.specs.Verdicts.{statusOf, isRequired, sourceRows, inputRows}
+use Rattle.signals.specs.Regions.{regionAt, regionCount, isCyclic, hasDrive}
+use Rattle.signals.specs.Drive.{drive, potential}
+use Rattle.signals.specs.Verdicts.{statusOf, isRequired, sourceRows, inputRows}
 use Rattle.liveness.specs.Query.{isImmediate, isInferredFor}
 
 -- ---- numbers

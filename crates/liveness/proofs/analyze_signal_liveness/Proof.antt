@@ -18,7 +18,7 @@ use Rattle.lists.specs.declared.Checked.the-variants.{Accepted, Refused}
 use Rattle.lists.proofs.Search.{both}
 use Rattle.lists.proofs.Chain.{refused-not}
 use Rattle.lists.proofs.Accepted.{LivenessScene, liveness-accept, room-places}
-use Rattle.liveness.specs.Regions.{regionsOf}
+use Rattle.signals.specs.Regions.{regionsOf}
 use Rattle.liveness.specs.Scene.{Scene, RowsRoom}
 use Rattle.liveness.specs.Entry.{AnalyzedBy, Analyzed}
 use Rattle.liveness.specs.Demand.{RegionsOfScene}

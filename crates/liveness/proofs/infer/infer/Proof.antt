@@ -6,8 +6,8 @@ use Prim.Native.Nat.{ℕ, _-_, _≤_, _<_}
 use native.Mathlib.Omega.{arith}
 use lib.ListN.{length, getD, length-set}
 use Rattle.regions.specs.Graph.{marked}
-use Rattle.liveness.specs.Stages.{inferredBy}
-use Rattle.liveness.proofs.Stores.{stored}
+use Rattle.signals.specs.Stages.{inferredBy}
+use Rattle.signals.proofs.Stores.{stored}
 use Rattle.liveness.proofs.infer.infer.Statement.{statement}
 use Rattle.liveness.proofs.infer.infer.Tie as tie
 

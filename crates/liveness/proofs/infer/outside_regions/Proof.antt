@@ -10,12 +10,12 @@ use lib.ListN.{length, drop, replicate, length-append, length-drop}
 use lib.Seq.{length-take-le}
 use Rattle.lists.specs.Limits.{componentLimit}
 use Rattle.lists.specs.Records.{componentCount}
-use Rattle.liveness.specs.Flags.{Indices}
-use Rattle.liveness.specs.Seen.{SignalEnds}
-use Rattle.liveness.proofs.Lent.{gathered-same}
-use Rattle.liveness.proofs.Ends.{ends-within}
-use Rattle.liveness.proofs.Staged.{source-ends, sink-ends, members-below}
-use Rattle.liveness.proofs.Within.{sinks-below, labels-count, labels-under}
+use Rattle.signals.specs.Flags.{Indices}
+use Rattle.signals.specs.Seen.{SignalEnds}
+use Rattle.signals.proofs.Lent.{gathered-same}
+use Rattle.signals.proofs.Ends.{ends-within}
+use Rattle.signals.proofs.Staged.{source-ends, sink-ends, members-below}
+use Rattle.signals.proofs.Within.{sinks-below, labels-count, labels-under}
 use Rattle.liveness.proofs.Outside.{fed-is}
 use Rattle.liveness.proofs.infer.outside_regions.Statement.{statement}
 use Rattle.liveness.proofs.infer.outside_regions.Tie as tie

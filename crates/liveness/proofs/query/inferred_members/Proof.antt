@@ -5,8 +5,8 @@ use mathlib.Core.Path.{sym, _∙_}
 use mathlib.Core.List.{List}
 use native.Mathlib.Omega.{arith}
 use lib.IntN.{ℤ}
-use Rattle.liveness.proofs.Lent.{indices-same}
-use Rattle.liveness.proofs.Staged.{members-below, marks-are}
+use Rattle.signals.proofs.Lent.{indices-same}
+use Rattle.signals.proofs.Staged.{members-below, marks-are}
 use Rattle.liveness.proofs.query.inferred_members.Statement.{statement}
 use Rattle.liveness.proofs.query.inferred_members.Tie as tie
 

@@ -11,7 +11,7 @@ use Rattle.lists.specs.Limits.{componentLimit, connectionLimit}
 use Rattle.lists.specs.Records.{componentCount, portCount}
 use Rattle.lists.proofs.Table.{table-long}
 use Rattle.regions.proofs.Fill.{cleared-zeros}
-use Rattle.liveness.proofs.Lent.{front, front-long, front-length}
+use Rattle.signals.proofs.Lent.{front, front-long, front-length}
 use Rattle.liveness.proofs.Answers.{prepared-as}
 use Rattle.liveness.proofs.Asked.{inputs-stack}
 use Rattle.liveness.proofs.query.input_sources.Statement.{statement}

@@ -13,7 +13,7 @@ use Rattle.lists.specs.Limits.{componentLimit}
 use Rattle.lists.specs.Records.{componentCount}
 use Rattle.lists.proofs.Members.{member-below}
 use Rattle.liveness.specs.Inputs.{PortOf}
-use Rattle.liveness.proofs.Lent.{front, front-long}
+use Rattle.signals.proofs.Lent.{front, front-long}
 use Rattle.liveness.proofs.Asked.{port-of}
 use Rattle.liveness.proofs.query.port_sources.Statement.{statement}
 use Rattle.liveness.proofs.query.port_sources.Tie as tie

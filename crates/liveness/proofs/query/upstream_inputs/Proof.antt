@@ -9,7 +9,7 @@ use native.Mathlib.Omega.{arith}
 use lib.ListN.{length, take, drop, replicate}
 use lib.Seq.{length-take-le}
 use Rattle.lists.specs.Limits.{componentLimit}
-use Rattle.liveness.proofs.Lent.{front, front-long}
+use Rattle.signals.proofs.Lent.{front, front-long}
 use Rattle.liveness.proofs.Answers.{set-where}
 use Rattle.liveness.proofs.Asked.{both-flags}
 use Rattle.liveness.proofs.query.upstream_inputs.Statement.{statement}

@@ -12,9 +12,9 @@ use Rattle.lists.specs.declared.Found.the-variants.{At, Nothing}
 use Rattle.lists.proofs.Search.{record-within}
 use Rattle.lists.proofs.Fields.{field-nonNeg}
 use Rattle.scene.specs.Ports.{portsOf}
-use Rattle.liveness.specs.Verdicts.{isRequired}
-use Rattle.liveness.specs.Rows.{firstRequired, requiredCount}
-use Rattle.liveness.proofs.Required.{row-of}
+use Rattle.signals.specs.Verdicts.{isRequired}
+use Rattle.signals.specs.Rows.{firstRequired, requiredCount}
+use Rattle.signals.proofs.Required.{row-of}
 use Rattle.liveness.proofs.query.with_row.Statement.{statement}
 use Rattle.liveness.proofs.query.with_row.Tie as tie
 

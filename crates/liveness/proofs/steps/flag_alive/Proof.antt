@@ -8,10 +8,10 @@ use Prim.Native.Nat.{ℕ, _≤_}
 use native.Mathlib.Omega.{arith}
 use lib.ListN.{length}
 use Rattle.regions.specs.Graph.{marked}
-use Rattle.liveness.specs.Flags.{Flags, Indices}
-use Rattle.liveness.specs.Sources.{isDrive}
-use Rattle.liveness.specs.Regions.{isInferred}
-use Rattle.liveness.proofs.Staged.{drive-is, potential-is}
+use Rattle.signals.specs.Flags.{Flags, Indices}
+use Rattle.signals.specs.Sources.{isDrive}
+use Rattle.signals.specs.Regions.{isInferred}
+use Rattle.signals.proofs.Staged.{drive-is, potential-is}
 use Rattle.liveness.proofs.steps.flag_alive.Statement.{statement}
 use Rattle.liveness.proofs.steps.flag_alive.Tie as tie
 

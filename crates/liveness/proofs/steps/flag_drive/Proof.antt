@@ -11,11 +11,11 @@ use lib.IntN.{ℤ}
 use Rattle.lists.specs.Limits.{componentLimit}
 use Rattle.lists.specs.Records.{componentCount}
 use Rattle.lists.specs.First.{isFound}
-use Rattle.liveness.specs.Sources.{isDrive}
-use Rattle.liveness.specs.Regions.{regionAt, hasDrive}
-use Rattle.liveness.specs.Flags.{Flags, Numbers, Gathered}
-use Rattle.liveness.proofs.Tabulated.{first-cong}
-use Rattle.liveness.proofs.Within.{places-under}
+use Rattle.signals.specs.Sources.{isDrive}
+use Rattle.signals.specs.Regions.{regionAt, hasDrive}
+use Rattle.signals.specs.Flags.{Flags, Numbers, Gathered}
+use Rattle.signals.proofs.Tabulated.{first-cong}
+use Rattle.signals.proofs.Within.{places-under}
 use Rattle.liveness.proofs.steps.flag_drive.Statement.{statement}
 use Rattle.liveness.proofs.steps.flag_drive.Tie as tie
 

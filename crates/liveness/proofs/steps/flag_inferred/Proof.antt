@@ -3,9 +3,9 @@
 use borrow.Author.Needs.{needs}
 use mathlib.Core.Path.{refl, sym, _∙_}
 use native.Mathlib.Omega.{arith}
-use Rattle.liveness.proofs.Lent.{indices-same}
-use Rattle.liveness.proofs.Staged.{members-below}
-use Rattle.liveness.proofs.Within.{places-under}
+use Rattle.signals.proofs.Lent.{indices-same}
+use Rattle.signals.proofs.Staged.{members-below}
+use Rattle.signals.proofs.Within.{places-under}
 use Rattle.liveness.proofs.Inferring.{labels-long, forward-rows, backward-rows, inferred-is}
 use Rattle.liveness.proofs.steps.flag_inferred.Statement.{statement}
 use Rattle.liveness.proofs.steps.flag_inferred.Tie as tie

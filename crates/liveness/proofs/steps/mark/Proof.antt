@@ -9,11 +9,11 @@ use lib.ListN.{length}
 use lib.IntN.{ℤ}
 use Rattle.lists.specs.Records.{componentCount}
 use Rattle.regions.specs.Keys.{edges}
-use Rattle.liveness.specs.Signals.{signals}
-use Rattle.liveness.specs.Flags.{Indices}
-use Rattle.liveness.proofs.Ends.{ends-within}
-use Rattle.liveness.proofs.Graph.{edges-signals}
-use Rattle.liveness.proofs.Staged.{members-below}
+use Rattle.signals.specs.Signals.{signals}
+use Rattle.signals.specs.Flags.{Indices}
+use Rattle.signals.proofs.Ends.{ends-within}
+use Rattle.signals.proofs.Graph.{edges-signals}
+use Rattle.signals.proofs.Staged.{members-below}
 use Rattle.liveness.proofs.steps.mark.Statement.{statement}
 use Rattle.liveness.proofs.steps.mark.Tie as tie
 

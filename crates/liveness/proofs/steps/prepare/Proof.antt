@@ -11,12 +11,12 @@ use Rattle.lists.specs.Limits.{componentLimit}
 use Rattle.lists.specs.Records.{componentCount}
 use Rattle.lists.proofs.Table.{table-long}
 use Rattle.regions.specs.Keys.{edges}
-use Rattle.liveness.specs.Signals.{signals}
-use Rattle.liveness.specs.Flags.{Indices}
-use Rattle.liveness.specs.Stages.{Tables}
-use Rattle.liveness.proofs.Ends.{ends-within}
-use Rattle.liveness.proofs.Graph.{edges-signals, edges-turned}
-use Rattle.liveness.proofs.Staged.{regions-are, members-below, labels-placed}
+use Rattle.signals.specs.Signals.{signals}
+use Rattle.signals.specs.Flags.{Indices}
+use Rattle.signals.specs.Stages.{Tables}
+use Rattle.signals.proofs.Ends.{ends-within}
+use Rattle.signals.proofs.Graph.{edges-signals, edges-turned}
+use Rattle.signals.proofs.Staged.{regions-are, members-below, labels-placed}
 use Rattle.liveness.proofs.steps.prepare.Statement.{statement}
 use Rattle.liveness.proofs.steps.prepare.Tie as tie
 

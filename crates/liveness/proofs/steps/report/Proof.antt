@@ -15,20 +15,20 @@ use Rattle.lists.specs.First.{tabulate}
 use Rattle.lists.specs.Slices.{laid}
 use Rattle.regions.specs.Keys.{edges}
 use Rattle.regions.proofs.Fill.{zeros-cleared}
-use Rattle.liveness.specs.Signals.{signals}
-use Rattle.liveness.specs.Regions.{regionAt, regionsOf}
-use Rattle.liveness.specs.Drive.{drive, potential}
-use Rattle.liveness.specs.Verdicts.{sourceRowsBelow, verdictRows}
-use Rattle.liveness.specs.Rows.{FedWithin, sourcesBelow, verdictsBelow}
-use Rattle.liveness.specs.Seen.{SignalEnds}
-use Rattle.liveness.specs.Stages.{cyclicAt}
+use Rattle.signals.specs.Signals.{signals}
+use Rattle.signals.specs.Regions.{regionAt, regionsOf}
+use Rattle.signals.specs.Drive.{drive, potential}
+use Rattle.signals.specs.Verdicts.{sourceRowsBelow, verdictRows}
+use Rattle.signals.specs.Rows.{FedWithin, sourcesBelow, verdictsBelow}
+use Rattle.signals.specs.Seen.{SignalEnds}
+use Rattle.signals.specs.Stages.{cyclicAt}
 use Rattle.liveness.specs.Scene.{MarkRoom}
-use Rattle.liveness.proofs.Lent.{front, front-long}
-use Rattle.liveness.proofs.Ends.{ends-within}
-use Rattle.liveness.proofs.Graph.{edges-signals}
-use Rattle.liveness.proofs.Staged.{labels-long, labels-below, regions-few, cyclic-is, sink-ends}
-use Rattle.liveness.proofs.Statuses.{fed-within}
-use Rattle.liveness.proofs.RowLaws.{members-within, sources-are, inferred-alone, verdicts-are}
+use Rattle.signals.proofs.Lent.{front, front-long}
+use Rattle.signals.proofs.Ends.{ends-within}
+use Rattle.signals.proofs.Graph.{edges-signals}
+use Rattle.signals.proofs.Staged.{labels-long, labels-below, regions-few, cyclic-is, sink-ends}
+use Rattle.signals.proofs.Statuses.{fed-within}
+use Rattle.signals.proofs.RowLaws.{members-within, sources-are, inferred-alone, verdicts-are}
 use Rattle.liveness.proofs.Answers.{set-all, set-where, set-same, tabulated-same}
 use Rattle.liveness.proofs.steps.report.Statement.{statement}
 use Rattle.liveness.proofs.steps.report.Tie as tie

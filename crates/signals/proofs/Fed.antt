@@ -1,0 +1,162 @@
+-- The keys of a slot in a rising table, and the ports that have a verdict row.
+--     some-at, some-none                            what holds at a place holds at some; what holds nowhere does not
+--     here, outside                                 a key of a slot, and where those of a slot stand
+--     fed-here, fed-past                            slotFed, by the first key that is not below the slot's
+--     fed-by-here, fed-by-past                      slotFedBy, by the keys passed so far
+--     status-..                                     the status of a slot by these tests
+--     first-none, first-low, first-past, count-..   the ports of a kind by ranges
+-- Assumes nothing.
+use mathlib.Core.Path.{_≡_, refl, sym, ap, _∙_}
+use mathlib.Core.Bool.{Bool, true, false, _&&_}
+use mathlib.Core.List.{List, [], _∷_}
+use mathlib.Core.Logic.{⊎-elim}
+use Prim.Native.Nat.{ℕ, zero, suc, _*_, _/_, _%_, _≤_, _<_}
+use native.Mathlib.Omega.{arith}
+use lib.ListN.{length, getD, List·getD-eq-default}
+use Rattle.tables.specs.Order.{Ascending, LowerBound, member}
+use Rattle.tables.specs.Laws.{order?, at-member, member-none}
+use Rattle.tables.specs.Pairs.{span, pair}
+use Rattle.lists.specs.First.{firstFrom, isFound, some}
+use Rattle.lists.specs.declared.Found.{Found}
+use Rattle.lists.specs.declared.Found.the-variants.{At, Nothing}
+use Rattle.lists.proofs.Search.{never, none-found, first-nothing}
+use Rattle.regions.specs.Graph.{marked}
+use Rattle.signals.specs.Rows.{firstRequired, requiredCount, slotFed, slotFedBy, slotStatus}
+
+-- ---- at some place
+
+module _ (test : ℕ → Bool) (n : ℕ) where
+  pub some-at : (p : ℕ) → p < n → test p ≡ true → some test n ≡ true
+  some-at p h e = go (firstFrom test 0 n) refl
+    where
+      go : (x : Found) → firstFrom test 0 n ≡ x → isFound x ≡ true
+      go (At q) f = refl
+      go Nothing f = never (sym (none-found test 0 n f p (omega arith) (omega arith)) ∙ e)
+
+  pub some-none : ((p : ℕ) → p < n → test p ≡ false) → some test n ≡ false
+  some-none none = ap isFound (first-nothing test 0 n (λ p a b. none p (omega arith)))
+
+-- ---- the keys of a slot
+
+pub and-true : (a b : Bool) → a ≡ true → b ≡ true → (a && b) ≡ true
+and-true a b e f = rw (e, f)
+
+module _ (keys : List ℕ) (slot : ℕ) where
+  -- a key of the slot is the pair of the slot and its second number
+  pub here : (k : ℕ) → k < length keys → getD keys k 0 / span ≡ slot → member (pair slot (getD keys k 0 % span)) keys ≡ true
+  here k h e = at-member (pair slot (getD keys k 0 % span)) keys k h (omega arith)
+
+  pub fed-here : (k : ℕ) → k < length keys → getD keys k 0 / span ≡ slot → slotFed keys slot ≡ true
+  unfolding slotFed
+  fed-here k h e = some-at (λ a. member (pair slot a) keys) span (getD keys k 0 % span) (omega arith) (here k h e)
+
+  pub fed-by-here : (flags : List Bool) (k : ℕ) → k < length keys → getD keys k 0 / span ≡ slot → marked flags (getD keys k 0 % span) ≡ true → slotFedBy keys slot flags ≡ true
+  unfolding slotFedBy
+  fed-by-here flags k h e m =
+      some-at (λ a. member (pair slot a) keys && marked flags a) span (getD keys k 0 % span) (omega arith)
+      (and-true (member (pair slot (getD keys k 0 % span)) keys) (marked flags (getD keys k 0 % span)) (here k h e) m)
+
+  module _ (rising : Ascending keys) {first : ℕ} (low : LowerBound keys (slot * span) first) where
+    -- no key of the slot stands before the first place, nor from a place on whose key is of another slot
+    pub outside : (at : ℕ) → first ≤ at → (at < length keys → getD keys at 0 / span ≡ slot → ⊥)
+        → (k : ℕ) → k < length keys → getD keys k 0 / span ≡ slot → (first ≤ k) × (k < at)
+    outside at le past k h e = (
+      ⊎-elim (λ (l : first ≤ k). l) (λ (l : k < first). absurd (let w = low .before rising k l in omega arith)) (order? first k),
+      ⊎-elim
+          (λ (l : at ≤ k). absurd (
+          let up = rising .at at k l h in
+          let from = low .from rising at le (omega arith) in
+          past (omega arith) (omega arith)))
+          (λ (l : k < at). l)
+          (order? at k),
+    )
+
+    pub fed-past : (first < length keys → getD keys first 0 / span ≡ slot → ⊥) → slotFed keys slot ≡ false
+    unfolding slotFed
+    fed-past past =
+        some-none (λ a. member (pair slot a) keys) span
+        (λ a l. member-none (pair slot a) keys (λ k h e. let o = outside first (omega arith) past k h (omega arith) in omega (arith, o .0, o .1)))
+
+    pub fed-by-past : (flags : List Bool) (at : ℕ) → first ≤ at → (at < length keys → getD keys at 0 / span ≡ slot → ⊥)
+        → ((k : ℕ) → first ≤ k → k < at → marked flags (getD keys k 0 % span) ≡ false) → slotFedBy keys slot flags ≡ false
+    unfolding slotFedBy
+    fed-by-past flags at le past dark = some-none (λ a. member (pair slot a) keys && marked flags a) span (λ a l. go a l (marked flags a) refl)
+      where
+        and-false : (t : Bool) → (t && false) ≡ false
+        and-false true = refl
+        and-false false = refl
+
+        go : (a : ℕ) → a < span → (t : Bool) → marked flags a ≡ t → (member (pair slot a) keys && t) ≡ false
+        go a l false m = and-false (member (pair slot a) keys)
+        go a l true m =
+            ap (λ (t : Bool). t && true)
+            (member-none (pair slot a) keys (λ k h e.
+            let o = outside at le past k h (omega arith) in
+            let same : getD keys k 0 % span ≡ a = omega arith in
+            never (sym (dark k (o .0) (o .1)) ∙ ap (marked flags) same ∙ m)))
+
+-- ---- the status of a slot
+
+module _ (keys : List ℕ) (slot : ℕ) (drive potential : List Bool) where
+  pub status-unfed : slotFed keys slot ≡ false → slotStatus keys slot drive potential ≡ 2
+  unfolding slotStatus
+  status-unfed e = rw e
+
+  module _ (fed : slotFed keys slot ≡ true) where
+    pub status-driven : slotFedBy keys slot drive ≡ true → slotStatus keys slot drive potential ≡ 0
+    unfolding slotStatus
+    status-driven e = rw (fed, e)
+
+    module _ (undriven : slotFedBy keys slot drive ≡ false) where
+      pub status-awaiting : slotFedBy keys slot potential ≡ true → slotStatus keys slot drive potential ≡ 1
+      unfolding slotStatus
+      status-awaiting e = rw (fed, undriven, e)
+
+      pub status-unknown : slotFedBy keys slot potential ≡ false → slotStatus keys slot drive potential ≡ 3
+      unfolding slotStatus
+      status-unknown e = rw (fed, undriven, e)
+
+-- ---- the ports of a kind that have a row
+
+pub first-none : (kind : ℕ) → kind < 1 → firstRequired kind ≡ 0
+unfolding firstRequired
+first-none zero h = refl
+first-none (suc kind) h = absurd (omega arith)
+
+pub first-low : (kind : ℕ) → 1 ≤ kind → kind < 3 → firstRequired kind ≡ 1
+unfolding firstRequired
+first-low zero h l = absurd (omega arith)
+first-low (suc zero) h l = refl
+first-low (suc (suc zero)) h l = refl
+first-low (suc (suc (suc kind))) h l = absurd (omega arith)
+
+pub first-past : (kind : ℕ) → 4 ≤ kind → firstRequired kind ≡ 0
+unfolding firstRequired
+first-past kind h = List·getD-eq-default (0 ∷ 1 ∷ 1 ∷ 4 ∷ []) 0 h
+
+pub count-none : (kind : ℕ) → kind < 1 → requiredCount kind ≡ 0
+unfolding requiredCount
+count-none zero h = refl
+count-none (suc kind) h = absurd (omega arith)
+
+pub count-low : (kind : ℕ) → 1 ≤ kind → kind < 4 → requiredCount kind ≡ 1
+unfolding requiredCount
+count-low zero h l = absurd (omega arith)
+count-low (suc zero) h l = refl
+count-low (suc (suc zero)) h l = refl
+count-low (suc (suc (suc zero))) h l = refl
+count-low (suc (suc (suc (suc kind)))) h l = absurd (omega arith)
+
+pub count-past : (kind : ℕ) → 4 ≤ kind → (kind ≡ 8 → ⊥) → requiredCount kind ≡ 0
+unfolding requiredCount
+count-past zero h n = absurd (omega arith)
+count-past (suc zero) h n = absurd (omega arith)
+count-past (suc (suc zero)) h n = absurd (omega arith)
+count-past (suc (suc (suc zero))) h n = absurd (omega arith)
+count-past (suc (suc (suc (suc zero)))) h n = refl
+count-past (suc (suc (suc (suc (suc zero))))) h n = refl
+count-past (suc (suc (suc (suc (suc (suc zero)))))) h n = refl
+count-past (suc (suc (suc (suc (suc (suc (suc zero))))))) h n = refl
+count-past (suc (suc (suc (suc (suc (suc (suc (suc zero)))))))) h n = absurd (n (omega arith))
+count-past (suc (suc (suc (suc (suc (suc (suc (suc (suc kind))))))))) h n =
+    List·getD-eq-default (0 ∷ 1 ∷ 1 ∷ 1 ∷ 0 ∷ 0 ∷ 0 ∷ 0 ∷ 4 ∷ []) 0 {n = suc (suc (suc (suc (suc (suc (suc (suc (suc kind))))))))} (omega arith)

@@ -1,0 +1,26 @@
+-- Laws of the definitions, for the proofs of this crate and of those above it.
+--     Tabulated, Ends, Graph            the tables of keys are the graph of `signals`
+--     Positions                         where components that ascend part
+--     Marks, Frontiers, Stores, Lent    flags and numbers, stored place by place
+--     Neighbours                        the neighbours seen
+--     Staged                            the stages give `labels`, `isCyclic`, `drive`, `potential`
+--     Within                            the signals of a scene stay within its members
+--     Fed, Statuses                     the keys of a slot, and its status
+--     Written, Devices, Required, RowLaws   the rows written are those of the document
+pub mod Tabulated
+pub mod Ends
+pub mod Graph
+pub mod Marks
+pub mod Positions
+pub mod Frontiers
+pub mod Neighbours
+pub mod Stores
+pub mod Lent
+pub mod Staged
+pub mod Within
+pub mod Fed
+pub mod Written
+pub mod Devices
+pub mod Statuses
+pub mod Required
+pub mod RowLaws

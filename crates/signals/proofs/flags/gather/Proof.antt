@@ -1,0 +1,73 @@
+-- `liveness::flags::gather` meets its contract: the flags are those of the tests passed.
+-- Assumes nothing.
+use borrow.Author.Needs.{needs}
+use mathlib.Core.Path.{_≡_, refl, ap, _∙_}
+use mathlib.Core.Logic.{⊎-elim}
+use Prim.Native.Nat.{_-_, _≤_, _<_}
+use native.Mathlib.Omega.{arith}
+use lib.ListN.{length, getD, length-set}
+use Rattle.signals.specs.Flags.{Gathered}
+use Rattle.signals.proofs.Marks.{gathered-none, gathered-set, gathered-skip}
+use Rattle.signals.proofs.flags.gather.Statement.{statement}
+use Rattle.signals.proofs.flags.gather.Tie as tie
+
+abbrev Inv-loop : tie.InvT-loop
+Inv-loop n index tests out₀ p₀ out p = (p ≤ n) × (length out ≡ length out₀) × Gathered p index tests out
+
+abbrev μ-loop : tie.MeasureT-loop
+μ-loop n index tests out₀ p₀ out p = n - p
+
+abbrev begin : tie.At-loop Inv-loop μ-loop → tie.After-clear-flags Inv-loop μ-loop
+begin c = c .before .before .before
+
+abbrev start : tie.At-loop Inv-loop μ-loop → tie.Start Inv-loop μ-loop
+start c = begin c .before .before .before .before .before
+
+loop-holds : tie.Need-loop-holds Inv-loop μ-loop
+loop-holds c =
+    let a = c .before .before .before .before .before .before .before .args in
+    (omega arith, refl, rw (c .before .before .clear-flags .ensures) (gathered-none (a .index .now) (a .tests .now) (length (a .out .now))))
+
+-- the list is as long as it was
+same : (c : tie.At-loop Inv-loop μ-loop) → length (c .loop .out) ≡ length (start c .args .out .now)
+same c = c .loop .inv .1 ∙ begin c .clear-flags .kept .0
+
+-- there is room for the flag of a turn
+room : (c : tie.In-loop Inv-loop μ-loop) → getD (start (c .before) .args .index .now) (c .before .loop .p) 0 < length (c .before .loop .out)
+room c = omega (arith, same (c .before), start (c .before) .pre .0 .below (c .before .loop .p) (c .loop-test .taken))
+
+loop-again : tie.Need-loop-again Inv-loop μ-loop
+loop-again c =
+    let turn = c .before .before in
+    let l = turn .before .loop in (
+      omega (arith, turn .loop-test .taken),
+      ⊎-elim (λ w. ap length (w .2) ∙ simp length-set (l .inv .1)) (λ w. ap length (w .1) ∙ l .inv .1) (c .if1 .came),
+      ⊎-elim
+          (λ w. rw (w .2) (gathered-set _ _ (l .p) (l .inv .2) (w .0 .taken) (room turn)))
+          (λ w. rw (w .1) (gathered-skip _ _ (l .p) (l .inv .2) (w .0 .left)))
+          (c .if1 .came),
+    )
+
+returns : tie.Need-returns Inv-loop μ-loop
+returns c =
+    let l = c .before .loop in
+    let all : l .p ≡ start (c .before) .args .n = omega (arith, l .inv .0, c .loop-test .left) in
+    rw all at (l .inv .2)
+
+pub gather-spec : {M : Type 1} → statement M
+gather-spec =
+    tie.close
+    (tie.spec
+    Inv-loop
+    μ-loop
+    (λ c κs. search needs)
+    loop-holds
+    (λ c. omega (arith, c .before .loop-test .taken, start (c .before .before) .pre .1))
+    (λ c. omega (arith, c .before .before .loop-test .taken, start (c .before .before .before) .pre .0 .long, start (c .before .before .before) .good .1 .0))
+    (λ c. omega (arith, c .before .before .before .loop-test .taken, start (c .before .before .before .before) .pre .0 .long))
+    (λ c. room (c .before .before .before))
+    (λ c. omega (arith, c .before .before .loop-test .taken, start (c .before .before .before) .fits .n))
+    (λ c. omega (arith, c .before .before .loop-test .taken))
+    loop-again
+    (λ c. same (c .before))
+    returns)

@@ -1,0 +1,46 @@
+-- The tables of keys by which the program walks the signal edges: what each holds, and that it is the graph of `signals`.
+-- Assumes nothing: these are definitions.
+use Prim.Native.Nat.{ℕ, _+_, _*_, _^_, _≤_, _<_}
+use mathlib.Core.Path.{_≡_}
+use mathlib.Core.Bool.{Bool, cond}
+use mathlib.Core.List.{List}
+use lib.ListN.{length, getD}
+use lib.IntN.{ℤ}
+use Rattle.tables.specs.Order.{Sorted}
+use Rattle.tables.specs.Pairs.{pair, span}
+use Rattle.lists.specs.Limits.{portWidth}
+use Rattle.lists.specs.Records.{naturalAt, portConnection, portCount}
+use Rattle.lists.specs.First.{tabulate}
+use Rattle.lists.specs.Ids.{smallerIds}
+use Rattle.signals.specs.Signals.{isSignal}
+
+-- the member of field f of each port connection
+pub record Settled (cs ps : List ℤ) (f : ℕ) (members : List ℕ) : Type 0 where
+  pub at : (k : ℕ) → k < portCount ps → getD members k 0 ≡ smallerIds cs (naturalAt ps (k * portWidth + f))
+
+-- ports are 0 to 255
+abbrev pub ports : ℕ
+ports = 2 ^ 8
+
+-- a port of a member as one number
+abbrev pub slot : ℕ → ℕ → ℕ
+slot member port = member * ports + port
+
+pub record Slots (ps : List ℤ) (sinks slots : List ℕ) : Type 0 where
+  pub at : (k : ℕ) → k < portCount ps → getD slots k 0 ≡ slot (getD sinks k 0) (portConnection ps k .sinkPort)
+
+-- the pair of two numbers, or one that no node has
+abbrev pub signalKey : Bool → ℕ → ℕ → ℕ → ℕ
+signalKey signal first second nowhere = cond signal (pair first second) (pair nowhere 0)
+
+-- each first number has 32 bits, and each second is below the span
+pub record Sortable (m : ℕ) (firsts seconds : List ℕ) (nowhere : ℕ) : Type 0 where
+  pub firsts-long : m ≤ length firsts
+  pub seconds-long : m ≤ length seconds
+  pub first : (k : ℕ) → k < m → getD firsts k 0 < 2 ^ 32
+  pub second : (k : ℕ) → k < m → getD seconds k 0 < span
+  pub nowhere-small : nowhere < 2 ^ 32
+
+-- the sorted keys of the port connections
+pub record KeysOf (ps : List ℤ) (firsts seconds : List ℕ) (nowhere : ℕ) (keys : List ℕ) : Type 0 where
+  pub sorted : Sorted (tabulate (λ k. signalKey (isSignal ps k) (getD firsts k 0) (getD seconds k 0) nowhere) (portCount ps)) keys

@@ -1,0 +1,44 @@
+-- What the search for inferred inputs keeps: the neighbours seen so far, and tests by connection and by region.
+-- Assumes nothing: these are definitions.
+use Prim.Native.Nat.{ℕ, _/_, _%_, _≤_, _<_}
+use mathlib.Core.Path.{_≡_}
+use mathlib.Core.Bool.{Bool, true, false, not, _&&_}
+use mathlib.Core.List.{List}
+use lib.Dec.{eqb}
+use lib.ListN.{length, getD}
+use lib.IntN.{ℤ}
+use Rattle.tables.specs.Order.{Ascending}
+use Rattle.tables.specs.Pairs.{span}
+use Rattle.lists.specs.Records.{portCount}
+use Rattle.regions.specs.Graph.{marked}
+use Rattle.signals.specs.Signals.{isSignal}
+use Rattle.signals.specs.declared.inferred.Seen.{Seen}
+use Rattle.signals.specs.declared.inferred.Seen.the-variants.{None, One, Many}
+
+-- of the numbers below n that pass the test: none, one, or two and more were seen
+abbrev pub SeenOf : ℕ → (ℕ → Bool) → Seen → Type 0
+SeenOf n test None = (j : ℕ) → j < n → test j ≡ false
+SeenOf n test (One i) = (i < n) × ((test i ≡ true) × ((j : ℕ) → j < n → test j ≡ true → j ≡ i))
+SeenOf n test Many = (i : ℕ) × ((j : ℕ) × ((i < j) × ((j < n) × ((test i ≡ true) × (test j ≡ true)))))
+
+-- a rising table of keys whose pairs of a node below n lead to a node below n
+pub record Rows (n : ℕ) (keys : List ℕ) : Type 0 where
+  pub nodes : n ≤ span
+  pub rising : Ascending keys
+  pub within : (i : ℕ) → i < length keys → getD keys i 0 / span < n → getD keys i 0 % span < n
+
+-- the ends of a signal connection are nodes below n
+pub record SignalEnds (n : ℕ) (ps : List ℤ) (members : List ℕ) : Type 0 where
+  pub long : portCount ps ≤ length members
+  pub below : (k : ℕ) → k < portCount ps → isSignal ps k ≡ true → getD members k 0 < n
+
+-- the label of a node, or 0 for a support connection
+pub record SinkRegions (ps : List ℤ) (sinks labels regions : List ℕ) : Type 0 where
+  pub at : (k : ℕ) → k < portCount ps → isSignal ps k ≡ true → getD regions k 0 ≡ getD labels (getD sinks k 0) 0
+  pub support : (k : ℕ) → k < portCount ps → isSignal ps k ≡ false → getD regions k 0 ≡ 0
+
+-- connection k leads from another region's node that is not passive
+abbrev pub outsideAt : List ℤ → List ℕ → List ℕ → List ℕ → List Bool → ℕ → Bool
+outsideAt ps sources sinks labels passive k =
+    isSignal ps k
+    && (not (eqb (getD labels (getD sources k 0) 0) (getD labels (getD sinks k 0) 0)) && not (marked passive (getD sources k 0)))

@@ -1,0 +1,195 @@
+// Inferred inputs: wires at the edge of a region that nothing drives or feeds.
+use lists::COMPONENT;
+use lists::PORT;
+use lists::ids::SUPPORT;
+use lists::numbers::natural_at;
+use tables::SPAN;
+ghost use mathlib.Core.Path.{_≡_};
+ghost use mathlib.Core.Bool.{Bool, true, false, not, _&&_, _||_};
+ghost use Prim.Native.Nat.{ℕ, _≤_, _<_};
+ghost use lib.Dec.{eqb, leb};
+ghost use lib.ListN.{length, getD};
+ghost use Rattle.sets.specs.Members.{countBelow};
+ghost use Rattle.lists.specs.Records.{component, componentCount, portCount};
+ghost use Rattle.lists.specs.Within.{Components, PortConnections};
+ghost use Rattle.regions.specs.Graph.{marked};
+ghost use Rattle.regions.specs.Keys.{edges};
+ghost use Rattle.signals.specs.Regions.{wire, isPassive};
+ghost use Rattle.signals.specs.Flags.{Flags};
+ghost use Rattle.signals.specs.Seen.{SeenOf, Rows, SignalEnds, SinkRegions, outsideAt};
+ghost use Rattle.signals.specs.Signals.{isSignal};
+ghost use mathlib.Core.Bool.{cond};
+
+// The distinct neighbours seen so far.
+pub enum Seen {
+    None,
+    One(usize),
+    Many,
+}
+
+// With neighbour j seen too.
+fn see(seen: Seen, j: usize) -> Seen
+    ensures { λ r. ⌜ ((n : ℕ) (test : ℕ → Bool) → j < n → SeenOf n test seen → SeenOf n (λ i. test i || eqb j i) r) ⌝ }
+{
+    match seen {
+        Seen::None => Seen::One(j),
+        Seen::One(i) => { if i == j { Seen::One(i) } else { Seen::Many } }
+        Seen::Many => Seen::Many,
+    }
+}
+
+// With the neighbours of m in a table seen too, those of its own region.
+fn see_row(keys: &[u64], labels: &[usize], m: usize, seen: Seen) -> Seen
+    requires { ⌜ Rows (length (now labels)) (now keys) × (m < length (now labels)) ⌝ }
+    ensures { λ r. ⌜ ((test : ℕ → Bool) → SeenOf (length (now (labels .entry))) test seen →
+        SeenOf (length (now (labels .entry))) (λ j. test j || (eqb (getD (now (labels .entry)) j 0) (getD (now (labels .entry)) m 0) && edges (length (now (labels .entry))) (now (keys .entry)) m j)) r) ⌝ }
+{
+    let mut at = tables::lower_bound(keys, m as u64 * SPAN);
+    let mut found = seen;
+    while at < keys.len() {
+        let key = keys[at];
+        if key / SPAN != m as u64 {
+            return found;
+        }
+        let j = (key % SPAN) as usize;
+        if labels[j] == labels[m] {
+            found = see(found, j);
+        }
+        at += 1;
+    }
+    found
+}
+
+// Whether m has at most one distinct neighbour in its region, either way along the edges.
+fn few_neighbours(forward: &[u64], backward: &[u64], labels: &[usize], m: usize) -> bool
+    requires { ⌜ Rows (length (now labels)) (now forward) × (Rows (length (now labels)) (now backward) × (m < length (now labels))) ⌝ }
+    ensures { λ r. ⌜ r ≡ leb (countBelow (λ j. eqb (getD (now (labels .entry)) j 0) (getD (now (labels .entry)) m 0)
+        && (edges (length (now (labels .entry))) (now (forward .entry)) m j || edges (length (now (labels .entry))) (now (backward .entry)) m j)) (length (now (labels .entry)))) 1 ⌝ }
+{
+    let first = see_row(forward, labels, m, Seen::None);
+    let both = see_row(backward, labels, m, first);
+    match both {
+        Seen::None => true,
+        Seen::One(_) => true,
+        Seen::Many => false,
+    }
+}
+
+// Flags the Solid and Transparent components, by list place.
+pub fn passive_flags(components: &[i64], flags: &mut [bool])
+    requires { ⌜ Components (now components) × (componentCount (now components) ≤ length (now flags)) ⌝ }
+    ensures { λ _. ⌜ Flags (componentCount (now (components .entry))) (λ p. isPassive (component (now (components .entry)) p .kind)) (now (flags .exit)) ⌝ }
+{
+    let count = components.len() / COMPONENT;
+    let mut p: usize = 0;
+    while p < count {
+        let kind = natural_at(components, p * COMPONENT + 4);
+        flags[p] = (kind == 9) | (kind == 10);
+        p += 1;
+    }
+}
+
+// The region of the sink of port connection k, 0 for a support.
+fn sink_region(ports: &[i64], k: usize, sink: usize, labels: &[usize]) -> usize
+    requires { ⌜ PortConnections (now ports) × (k < portCount (now ports)) ⌝ }
+    requires { ⌜ (isSignal (now ports) k ≡ true → sink < length (now labels)) ⌝ }
+    ensures { λ r. ⌜ r ≡ cond (isSignal (now (ports .entry)) k) (getD (now (labels .entry)) sink 0) 0 ⌝ }
+{
+    if natural_at(ports, k * PORT + 4) == SUPPORT {
+        return 0;
+    }
+    labels[sink]
+}
+
+// The region that each signal connection leads to.
+pub fn sink_regions(ports: &[i64], sinks: &[usize], labels: &[usize], regions: &mut [usize])
+    requires { ⌜ PortConnections (now ports) ⌝ }
+    requires { ⌜ SignalEnds (length (now labels)) (now ports) (now sinks) × (portCount (now ports) ≤ length (now regions)) ⌝ }
+    ensures { λ _. ⌜ SinkRegions (now (ports .entry)) (now (sinks .entry)) (now (labels .entry)) (now (regions .exit)) ⌝ }
+{
+    let count = ports.len() / PORT;
+    let mut k: usize = 0;
+    while k < count {
+        regions[k] = sink_region(ports, k, sinks[k], labels);
+        k += 1;
+    }
+}
+
+// Whether port connection k leads from another region's node that is not passive.
+fn is_outside(
+    ports: &[i64],
+    k: usize,
+    source: usize,
+    sink: usize,
+    labels: &[usize],
+    passive: &[bool],
+) -> bool
+    requires { ⌜ PortConnections (now ports) × (k < portCount (now ports)) ⌝ }
+    requires { ⌜ (isSignal (now ports) k ≡ true → (source < length (now labels)) × (sink < length (now labels))) × (length (now labels) ≤ length (now passive)) ⌝ }
+    ensures { λ r. ⌜ r ≡ (isSignal (now (ports .entry)) k
+        && (not (eqb (getD (now (labels .entry)) source 0) (getD (now (labels .entry)) sink 0)) && not (marked (now (passive .entry)) source))) ⌝ }
+{
+    if natural_at(ports, k * PORT + 4) == SUPPORT {
+        return false;
+    }
+    !(labels[source] == labels[sink]) & !passive[source]
+}
+
+// Flags the port connections that lead from another region's node that is not passive.
+pub fn outside_flags(
+    ports: &[i64],
+    sources: &[usize],
+    sinks: &[usize],
+    labels: &[usize],
+    passive: &[bool],
+    flags: &mut [bool],
+)
+    requires { ⌜ PortConnections (now ports) ⌝ }
+    requires { ⌜ SignalEnds (length (now labels)) (now ports) (now sources) × SignalEnds (length (now labels)) (now ports) (now sinks) ⌝ }
+    requires { ⌜ (length (now labels) ≤ length (now passive)) × (portCount (now ports) ≤ length (now flags)) ⌝ }
+    ensures { λ _. ⌜ Flags (portCount (now (ports .entry))) (outsideAt (now (ports .entry)) (now (sources .entry)) (now (sinks .entry)) (now (labels .entry)) (now (passive .entry))) (now (flags .exit)) ⌝ }
+{
+    let count = ports.len() / PORT;
+    let mut k: usize = 0;
+    while k < count {
+        flags[k] = is_outside(ports, k, sources[k], sinks[k], labels, passive);
+        k += 1;
+    }
+}
+
+// Flags the signal connections from a node to itself.
+pub fn self_flags(ports: &[i64], sources: &[usize], sinks: &[usize], flags: &mut [bool])
+    requires { ⌜ PortConnections (now ports) ⌝ }
+    requires { ⌜ (portCount (now ports) ≤ length (now sources)) × ((portCount (now ports) ≤ length (now sinks)) × (portCount (now ports) ≤ length (now flags))) ⌝ }
+    ensures { λ _. ⌜ Flags (portCount (now (ports .entry))) (λ k. isSignal (now (ports .entry)) k && eqb (getD (now (sources .entry)) k 0) (getD (now (sinks .entry)) k 0)) (now (flags .exit)) ⌝ }
+{
+    let count = ports.len() / PORT;
+    let mut k: usize = 0;
+    while k < count {
+        let transfer = natural_at(ports, k * PORT + 4);
+        flags[k] = !(transfer == SUPPORT) & (sources[k] == sinks[k]);
+        k += 1;
+    }
+}
+
+// Whether component p, member m, is an inferred input, given whether its region has a drive source or is fed from outside.
+pub fn is_inferred(
+    components: &[i64],
+    p: usize,
+    quiet: bool,
+    forward: &[u64],
+    backward: &[u64],
+    labels: &[usize],
+    m: usize,
+) -> bool
+    requires { ⌜ Components (now components) × (p < componentCount (now components)) ⌝ }
+    requires { ⌜ Rows (length (now labels)) (now forward) × (Rows (length (now labels)) (now backward) × (m < length (now labels))) ⌝ }
+    ensures { λ r. ⌜ r ≡ (eqb (component (now (components .entry)) p .kind) wire && (quiet && leb (countBelow (λ j. eqb (getD (now (labels .entry)) j 0) (getD (now (labels .entry)) m 0)
+        && (edges (length (now (labels .entry))) (now (forward .entry)) m j || edges (length (now (labels .entry))) (now (backward .entry)) m j)) (length (now (labels .entry)))) 1)) ⌝ }
+{
+    let kind = natural_at(components, p * COMPONENT + 4);
+    if (kind == 0) & quiet {
+        return few_neighbours(forward, backward, labels, m);
+    }
+    false
+}

@@ -1,0 +1,185 @@
+// The stages of the analysis over local arrays: tables of edges, regions, reach.
+use super::edges::PORTS;
+use super::edges::settle;
+use super::edges::settle_slots;
+use super::edges::signal_keys;
+use super::flags::count_into;
+use super::flags::gather;
+use super::inferred::self_flags;
+use super::inferred::sink_regions;
+use lists::COMPONENT;
+use lists::COMPONENTS;
+use lists::CONNECTIONS;
+use lists::PORT;
+use lists::ids::member_of;
+use lists::numbers::natural_at;
+ghost use mathlib.Core.Path.{_≡_};
+ghost use mathlib.Core.Bool.{_||_};
+ghost use mathlib.Core.List.{List};
+ghost use Prim.Native.Nat.{_*_, _≤_, _<_};
+ghost use lib.Dec.{leb};
+ghost use lib.ListN.{length, getD};
+ghost use lib.IntN.{ℤ};
+ghost use Rattle.tables.specs.Order.{Ascending};
+ghost use Rattle.lists.specs.Limits.{componentLimit};
+ghost use Rattle.lists.specs.Records.{componentCount, portCount};
+ghost use Rattle.lists.specs.Ids.{IdTable, IsIdTable, memberOf};
+ghost use Rattle.lists.specs.Within.{Components, PortConnections};
+ghost use Rattle.lists.specs.First.{some};
+ghost use Rattle.regions.specs.Keys.{edges, Reversed};
+ghost use Rattle.regions.specs.Graph.{marked};
+ghost use Rattle.regions.specs.Search.{Zeros, Regions};
+ghost use Rattle.signals.specs.Flags.{Flags, Numbers, Indices};
+ghost use Rattle.signals.specs.Seen.{SignalEnds};
+ghost use Rattle.signals.specs.Stages.{Tables, ReachedBy, selfAt, cyclicAt};
+
+// Settles the ends of the port connections and sorts the signal edges into three tables.
+pub fn build_tables(
+    keys: &[u64],
+    ports: &[i64],
+    sources: &mut [usize],
+    sinks: &mut [usize],
+    forward: &mut [u64],
+    backward: &mut [u64],
+    fed: &mut [u64],
+)
+    requires { ⌜ PortConnections (now ports) × IsIdTable (now keys) ⌝ }
+    requires { ⌜ (length (now keys) ≤ componentLimit) × ((portCount (now ports) ≤ length (now sources)) × (portCount (now ports) ≤ length (now sinks))) ⌝ }
+    requires { ⌜ (length (now forward) ≡ portCount (now ports)) × ((length (now backward) ≡ portCount (now ports)) × (length (now fed) ≡ portCount (now ports))) ⌝ }
+    ensures { λ _. ⌜ ((cs : List ℤ) → IdTable cs (now (keys .entry)) → Tables cs (now (ports .entry)) (now (sources .exit)) (now (sinks .exit)) (now (forward .exit)) (now (backward .exit)) (now (fed .exit))) ⌝ }
+{
+    let mut slots = [0usize; CONNECTIONS];
+    settle(keys, ports, 0, sources);
+    settle(keys, ports, 2, sinks);
+    settle_slots(ports, sinks, &mut slots);
+    signal_keys(ports, sources, sinks, COMPONENTS, forward);
+    signal_keys(ports, sinks, sources, COMPONENTS, backward);
+    signal_keys(ports, &slots, sources, COMPONENTS * PORTS, fed);
+}
+
+// The regions of the nodes below labels.len(); answers how many there are.
+pub fn find_regions(
+    forward: &[u64],
+    backward: &[u64],
+    labels: &mut [usize],
+    stack: &mut [usize],
+) -> usize
+    requires { ⌜ Ascending (now forward) × (Ascending (now backward) × Reversed (length (now labels)) (now forward) (now backward)) ⌝ }
+    requires { ⌜ (length (now labels) ≤ componentLimit) × ((2 * length (now labels) ≤ length (now stack)) × Zeros (now stack)) ⌝ }
+    ensures { λ r. ⌜ Regions (length (now (labels .entry))) (edges (length (now (labels .entry))) (now (forward .entry))) (now (labels .exit)) r (now (stack .exit)) ⌝ }
+{
+    let n = labels.len();
+    let mut visited = [false; COMPONENTS];
+    let mut order = [0usize; COMPONENTS];
+    let mut members = [0usize; COMPONENTS];
+    regions::regions(
+        forward,
+        backward,
+        n,
+        labels,
+        &mut visited[..n],
+        &mut order,
+        &mut members,
+        stack,
+    )
+}
+
+// Marks in `visited` what the flagged components reach; members[p] is the node of component p.
+pub fn find_reach(
+    keys: &[u64],
+    members: &[usize],
+    flags: &[bool],
+    visited: &mut [bool],
+    stack: &mut [usize],
+)
+    requires { ⌜ Ascending (now keys) × (length (now visited) ≤ componentLimit) ⌝ }
+    requires { ⌜ Indices (length (now visited)) (length (now visited)) (now members) × (length (now visited) ≤ length (now flags)) ⌝ }
+    requires { ⌜ (2 * length (now visited) ≤ length (now stack)) × Zeros (now stack) ⌝ }
+    ensures { λ _. ⌜ ReachedBy (length (now (visited .entry))) (edges (length (now (visited .entry))) (now (keys .entry))) (now (members .entry)) (now (flags .entry)) (now (visited .exit)) (now (stack .exit)) ⌝ }
+{
+    let n = visited.len();
+    let mut starts = [false; COMPONENTS];
+    let mut order = [0usize; COMPONENTS];
+    gather(n, members, flags, &mut starts[..n]);
+    regions::reach_from(keys, n, &starts[..n], visited, &mut order, stack);
+}
+
+// The member of each component, by list place.
+pub fn place_members(keys: &[u64], components: &[i64], members: &mut [usize])
+    requires { ⌜ Components (now components) × IdTable (now components) (now keys) ⌝ }
+    requires { ⌜ componentCount (now components) ≤ length (now members) ⌝ }
+    ensures { λ _. ⌜ Numbers (componentCount (now (components .entry))) (memberOf (now (components .entry))) (now (members .exit)) ⌝ }
+{
+    let count = components.len() / COMPONENT;
+    let mut p: usize = 0;
+    while p < count {
+        members[p] = member_of(keys, natural_at(components, p * COMPONENT));
+        p += 1;
+    }
+}
+
+// The label of each component, by list place.
+pub fn place_labels(n: usize, members: &[usize], labels: &[usize], out: &mut [usize])
+    requires { ⌜ Indices n (length (now labels)) (now members) × (n ≤ length (now out)) ⌝ }
+    ensures { λ _. ⌜ Numbers n (λ p. getD (now (labels .entry)) (getD (now (members .entry)) p 0) 0) (now (out .exit)) ⌝ }
+{
+    let mut p: usize = 0;
+    while p < n {
+        out[p] = labels[members[p]];
+        p += 1;
+    }
+}
+
+// Flags the regions of two nodes or more.
+fn flag_large(sizes: &[usize], flags: &mut [bool])
+    requires { ⌜ length (now sizes) ≤ length (now flags) ⌝ }
+    ensures { λ _. ⌜ Flags (length (now (sizes .entry))) (λ r. leb 2 (getD (now (sizes .entry)) r 0) || marked (now (flags .entry)) r) (now (flags .exit)) ⌝ }
+{
+    let mut r: usize = 0;
+    while r < sizes.len() {
+        if 2 <= sizes[r] {
+            flags[r] = true;
+        }
+        r += 1;
+    }
+}
+
+// Flags the regions with a connection from a node to itself.
+fn flag_selves(
+    ports: &[i64],
+    sources: &[usize],
+    sinks: &[usize],
+    labels: &[usize],
+    flags: &mut [bool],
+)
+    requires { ⌜ PortConnections (now ports) ⌝ }
+    requires { ⌜ SignalEnds (length (now labels)) (now ports) (now sinks) × (portCount (now ports) ≤ length (now sources)) ⌝ }
+    requires { ⌜ Indices (length (now labels)) (length (now flags)) (now labels) × (0 < length (now flags)) ⌝ }
+    ensures { λ _. ⌜ Flags (length (now (flags .entry))) (λ r. some (selfAt (now (ports .entry)) (now (sources .entry)) (now (sinks .entry)) (now (labels .entry)) r) (portCount (now (ports .entry)))) (now (flags .exit)) ⌝ }
+{
+    let mut itself = [false; CONNECTIONS];
+    let mut ends = [0usize; CONNECTIONS];
+    self_flags(ports, sources, sinks, &mut itself);
+    sink_regions(ports, sinks, labels, &mut ends);
+    gather(ports.len() / PORT, &ends, &itself, flags);
+}
+
+// Flags the cyclic regions: those of two nodes or more, or with a connection from a node to itself.
+pub fn find_cyclic(
+    ports: &[i64],
+    sources: &[usize],
+    sinks: &[usize],
+    labels: &[usize],
+    flags: &mut [bool],
+)
+    requires { ⌜ PortConnections (now ports) ⌝ }
+    requires { ⌜ SignalEnds (length (now labels)) (now ports) (now sinks) × (portCount (now ports) ≤ length (now sources)) ⌝ }
+    requires { ⌜ Indices (length (now labels)) (length (now flags)) (now labels) × ((0 < length (now flags)) × (length (now flags) ≤ componentLimit)) ⌝ }
+    ensures { λ _. ⌜ Flags (length (now (flags .entry))) (cyclicAt (now (ports .entry)) (now (sources .entry)) (now (sinks .entry)) (now (labels .entry))) (now (flags .exit)) ⌝ }
+{
+    let count = flags.len();
+    let mut sizes = [0usize; COMPONENTS];
+    flag_selves(ports, sources, sinks, labels, flags);
+    count_into(labels.len(), labels, &mut sizes[..count]);
+    flag_large(&sizes[..count], flags);
+}
