@@ -1,6 +1,6 @@
 -- Sets and rows of an answer are those of the definitions.
 --     set-where, set-all, set-same      the set of the flags of a test; of a list of flags; of an equal test
---     empty-set                         beside a refusal
+--     empty-set, none-set               beside a refusal; of a test that never holds
 --     tabulated-same                    the values of two functions that agree
 --     prepared-as, analyzed-stack       the same of equal arrays
 --     scene-of                          an accepted scene
@@ -56,6 +56,13 @@ set-where {n} {m} {P} {flags} {words} few s f = record {
 
 pub empty-set : (P : ℕ → Bool) {words : List ℕ} → ((k : ℕ) → memberOf words k ≡ false) → SetWhere 0 P words
 empty-set P e = record { member = λ k. e k ∙ rw (le-ltb k 0 (omega arith)) }
+
+pub none-set : {n : ℕ} {P : ℕ → Bool} {words : List ℕ} → ((k : ℕ) → P k ≡ false) → ((k : ℕ) → memberOf words k ≡ false) → SetWhere n P words
+none-set {n} none e = record { member = λ k. e k ∙ no (ltb k n) ∙ ap (λ (t : Bool). ltb k n && t) (sym (none k)) }
+  where
+    no : (t : Bool) → false ≡ (t && false)
+    no true = refl
+    no false = refl
 
 pub tabulated-same : {A : Type 0} (f g : ℕ → A) (n : ℕ) → ((p : ℕ) → p < n → f p ≡ g p) → tabulate f n ≡ tabulate g n
 unfolding tabulate

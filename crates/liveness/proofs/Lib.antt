@@ -2,11 +2,11 @@
 --     Outside                           the regions fed from outside
 --     Inferring                         the inferred inputs
 --     Answers                           sets and rows of an answer
---     Asked                             the port of an input query, its immediate sources and its inferred inputs
+--     Inputs                            the port of an input query, its immediate sources and its inferred inputs
 --     Demands, SameMembers              demand 3; order and repetition of port connections
 pub mod Outside
 pub mod Inferring
 pub mod Demands
 pub mod Answers
-pub mod Asked
+pub mod Inputs
 pub mod SameMembers

@@ -1,4 +1,4 @@
--- The port of an input query, by the tables of a prepared scene.
+-- The ports of an input query, by the tables of a prepared scene.
 -- Assumes nothing: these are definitions.
 use Prim.Native.Nat.{ℕ, _*_, _≤_, _<_}
 use mathlib.Core.Path.{_≡_}
@@ -20,17 +20,22 @@ use Rattle.signals.specs.Keys.{slot, ports}
 use Rattle.signals.specs.Stages.{Tables}
 use Rattle.liveness.specs.Scene.{Scene}
 
--- `at` is the slot of a port of the component at p in the tables of a scene, and `inferred` flags the members that are inferred inputs
-pub record PortOf (cs ps fs : List ℤ) (p port : ℕ) (fed backward : List ℕ) (at : ℕ) (inferred : List Bool) : Type 0 where
+-- the tables of a scene by the ports that are fed and backward, and the flags of the members that are inferred inputs: what its ports are
+-- asked by
+pub record Ready (cs ps fs : List ℤ) (fed backward : List ℕ) (inferred : List Bool) : Type 0 where
   pub scene : Scene cs ps
   pub sources : List ℕ
   pub sinks : List ℕ
   pub forward : List ℕ
   pub tables : Tables cs ps sources sinks forward backward fed
+  pub inferred-are : inferred ≡ membersWhere cs (isInferred cs ps fs)
+
+-- `at` is the slot of a port of the component at p in them
+pub record PortOf (cs ps fs : List ℤ) (p port : ℕ) (fed backward : List ℕ) (at : ℕ) (inferred : List Bool) : Type 0 where
+  pub ready : Ready cs ps fs fed backward inferred
   pub place : p < componentCount cs
   pub port-small : port < ports
   pub slot-is : at ≡ slot (memberOf cs p) port
-  pub inferred-are : inferred ≡ membersWhere cs (isInferred cs ps fs)
 
 -- what a walk against the edges asks
 pub record UpstreamRoom (backward : List ℕ) (immediate inferred : List Bool) (stack : List ℕ) : Type 0 where

@@ -1,6 +1,7 @@
 // Regions, sources, drive and verdicts of a scene.
+pub mod asked;
 mod infer;
-pub mod query;
+mod query;
 mod steps;
 
 use lists::COMPONENT;

@@ -1,8 +1,8 @@
 // The input query: the immediate sources of a port, and the inferred inputs among these and all upstream of them.
 use super::InputSources;
+use super::asked::make_ready;
 use super::steps::flag_drive;
 use super::steps::flag_inferred;
-use super::steps::prepare;
 use lists::COMPONENT;
 use lists::COMPONENTS;
 use lists::CONNECTIONS;
@@ -10,6 +10,7 @@ use lists::Checked;
 use lists::Found;
 use lists::PORT;
 use lists::Refusal;
+use lists::ids::member_of;
 use lists::ids::place_of;
 use lists::numbers::natural_at;
 use sets::ComponentSet;
@@ -95,7 +96,7 @@ fn upstream_inputs(
 
 // The sets of one port, given the tables of the scene by the ports that are fed and backward, the port's slot, and the inferred inputs by
 // member. The stack is zero before and after.
-pub fn row_sources(
+pub(crate) fn row_sources(
     fed: &[u64],
     backward: &[u64],
     slot: usize,
@@ -143,7 +144,7 @@ fn with_row(components: &[i64], port: u64, p: usize) -> Found
 }
 
 // Where the component of the port asked for stands, if the port has a verdict row.
-fn row_place(keys: &[u64], components: &[i64], id: u64, port: u64) -> Found
+pub(crate) fn row_place(keys: &[u64], components: &[i64], id: u64, port: u64) -> Found
     requires { ⌜ Components (now components) × IdTable (now components) (now keys) ⌝ }
     ensures { λ r. ⌜ r ≡ rowPlace (now (components .entry)) id port ⌝ }
 {
@@ -160,7 +161,7 @@ fn row_place(keys: &[u64], components: &[i64], id: u64, port: u64) -> Found
 // ---- the query of an accepted scene
 
 // Flags the inferred inputs of a prepared scene, by member.
-fn inferred_members(
+pub(crate) fn inferred_members(
     components: &[i64],
     ports: &[i64],
     frontiers: &[i64],
@@ -211,48 +212,6 @@ fn inferred_members(
     );
 }
 
-// The sets of a port of the component at p, of a prepared scene.
-fn port_sources(
-    components: &[i64],
-    ports: &[i64],
-    frontiers: &[i64],
-    source_at: &[usize],
-    sink_at: &[usize],
-    forward: &[u64],
-    backward: &[u64],
-    fed: &[u64],
-    labels: &[usize],
-    members: &[usize],
-    region_at: &[usize],
-    p: usize,
-    port: usize,
-    stack: &mut [usize],
-) -> InputSources
-    requires { ⌜ Scene (now components) (now ports) ⌝ }
-    requires { ⌜ Prepared (now components) (now ports) (now «source_at») (now «sink_at») (now forward) (now backward) (now fed) (now labels) (now members) (now «region_at») ⌝ }
-    requires { ⌜ (p < componentCount (now components)) × (port < 2 ^ 8) ⌝ }
-    requires { ⌜ (2 * componentCount (now components) ≤ length (now stack)) × Zeros (now stack) ⌝ }
-    ensures { λ r. ⌜ InputsBy Accepted (now (components .entry)) (now (ports .entry)) (now (frontiers .entry)) (At p) port (now (stack .entry)) (now (stack .exit)) r ⌝ }
-{
-    let n = components.len() / COMPONENT;
-    let mut inferred = [false; COMPONENTS];
-    inferred_members(
-        components,
-        ports,
-        frontiers,
-        source_at,
-        sink_at,
-        forward,
-        backward,
-        labels,
-        members,
-        region_at,
-        &mut inferred[..n],
-    );
-    let slot = members[p] * PORTS + port;
-    row_sources(fed, backward, slot, &inferred[..n], stack)
-}
-
 // The sets of a port of the component at p, of an accepted scene, given its table of ids.
 fn input_sources(
     keys: &[u64],
@@ -269,45 +228,21 @@ fn input_sources(
 {
     let n = keys.len();
     let m = ports.len() / PORT;
-    let mut source_at = [0usize; CONNECTIONS];
-    let mut sink_at = [0usize; CONNECTIONS];
-    let mut forward = [0u64; CONNECTIONS];
-    let mut backward = [0u64; CONNECTIONS];
     let mut fed = [0u64; CONNECTIONS];
-    let mut labels = [0usize; COMPONENTS];
-    let mut members = [0usize; COMPONENTS];
-    let mut region_at = [0usize; COMPONENTS];
-    regions::clear(stack);
-    prepare(
+    let mut backward = [0u64; CONNECTIONS];
+    let mut inferred = [false; COMPONENTS];
+    make_ready(
         keys,
         components,
         ports,
-        &mut source_at,
-        &mut sink_at,
-        &mut forward[..m],
-        &mut backward[..m],
+        frontiers,
         &mut fed[..m],
-        &mut labels[..n],
-        &mut members,
-        &mut region_at,
+        &mut backward[..m],
+        &mut inferred[..n],
         stack,
     );
-    port_sources(
-        components,
-        ports,
-        frontiers,
-        &source_at,
-        &sink_at,
-        &forward[..m],
-        &backward[..m],
-        &fed[..m],
-        &labels[..n],
-        &members,
-        &region_at,
-        p,
-        port,
-        stack,
-    )
+    let slot = member_of(keys, natural_at(components, p * COMPONENT)) * PORTS + port;
+    row_sources(&fed[..m], &backward[..m], slot, &inferred[..n], stack)
 }
 
 // The answer beside a refusal: empty sets.

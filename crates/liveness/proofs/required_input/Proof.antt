@@ -14,7 +14,7 @@ use Rattle.lists.specs.declared.Checked.{Checked}
 use Rattle.lists.specs.declared.Checked.the-variants.{Accepted}
 use Rattle.lists.proofs.Accepted.{LivenessScene, liveness-accept}
 use Rattle.liveness.proofs.Answers.{scene-of}
-use Rattle.liveness.proofs.Asked.{inputs-checked}
+use Rattle.liveness.proofs.Inputs.{inputs-checked}
 use Rattle.liveness.proofs.required_input.Statement.{statement}
 use Rattle.liveness.proofs.required_input.Tie as tie
 

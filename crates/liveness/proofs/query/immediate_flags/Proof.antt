@@ -6,7 +6,7 @@ use Prim.Native.Nat.{_%_, _-_, _≤_, _<_}
 use native.Mathlib.Omega.{arith}
 use lib.ListN.{length, getD, length-set}
 use Rattle.tables.specs.Pairs.{span}
-use Rattle.liveness.proofs.Asked.{Flagged, flagged-none, flagged-more, flagged-all}
+use Rattle.liveness.proofs.Inputs.{Flagged, flagged-none, flagged-more, flagged-all}
 use Rattle.liveness.proofs.query.immediate_flags.Statement.{statement}
 use Rattle.liveness.proofs.query.immediate_flags.Tie as tie
 

@@ -1,21 +1,29 @@
--- `liveness::query::input_sources` meets its contract: the scene is prepared in local arrays, then its port is asked.
+-- `liveness::query::input_sources` meets its contract: the scene is made ready in local arrays, then the port's slot is asked.
 -- Assumes nothing.
-use borrow.Author.Needs.{needs}
-use mathlib.Core.Path.{_≡_, sym, _∙_}
-use mathlib.Core.List.{List}
-use Prim.Native.Nat.{ℕ, _≤_}
+use mathlib.Core.Path.{_≡_, refl, sym, ap, _∙_}
+use mathlib.Core.Bool.{Bool, false}
+use mathlib.Core.List.{List, _++_}
+use Prim.Native.Nat.{ℕ, _≤_, _<_}
 use native.Mathlib.Omega.{arith}
 use lib.ListN.{length, take, drop, replicate}
 use lib.Seq.{length-take-le}
+use lib.IntN.{ℤ}
 use Rattle.lists.specs.Limits.{componentLimit, connectionLimit}
 use Rattle.lists.specs.Records.{componentCount, portCount}
+use Rattle.lists.specs.Ids.{smallerIds, memberOf}
 use Rattle.lists.proofs.Table.{table-long}
-use Rattle.regions.proofs.Fill.{cleared-zeros}
+use Rattle.lists.proofs.Search.{record-within}
+use Rattle.lists.proofs.Fields.{first-nonNeg}
+use Rattle.lists.proofs.Members.{member-below}
+use Rattle.signals.specs.Keys.{slot}
 use Rattle.signals.proofs.Lent.{front, front-long, front-length}
-use Rattle.liveness.proofs.Answers.{prepared-as}
-use Rattle.liveness.proofs.Asked.{inputs-stack}
+use Rattle.liveness.specs.Inputs.{PortOf}
+use Rattle.liveness.proofs.Inputs.{ready-as, id-small, inputs-stack}
 use Rattle.liveness.proofs.query.input_sources.Statement.{statement}
 use Rattle.liveness.proofs.query.input_sources.Tie as tie
+
+abbrev cs : tie.Start → List ℤ
+cs s = s .args .components .now
 
 abbrev edgeCount : tie.Start → ℕ
 edgeCount s = portCount (s .args .ports .now)
@@ -23,7 +31,7 @@ edgeCount s = portCount (s .args .ports .now)
 abbrev nodes : tie.Start → ℕ
 nodes s = length (s .args .keys .now)
 
-all : (s : tie.Start) → nodes s ≡ componentCount (s .args .components .now)
+all : (s : tie.Start) → nodes s ≡ componentCount (cs s)
 all s = table-long (s .pre .0 .1)
 
 edges-few : (s : tie.Start) → edgeCount s ≤ 4096
@@ -35,111 +43,121 @@ nodes-few s = omega (arith, all s, s .pre .0 .0 .components .few)
 keys-lent : (s : tie.Start) → length {A = ℕ} (take (edgeCount s) (replicate connectionLimit 0)) ≡ edgeCount s
 keys-lent s = length-take-le _ _ (edges-few s)
 
-labels-lent : (s : tie.Start) → length {A = ℕ} (take (nodes s) (replicate componentLimit 0)) ≡ nodes s
-labels-lent s = length-take-le _ _ (nodes-few s)
+flags-lent : (s : tie.Start) → length (take (nodes s) (replicate componentLimit false)) ≡ nodes s
+flags-lent s = length-take-le _ _ (nodes-few s)
 
-prepare-requires : tie.Need-prepare-requires
-prepare-requires c κs =
-    let cleared = c .before .before .before .before .before .before .before .before .before .before .before in
-    let s = c .before .before .before .before .before .before .before .before .before .before .before .before .before .before .before in (
-      s .pre .0,
-      record {
-        sources-room = edges-few s;
-        sinks-room = edges-few s;
-        forward-room = keys-lent s;
-        backward-room = keys-lent s;
-        fed-room = keys-lent s;
-        labels-room = labels-lent s ∙ all s;
-        members-room = omega (arith, nodes-few s, all s);
-        regions-room = omega (arith, nodes-few s, all s);
-        stack-room = omega (arith, s .pre .1 .1 .1, cleared .clear .kept .0);
-        stack-zeros = rw (cleared .clear .ensures) (cleared-zeros (length (s .args .stack .now)));
-      },
-    )
+-- ---- after the scene is made ready: what was lent stands at the front of each array
 
--- ---- after the scene is prepared: what was lent stands at the front of each array
+abbrev start : tie.After-make-ready → tie.Start
+start c = c .before .before .before .before .before .before .before
 
-abbrev start : tie.After-prepare → tie.Start
-start c = c .before .before .before .before .before .before .before .before .before .before .before .before .before .before .before .before
+abbrev fed : tie.After-make-ready → List ℕ
+fed c = c .make-ready .last .1 .1 .1 .1 .0
 
-abbrev forward : tie.After-prepare → List ℕ
-forward c = c .prepare .last .1 .1 .1 .1 .1 .0
+abbrev backward : tie.After-make-ready → List ℕ
+backward c = c .make-ready .last .1 .1 .1 .1 .1 .0
 
-abbrev backward : tie.After-prepare → List ℕ
-backward c = c .prepare .last .1 .1 .1 .1 .1 .1 .0
+abbrev flags : tie.After-make-ready → List Bool
+flags c = c .make-ready .last .1 .1 .1 .1 .1 .1 .0
 
-abbrev fed : tie.After-prepare → List ℕ
-fed c = c .prepare .last .1 .1 .1 .1 .1 .1 .1 .0
-
-abbrev labelled : tie.After-prepare → List ℕ
-labelled c = c .prepare .last .1 .1 .1 .1 .1 .1 .1 .1 .0
-
-abbrev keys-rest : tie.After-prepare → List ℕ
+abbrev keys-rest : tie.After-make-ready → List ℕ
 keys-rest c = drop (edgeCount (start c)) (replicate connectionLimit 0)
 
-abbrev labels-rest : tie.After-prepare → List ℕ
-labels-rest c = drop (nodes (start c)) (replicate componentLimit 0)
+abbrev flags-rest : tie.After-make-ready → List Bool
+flags-rest c = drop (nodes (start c)) (replicate componentLimit false)
 
-forward-long : (c : tie.After-prepare) → length (forward c) ≡ edgeCount (start c)
-forward-long c = c .prepare .kept .1 .1 .1 .1 .1 .0 ∙ keys-lent (start c)
+fed-long : (c : tie.After-make-ready) → length (fed c) ≡ edgeCount (start c)
+fed-long c = c .make-ready .kept .1 .1 .1 .1 .0 ∙ keys-lent (start c)
 
-backward-long : (c : tie.After-prepare) → length (backward c) ≡ edgeCount (start c)
-backward-long c = c .prepare .kept .1 .1 .1 .1 .1 .1 .0 ∙ keys-lent (start c)
+backward-long : (c : tie.After-make-ready) → length (backward c) ≡ edgeCount (start c)
+backward-long c = c .make-ready .kept .1 .1 .1 .1 .1 .0 ∙ keys-lent (start c)
 
-fed-long : (c : tie.After-prepare) → length (fed c) ≡ edgeCount (start c)
-fed-long c = c .prepare .kept .1 .1 .1 .1 .1 .1 .1 .0 ∙ keys-lent (start c)
-
-labels-long : (c : tie.After-prepare) → length (labelled c) ≡ nodes (start c)
-labels-long c = c .prepare .kept .1 .1 .1 .1 .1 .1 .1 .1 .0 ∙ labels-lent (start c)
+flags-long : (c : tie.After-make-ready) → length (flags c) ≡ nodes (start c)
+flags-long c = c .make-ready .kept .1 .1 .1 .1 .1 .1 .0 ∙ flags-lent (start c)
 
 -- the stack is as long as it was
-stack-long : (c : tie.After-prepare) → length (c .prepare .last .1 .1 .1 .1 .1 .1 .1 .1 .1 .1 .1 .0) ≡ length (start c .args .stack .now)
-stack-long c = c .prepare .kept .1 .1 .1 .1 .1 .1 .1 .1 .1 .1 .1 .0 ∙ c .before .before .before .before .before .before .before .before .before .before .before .before .clear .kept .0
+stack-long : (c : tie.After-make-ready) → length (c .make-ready .last .1 .1 .1 .1 .1 .1 .1 .0) ≡ length (start c .args .stack .now)
+stack-long c = c .make-ready .kept .1 .1 .1 .1 .1 .1 .1 .0
 
-port-sources-requires : tie.Need-port-sources-requires
-port-sources-requires c κs =
-    let p = c .before .before .before .before .before .before .before .before .before .before .before .before .before .before .before .before .before .before .before in
-    let s = start p in
-    let asked = s .pre .1 in
-    let e = p .prepare .ensures in (
-      s .pre .0 .0,
-      (
-        prepared-as (front _ (forward p) (keys-rest p) (forward-long p)) (front _ (backward p) (keys-rest p) (backward-long p))
-            (front _ (fed p) (keys-rest p) (fed-long p)) (front _ (labelled p) (labels-rest p) (labels-long p)) (e .prepared),
-        ((asked .0, asked .1 .0), (omega (arith, asked .1 .1, stack-long p), e .stack-zeros)),
-      ),
+-- ---- the port by its slot
+
+natural-at-requires : tie.Need-natural-at-requires
+natural-at-requires c κs =
+    let s = start (c .before .before .before .before .before) in
+    let h = s .pre .1 .0 in
+    (omega (arith, record-within (s .args .p) _ 8 h), first-nonNeg (s .pre .0 .0 .components) (s .args .p) h (omega arith) refl)
+
+member-of-requires : tie.Need-member-of-requires
+member-of-requires c κs =
+    let s = start (c .before .before .before .before .before .before) in
+    omega (arith, c .natural-at .ensures, id-small (s .pre .0 .0 .components) (s .args .p) (s .pre .1 .0))
+
+abbrev ready : tie.After-member-of → tie.After-make-ready
+ready c = c .before .before .before .before .before .before .before
+
+member-is : (c : tie.After-member-of) → let s = start (ready c) in c .member-of .result ≡ memberOf (cs s) (s .args .p)
+member-is c = let s = start (ready c) in c .member-of .ensures (cs s) (s .pre .0 .1) ∙ ap (smallerIds (cs s)) (c .before .natural-at .ensures)
+
+member-small : (c : tie.After-member-of) → c .member-of .result < 1024
+member-small c =
+    let s = start (ready c) in
+    omega (arith, member-is c, member-below (cs s) (s .args .p) (s .pre .1 .0), s .pre .0 .0 .components .few)
+
+port-is : (c : tie.After-member-of)
+    → let r = ready c in
+    let s = start r in
+    PortOf (cs s) (s .args .ports .now) (s .args .frontiers .now) (s .args .p) (s .args .port) (take (edgeCount s) (fed r ++ keys-rest r)) (take (edgeCount s) (backward r ++ keys-rest r))
+    (slot (c .member-of .result) (s .args .port)) (take (nodes s) (flags r ++ flags-rest r))
+port-is c =
+    let r = ready c in
+    let s = start r in
+    record {
+      ready = ready-as (front _ (fed r) (keys-rest r) (fed-long r)) (front _ (backward r) (keys-rest r) (backward-long r)) (front _ (flags r) (flags-rest r) (flags-long r)) (r .make-ready .ensures .0);
+      place = s .pre .1 .0;
+      port-small = s .pre .1 .1 .0;
+      slot-is = ap (λ (m : ℕ). slot m (s .args .port)) (member-is c);
+    }
+
+row-sources-requires : tie.Need-row-sources-requires
+row-sources-requires c κs =
+    let m = c .before .before .before .before in
+    let r = ready m in
+    let s = start r in
+    let a = s .args in (
+      (cs s, a .ports .now, a .frontiers .now, a .p, a .port, port-is m),
+      (omega (arith, front-length _ (flags r) (flags-rest r) (flags-long r), all s, s .pre .1 .1 .1, stack-long r), r .make-ready .ensures .1),
     )
+
+returns : tie.Need-returns
+returns c =
+    let m = c .before .before .before .before .before .before .before in
+    let r = ready m in
+    let s = start r in
+    let a = s .args in
+    inputs-stack (stack-long r) (c .before .before .row-sources .ensures (cs s) (a .ports .now) (a .frontiers .now) (a .p) (a .port) (port-is m))
 
 pub input-sources-spec : {M : Type 1} → statement M
 input-sources-spec =
     tie.close
     (tie.spec
-    (λ c κs. search needs)
-    (λ c. search needs)
-    (λ c. search needs)
-    (λ c. edges-few (c .before .before .before .before .before .before .before .before))
-    (λ c. sym (keys-lent (c .before .before .before .before .before .before .before .before .before)))
-    (λ c. edges-few (c .before .before .before .before .before .before .before .before .before))
-    (λ c. sym (keys-lent (c .before .before .before .before .before .before .before .before .before .before)))
-    (λ c. edges-few (c .before .before .before .before .before .before .before .before .before .before))
-    (λ c. sym (keys-lent (c .before .before .before .before .before .before .before .before .before .before .before)))
-    (λ c. nodes-few (c .before .before .before .before .before .before .before .before .before .before .before))
-    (λ c. sym (labels-lent (c .before .before .before .before .before .before .before .before .before .before .before .before)))
-    (λ c. search needs)
-    (λ c. search needs)
-    prepare-requires
-    (λ c. search needs)
-    (λ c. search needs)
-    (λ c. let p = c .before .before .before .before .before .before .before .before .before .before .before .before in front-long _ (forward p) (keys-rest p) (forward-long p))
-    (λ c. let p = c .before .before .before .before .before .before .before .before .before .before .before .before .before in front-length _ (forward p) (keys-rest p) (forward-long p))
-    (λ c. let p = c .before .before .before .before .before .before .before .before .before .before .before .before .before in front-long _ (backward p) (keys-rest p) (backward-long p))
-    (λ c. let p = c .before .before .before .before .before .before .before .before .before .before .before .before .before .before in front-length _ (backward p) (keys-rest p) (backward-long p))
-    (λ c. let p = c .before .before .before .before .before .before .before .before .before .before .before .before .before .before in front-long _ (fed p) (keys-rest p) (fed-long p))
-    (λ c. let p = c .before .before .before .before .before .before .before .before .before .before .before .before .before .before .before in front-length _ (fed p) (keys-rest p) (fed-long p))
-    (λ c. let p = c .before .before .before .before .before .before .before .before .before .before .before .before .before .before .before in front-long _ (labelled p) (labels-rest p) (labels-long p))
-    (λ c. let p = c .before .before .before .before .before .before .before .before .before .before .before .before .before .before .before .before in front-length _ (labelled p) (labels-rest p) (labels-long p))
-    (λ c. search needs)
-    (λ c. search needs)
-    port-sources-requires
-    (λ c. c .before .before .port-sources .kept .1 .1 .1 .1 .1 .1 .1 .1 .1 .1 .1 .1 .1 .0 ∙ stack-long (c .before .before .before .before .before .before .before .before .before .before .before .before .before .before .before .before .before .before .before .before .before .before))
-    (λ c. inputs-stack (stack-long (c .before .before .before .before .before .before .before .before .before .before .before .before .before .before .before .before .before .before .before .before .before .before)) (c .before .before .port-sources .ensures)))
+    (λ c. edges-few (c .before .before))
+    (λ c. sym (keys-lent (c .before .before .before)))
+    (λ c. edges-few (c .before .before .before))
+    (λ c. sym (keys-lent (c .before .before .before .before)))
+    (λ c. nodes-few (c .before .before .before .before))
+    (λ c. sym (flags-lent (c .before .before .before .before .before)))
+    (λ c κs. let s = c .before .before .before .before .before .before in (s .pre .0, (keys-lent s, (keys-lent s, (flags-lent s ∙ all s, s .pre .1 .1 .1)))))
+    (λ c. let s = start (c .before .before .before .before .before) in omega (arith, s .pre .1 .0, s .pre .0 .0 .components .few))
+    natural-at-requires
+    member-of-requires
+    (λ c. omega (arith, member-small c))
+    (λ c. omega (arith, member-small c, start (ready c) .pre .1 .1 .0))
+    (λ c. let r = ready c in front-long _ (fed r) (keys-rest r) (fed-long r))
+    (λ c. let r = c .before .before .before .before .before .before .before .before in front-length _ (fed r) (keys-rest r) (fed-long r))
+    (λ c. let r = c .before .before .before .before .before .before .before .before in front-long _ (backward r) (keys-rest r) (backward-long r))
+    (λ c. let r = c .before .before .before .before .before .before .before .before .before in front-length _ (backward r) (keys-rest r) (backward-long r))
+    (λ c. let r = c .before .before .before .before .before .before .before .before .before in front-long _ (flags r) (flags-rest r) (flags-long r))
+    (λ c. let r = c .before .before .before .before .before .before .before .before .before .before in front-length _ (flags r) (flags-rest r) (flags-long r))
+    row-sources-requires
+    (λ c. c .before .before .row-sources .kept .1 .1 .1 .1 .0 ∙ stack-long (c .before .before .before .before .before .before .before .before .before .before .before .before .before .before))
+    returns)

@@ -3,7 +3,7 @@
 use borrow.Author.Needs.{needs}
 use mathlib.Core.Path.{_≡_, sym, _∙_}
 use Rattle.liveness.specs.Query.{rowPlace}
-use Rattle.liveness.proofs.Asked.{row-found, inputs-found}
+use Rattle.liveness.proofs.Inputs.{row-found, inputs-found}
 use Rattle.liveness.proofs.query.query_scene.Statement.{statement}
 use Rattle.liveness.proofs.query.query_scene.Tie as tie
 
@@ -19,7 +19,7 @@ input-sources-requires c κs =
     let l = c .before .before .before .before in
     let s = start l in
     let f = row-found (s .args .components .now) (s .args .id) (s .args .port) (sym (looked l) ∙ c .before .before .place .given .1) in
-    (s .pre .0, (f .0, (f .1, s .pre .1)))
+    (s .pre .0, (f .below, (f .port-small, s .pre .1)))
 
 returns : tie.Need-returns
 returns c =

@@ -10,7 +10,7 @@ use lib.Seq.{length-take-le}
 use Rattle.lists.specs.Limits.{componentLimit}
 use Rattle.regions.proofs.Fill.{zeros-cleared}
 use Rattle.signals.proofs.Lent.{front, front-long}
-use Rattle.liveness.proofs.Asked.{slot-asked, nodes-few, back-rises, immediate-set, inferred-set}
+use Rattle.liveness.proofs.Inputs.{slot-asked, nodes-few, back-rises, immediate-set, inferred-set}
 use Rattle.liveness.proofs.query.row_sources.Statement.{statement}
 use Rattle.liveness.proofs.query.row_sources.Tie as tie
 

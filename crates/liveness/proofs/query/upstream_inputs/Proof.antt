@@ -11,7 +11,7 @@ use lib.Seq.{length-take-le}
 use Rattle.lists.specs.Limits.{componentLimit}
 use Rattle.signals.proofs.Lent.{front, front-long}
 use Rattle.liveness.proofs.Answers.{set-where}
-use Rattle.liveness.proofs.Asked.{both-flags}
+use Rattle.liveness.proofs.Inputs.{both-flags}
 use Rattle.liveness.proofs.query.upstream_inputs.Statement.{statement}
 use Rattle.liveness.proofs.query.upstream_inputs.Tie as tie
 

@@ -2,10 +2,11 @@
 --     Flagged, flagged-..            the flags of a slot's keys, by the keys passed so far
 --     immediate-is                   a slot's keys are the immediate sources of its port
 --     both-flags                     the flags of the nodes reached that are inferred
+--     ready-of, ready-as, ..         what the ports of a prepared scene are asked by
 --     nodes, slot-asked, ..          what `PortOf` says of the tables
 --     immediate-set, inferred-set    the two sets of the port
---     port-of                        a port by the arrays of a prepared scene
 --     row-place, row-found, ..       the place of the port asked for
+--     row-port                       that port by its slot
 --     inputs-..                      the answer, by what was found and by what the checks say
 -- Assumes nothing.
 use mathlib.Core.Path.{_≡_, refl, sym, ap, subst, _∙_}
@@ -26,8 +27,8 @@ use Rattle.tables.specs.Pairs.{pair, span}
 use Rattle.lists.specs.Limits.{componentLimit}
 use Rattle.lists.specs.Records.{component, portConnection, componentCount, portCount}
 use Rattle.lists.specs.First.{isFound, tabulate}
-use Rattle.lists.specs.Ids.{placeBelow, placeOf, memberOf, firstEndMissing}
-use Rattle.lists.specs.Within.{PortConnections}
+use Rattle.lists.specs.Ids.{placeBelow, placeOf, smallerIds, memberOf, firstEndMissing}
+use Rattle.lists.specs.Within.{Components, PortConnections}
 use Rattle.lists.specs.declared.Found.{Found}
 use Rattle.lists.specs.declared.Found.the-variants.{At, Nothing}
 use Rattle.lists.specs.Refusals.{refuse, tooShort, _or-else_, queryRefusal}
@@ -35,6 +36,7 @@ use Rattle.lists.specs.declared.Checked.{Checked}
 use Rattle.lists.specs.declared.Checked.the-variants.{Accepted}
 use Rattle.lists.proofs.Search.{never, both, or-true, found-at}
 use Rattle.lists.proofs.Members.{member-below}
+use Rattle.lists.proofs.Fields.{first-most}
 use Rattle.scene.specs.Ports.{portsOf}
 use Rattle.scene.proofs.Sound.{ports-few}
 use Rattle.regions.specs.Graph.{Edges, marked, flip}
@@ -50,7 +52,7 @@ use Rattle.liveness.specs.Sets.{SetWhere}
 use Rattle.signals.specs.Rows.{SlotWithin}
 use Rattle.liveness.specs.Query.{isImmediate, upstream, isInferredFor, withRow, rowPlace, InputsBy, Answered}
 use Rattle.liveness.specs.Scene.{Scene, Prepared}
-use Rattle.liveness.specs.Inputs.{PortOf, UpstreamSet}
+use Rattle.liveness.specs.Inputs.{Ready, PortOf, UpstreamSet}
 use Rattle.liveness.specs.declared.InputSources.{InputSources}
 use Rattle.signals.proofs.Tabulated.{first-cong, tabulated-length, tabulated-at}
 use Rattle.signals.proofs.Ends.{ends-within, sink-is}
@@ -131,28 +133,50 @@ pub both-flags : {n : ℕ} (inferred : List Bool) {visited visited′ out : List
     → Flags n (λ a. marked visited a && marked inferred a) out → Flags n (λ a. marked visited′ a && marked inferred a) out
 both-flags {n} inferred {visited} {visited′} {out} e f = subst (λ (l : List Bool). Flags n (λ a. marked l a && marked inferred a) out) e f
 
+-- ---- what the ports of a scene are asked by
+
+pub ready-of : {cs ps fs : List ℤ} {sources sinks forward backward fed labelled members regionOf : List ℕ} {inferred : List Bool}
+    → Scene cs ps → Prepared cs ps sources sinks forward backward fed labelled members regionOf → inferred ≡ membersWhere cs (isInferred cs ps fs)
+    → Ready cs ps fs fed backward inferred
+ready-of {sources = sources} {sinks = sinks} {forward = forward} scene prepared e = record {
+  scene = scene;
+  sources = sources;
+  sinks = sinks;
+  forward = forward;
+  tables = prepared .tables;
+  inferred-are = e;
+}
+
+-- the same of equal arrays
+pub ready-as : {cs ps fs : List ℤ} {fed backward fed′ backward′ : List ℕ} {inferred inferred′ : List Bool} → fed′ ≡ fed → backward′ ≡ backward → inferred′ ≡ inferred
+    → Ready cs ps fs fed backward inferred → Ready cs ps fs fed′ backward′ inferred′
+ready-as a b c r = rw (a, b, c) r
+
+pub ready-nodes : {cs ps fs : List ℤ} {fed backward : List ℕ} {inferred : List Bool} → Ready cs ps fs fed backward inferred → length inferred ≡ componentCount cs
+unfolding membersWhere
+ready-nodes {cs} r = ap length (r .inferred-are) ∙ tabulated-length _ (componentCount cs)
+
 -- ---- the port of a prepared scene
 
 module _ {cs ps fs : List ℤ} {p port : ℕ} {fed backward : List ℕ} {at : ℕ} {inferred : List Bool} (q : PortOf cs ps fs p port fed backward at inferred) where
   few : componentCount cs ≤ componentLimit
-  few = q .scene .components .few
+  few = q .ready .scene .components .few
 
   pub nodes : length inferred ≡ componentCount cs
-  unfolding membersWhere
-  nodes = ap length (q .inferred-are) ∙ tabulated-length _ (componentCount cs)
+  nodes = ready-nodes (q .ready)
 
   slot-below : at < componentLimit * ports
   slot-below = omega (arith, q .slot-is, q .port-small, member-below cs p (q .place), few)
 
   slot-within : SlotWithin fed at (length inferred)
   slot-within =
-      let t = q .tables in
-      let within = fed-within few (q .scene .connections) (t .source-members) (t .sink-members) (t .slots-are) (t .fed-keys) (q .scene .ends) in
+      let t = q .ready .tables in
+      let within = fed-within few (q .ready .scene .connections) (t .source-members) (t .sink-members) (t .slots-are) (t .fed-keys) (q .ready .scene .ends) in
       record { below = λ i h e. omega (arith, nodes, within .below i h (omega (arith, e, slot-below))) }
 
   pub slot-asked : (m : ℕ) → m ≡ length inferred → (Ascending fed × (at < 2 ^ 32)) × (SlotWithin fed at m × (m ≤ span))
   slot-asked m e = (
-    (q .tables .fed-keys .sorted .ascending, omega (arith, slot-below)),
+    (q .ready .tables .fed-keys .sorted .ascending, omega (arith, slot-below)),
     (record { below = λ i h l. omega (arith, e, slot-within .below i h l) }, omega (arith, e, nodes, few)),
   )
 
@@ -160,18 +184,18 @@ module _ {cs ps fs : List ℤ} {p port : ℕ} {fed backward : List ℕ} {at : �
   nodes-few = omega (arith, nodes, few)
 
   pub back-rises : Ascending backward
-  back-rises = q .tables .backward-keys .sorted .ascending
+  back-rises = q .ready .tables .backward-keys .sorted .ascending
 
   immediate-at : (a : ℕ) → a < span → member (pair at a) fed ≡ isImmediate cs ps p port a
   immediate-at a h =
-      let t = q .tables in
+      let t = q .ready .tables in
       ap (λ (x : ℕ). member (pair x a) fed) (q .slot-is)
-      ∙ immediate-is few (q .scene .connections) (t .source-members) (t .sink-members) (t .slots-are) (t .fed-keys) (q .scene .ends) p port (q .place) (q .port-small) a h
+      ∙ immediate-is few (q .ready .scene .connections) (t .source-members) (t .sink-members) (t .slots-are) (t .fed-keys) (q .ready .scene .ends) p port (q .place) (q .port-small) a h
 
   graph-back : edges (componentCount cs) backward ≡ flip (signals cs ps)
   graph-back =
-      let t = q .tables in
-      λ i a b. edges-back few (t .source-members) (t .sink-members) (ends-within cs ps (q .scene .ends)) (t .backward-keys) a b i
+      let t = q .ready .tables in
+      λ i a b. edges-back few (t .source-members) (t .sink-members) (ends-within cs ps (q .ready .scene .ends)) (t .backward-keys) a b i
 
   module _ {starts : List Bool} (long : length starts ≡ length inferred) (flags : Flags (length inferred) (λ a. member (pair at a) fed) starts) where
     starts-are : starts ≡ tabulate (isImmediate cs ps p port) (componentCount cs)
@@ -205,23 +229,7 @@ module _ {cs ps fs : List ℤ} {p port : ℕ} {fed backward : List ℕ} {at : �
         set-same nodes (λ k.
         ap (λ (l : List Bool). marked (reached n (edges n backward) l) k && marked inferred k) e
         ∙ ap (λ (l : List Bool). marked l k && marked inferred k) reached-are
-        ∙ ap (λ (l : List Bool). marked (upstream cs ps p port) k && marked l k) (q .inferred-are)) (u .set)
-
--- a port of a component by the arrays of the prepared scene
-pub port-of : {cs ps : List ℤ} (fs : List ℤ) {sources sinks forward backward fed labelled members regionOf : List ℕ} {p port : ℕ} {inferred : List Bool}
-    → Scene cs ps → Prepared cs ps sources sinks forward backward fed labelled members regionOf → p < componentCount cs → port < ports
-    → inferred ≡ membersWhere cs (isInferred cs ps fs) → PortOf cs ps fs p port fed backward (slot (getD members p 0) port) inferred
-port-of fs {sources} {sinks} {forward} {p = p} {port = port} scene prepared h l e = record {
-  scene = scene;
-  sources = sources;
-  sinks = sinks;
-  forward = forward;
-  tables = prepared .tables;
-  place = h;
-  port-small = l;
-  slot-is = ap (λ (m : ℕ). slot m port) (prepared .members-are .at p h);
-  inferred-are = e;
-}
+        ∙ ap (λ (l : List Bool). marked (upstream cs ps p port) k && marked l k) (q .ready .inferred-are)) (u .set)
 
 -- ---- the port asked for
 
@@ -233,8 +241,17 @@ pub place-below : (cs : List ℤ) (id : ℕ) {p : ℕ} → placeOf cs id ≡ At 
 unfolding placeBelow
 place-below cs id {p} e = let f = found-at (λ k. eqb (component cs k .id) id) 0 (componentCount cs) p e in omega (arith, f .below)
 
--- a port with a row is one of its component's ports
-pub row-found : (cs : List ℤ) (id port : ℕ) {p : ℕ} → rowPlace cs id port ≡ At p → (p < componentCount cs) × (port < ports)
+pub place-id : (cs : List ℤ) (id : ℕ) {p : ℕ} → placeOf cs id ≡ At p → component cs p .id ≡ id
+unfolding placeBelow
+place-id cs id {p} e = eqb-true (component cs p .id) id (found-at (λ k. eqb (component cs k .id) id) 0 (componentCount cs) p e .passes)
+
+-- the component at p has the id, and the port is one of its own
+pub record RowAt (cs : List ℤ) (id port p : ℕ) : Type 0 where
+  pub below : p < componentCount cs
+  pub port-small : port < ports
+  pub id-is : component cs p .id ≡ id
+
+pub row-found : (cs : List ℤ) (id port : ℕ) {p : ℕ} → rowPlace cs id port ≡ At p → RowAt cs id port p
 unfolding rowPlace
 row-found cs id port {p} e = go (placeOf cs id) refl e
   where
@@ -242,13 +259,37 @@ row-found cs id port {p} e = go (placeOf cs id) refl e
     at q true f = (refl, cc)
     at q false f = let z : _≡_ {A = ℕ} 0 1 = cc in absurd (omega arith)
 
-    go : (found : Found) → placeOf cs id ≡ found → withRow cs port found ≡ At p → (p < componentCount cs) × (port < ports)
+    go : (found : Found) → placeOf cs id ≡ found → withRow cs port found ≡ At p → RowAt cs id port p
     go (At q) f g =
         let c = component cs q in
         let is = at q (ltb port (length (portsOf c)) && isRequired c port) g in
-        let below = ltb-true port (length (portsOf c)) (both (ltb port (length (portsOf c))) (isRequired c port) (is .0) .0) in
-        (omega (arith, is .1, place-below cs id f), omega (arith, below, ports-few (c .kind) (c .facing) (c .support) (c .conducts)))
+        let small = ltb-true port (length (portsOf c)) (both (ltb port (length (portsOf c))) (isRequired c port) (is .0) .0) in
+        record {
+          below = omega (arith, is .1, place-below cs id f);
+          port-small = omega (arith, small, ports-few (c .kind) (c .facing) (c .support) (c .conducts));
+          id-is = ap (λ (k : ℕ). component cs k .id) (sym (is .1)) ∙ place-id cs id f;
+        }
     go Nothing f g = let z : _≡_ {A = ℕ} 0 1 = cc in absurd (omega arith)
+
+module _ {cs : List ℤ} (w : Components cs) where
+  pub id-small : (p : ℕ) → p < componentCount cs → component cs p .id < 4294967296
+  id-small p h = omega (arith, first-most w p h (omega arith) 4294967295 refl refl)
+
+  pub row-id-small : {id port p : ℕ} → RowAt cs id port p → id < 4294967296
+  row-id-small {p = p} row = omega (arith, row .id-is, id-small p (row .below))
+
+  pub row-member-small : {id port p : ℕ} → RowAt cs id port p → smallerIds cs id < componentLimit
+  row-member-small {p = p} row = omega (arith, ap (smallerIds cs) (row .id-is), member-below cs p (row .below), w .few)
+
+-- the port asked for by its slot
+pub row-port : {cs ps fs : List ℤ} {fed backward : List ℕ} {inferred : List Bool} {id port p member : ℕ} → Ready cs ps fs fed backward inferred → RowAt cs id port p
+    → member ≡ smallerIds cs id → PortOf cs ps fs p port fed backward (slot member port) inferred
+row-port {cs} {port = port} r row e = record {
+  ready = r;
+  place = row .below;
+  port-small = row .port-small;
+  slot-is = ap (λ (m : ℕ). slot m port) (e ∙ sym (ap (smallerIds cs) (row .id-is)));
+}
 
 -- ---- the answer
 
@@ -263,7 +304,12 @@ module _ {cs ps fs : List ℤ} {port : ℕ} {stack stack′ : List ℕ} {r : Inp
     inferred-set = a .inferred-set;
   }
 
-  -- by what was found
+  -- by what was found, in an accepted scene
+  pub inputs-at : (id : ℕ) {found : Found} → rowPlace cs id port ≡ found → InputsBy Accepted cs ps fs found port stack stack′ r
+      → InputsBy Accepted cs ps fs (rowPlace cs id port) port stack stack′ r
+  inputs-at id e a = subst (λ (f : Found). InputsBy Accepted cs ps fs f port stack stack′ r) (sym e) a
+
+  -- by what was found, with 8 where nothing was
   pub inputs-found : (id : ℕ) {found : Found} → rowPlace cs id port ≡ found → InputsBy (refuse 8 3 (tooShort (isFound found))) cs ps fs found port stack stack′ r
       → InputsBy (refuse 8 3 (tooShort (isFound (rowPlace cs id port)))) cs ps fs (rowPlace cs id port) port stack stack′ r
   inputs-found id e a = subst (λ (f : Found). InputsBy (refuse 8 3 (tooShort (isFound f))) cs ps fs f port stack stack′ r) (sym e) a
