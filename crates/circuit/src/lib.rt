@@ -1,6 +1,6 @@
 // The groups of a scene: nets and fragments, by union-find over the list places of its components.
 mod forest;
-mod settle;
+pub mod settle;
 
 ghost use mathlib.Core.Path.{_≡_};
 ghost use mathlib.Core.Bool.{_&&_, _||_};

@@ -125,12 +125,7 @@ fn groups(
 }
 
 // The nets and fragments of an accepted scene, whose table of ids is `keys`.
-pub(crate) fn group(
-    keys: &[u64],
-    connections: &[i64],
-    nets: &mut [u64],
-    fragments: &mut [u64],
-) -> Counts
+pub fn group(keys: &[u64], connections: &[i64], nets: &mut [u64], fragments: &mut [u64]) -> Counts
     requires { ⌜ Connections (now connections) ⌝ }
     requires { ⌜ IsIdTable (now keys) ⌝ }
     requires { ⌜ (length (now keys) ≤ componentLimit) × ((length (now keys) ≤ length (now nets)) × (length (now keys) ≤ length (now fragments))) ⌝ }

@@ -2,7 +2,7 @@
 pub mod asked;
 mod infer;
 mod query;
-mod steps;
+pub mod steps;
 
 use lists::COMPONENT;
 use lists::COMPONENTS;

@@ -328,7 +328,7 @@ fn report(
 }
 
 // Analyzes an accepted scene, given its table of ids.
-pub(crate) fn analyze(
+pub fn analyze(
     keys: &[u64],
     components: &[i64],
     ports: &[i64],

@@ -1,6 +1,6 @@
 -- A text that is written a piece at a time: what stands and what is still to be written are the whole.
 --     goes-from, goes-room, goes-on, goes-done     nothing stands yet; room for the next piece; a piece more; nothing is left
---     left-none, left-then, left-on                the room that is left, a piece at a time
+--     left-none, left-then, left-more, left-on     the room that is left, a piece at a time
 --     left-fits, left-short                        what the last answer says of the whole
 -- Assumes nothing.
 use mathlib.Core.Path.{_≡_, refl, sym, ap, _∙_}
@@ -73,6 +73,11 @@ left-then (At left) m n =
     (λ (h : left < m). ap (λ f. leftAfter f n) (left-over left m h) ∙ sym (left-over left (m + n) (omega arith)))
     (order? m left)
 left-then Nothing m n = refl
+
+-- t was measured, and then u
+pub left-more : (f : Found) (t u : List ℕ) {g : Found} → g ≡ leftAfter f (length t) → leftAfter g (length u) ≡ leftAfter f (length (t ++ u))
+left-more f t u e =
+    ap (λ (r : Found). leftAfter r (length u)) e ∙ left-then f (length t) (length u) ∙ ap (leftAfter f) (sym (length-append t u))
 
 -- t is measured, and then u is left of s = t ++ u
 pub left-on : (rest : Found) (t u : List ℕ) {s : List ℕ} {less whole : Found} {m : ℕ} → s ≡ t ++ u → m ≡ length t → less ≡ leftAfter rest m → leftAfter rest (length s) ≡ whole

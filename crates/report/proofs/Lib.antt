@@ -4,4 +4,9 @@ pub mod FieldText
 pub mod IdText
 pub mod RowText
 pub mod Shown
+pub mod VerdictText
+pub mod Fitting
+pub mod ReadLists
+pub mod Scenes
+pub mod Assembled
 mod Examples

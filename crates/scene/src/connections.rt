@@ -171,7 +171,7 @@ fn keep(
 }
 
 // Writes all rows that are kept, in order.
-fn keep_all(components: &[i64], keys: &[u64], connections: &[i64], out: &mut [i64]) -> usize
+pub fn keep_all(components: &[i64], keys: &[u64], connections: &[i64], out: &mut [i64]) -> usize
     requires { ⌜ Components (now components) ⌝ }
     requires { ⌜ IdTable (now components) (now keys) ⌝ }
     requires { ⌜ Connections (now connections) ⌝ }
