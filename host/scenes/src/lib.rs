@@ -15,6 +15,7 @@ pub mod profiles;
 pub mod random;
 pub mod refusals;
 mod scene;
+pub mod sheets;
 pub mod sized;
 
 pub use lent::Lent;
