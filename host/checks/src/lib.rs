@@ -7,6 +7,7 @@ mod groups;
 mod guarded;
 mod ports;
 pub mod runs;
+mod sheets;
 
 pub use alive::{Alive, LivenessLists};
 pub use compare::Tally;
@@ -14,3 +15,4 @@ pub use counted::Counted;
 pub use groups::{ByteLists, Groups};
 pub use guarded::Guarded;
 pub use ports::Ports;
+pub use sheets::{Entry, Sheets};
