@@ -3,6 +3,8 @@
 //! A line is a word and numbers, parted by one blank and ended by LF; the
 //! README beside the files lists the words.
 
+pub mod examples;
+
 use std::fmt::{Display, Write};
 
 use oracle::{Groups, Liveness};
