@@ -188,7 +188,6 @@ impl Sheet {
 
     /// The report, or the refusal, of a call with slices of these lengths, and
     /// what it leaves in the work lists. A refusal leaves the buffer as it was.
-    #[must_use]
     pub fn answer(&self, lent: &SheetLent) -> (Result<&[u8], Refusal>, Left) {
         let scene = match self {
             Self::Faulty(refusal) => return (Err(*refusal), Left::AsBefore),

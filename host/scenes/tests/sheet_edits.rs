@@ -1,10 +1,13 @@
-//! The writing of a sheet, and that edits do to it what they say.
+//! The writing of a sheet, sheets of an exact length, and that edits do to a
+//! sheet what they say.
 
 use std::collections::BTreeSet;
 
 use scenes::Scene;
 use scenes::random::Random;
+use scenes::refusals::sheet_lists;
 use scenes::sheets::edits::{Edit, drawn, of_bytes, of_counts, of_lines};
+use scenes::sheets::lengths::{MOST_DIGITS, dense_scene, sheet_of_length};
 use scenes::sheets::{Limits, sheet_of, within, write_sheet};
 
 const TEXT: &[u8] = b"components=0\nconnections=1\nsource=3\nsink=-4\nkind=5\nfrontiers=0\n";
@@ -99,4 +102,29 @@ fn a_scene_is_cut_to_limits() {
     assert_eq!(lengths.map(Vec::len), [8 * 256, 30, 0, 3 * 256]);
     assert!(sheet_of(&cut).starts_with(b"components=256\n"));
     assert_eq!(Limits::NONE.cut(), Limits::SCENE);
+}
+
+#[test]
+fn sheets_have_the_length_that_is_asked_for() {
+    for bytes in [62_000, 65_535, 65_536, 65_537, 67_000] {
+        let length = sheet_of_length(bytes).map(|text| text.len());
+        assert_eq!(length, Some(bytes));
+    }
+    assert_eq!(sheet_of_length(50_000), None);
+    assert_eq!(sheet_of_length(80_000), None);
+}
+
+#[test]
+fn dense_scenes_are_valid_and_within_the_limits_of_the_program() {
+    for connections in [0, 1, 727, 728, 1_014] {
+        for digits in [0, 1, 7, MOST_DIGITS] {
+            let scene = dense_scene(connections, digits);
+            let (components, frontiers) = (&scene.components, &scene.frontiers);
+            let refusal = sheet_lists(components, &scene.connections, frontiers);
+            assert_eq!(refusal, None, "{connections} {digits}");
+            assert_eq!(within(Limits::PROGRAM, &scene), scene);
+            assert_eq!(scene.components.len(), 8 * 256);
+            assert_eq!(scene.connections.len(), 3 * (connections + 10));
+        }
+    }
 }

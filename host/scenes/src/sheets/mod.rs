@@ -2,6 +2,7 @@
 //! caller sets to their counts.
 
 pub mod edits;
+pub mod lengths;
 
 use std::fmt::Write;
 
