@@ -9,4 +9,5 @@ pub mod Fitting
 pub mod ReadLists
 pub mod Scenes
 pub mod Assembled
+pub mod Spoken
 mod Examples

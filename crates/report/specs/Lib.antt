@@ -2,4 +2,5 @@
 pub mod Report
 pub mod Blocks
 pub mod Entry
+pub mod Program
 pub mod Printing

@@ -7,6 +7,7 @@ pub mod ids;
 pub mod inputs;
 pub mod keys;
 mod print;
+pub mod program;
 pub mod rows;
 mod writers;
 

@@ -44,13 +44,13 @@ abbrev start : tie.After-make-ready → tie.Start
 start c = c .before .before .before .before .before .before .before .before .before .before .before .before .before
 
 abbrev fed : tie.After-make-ready → List ℕ
-fed c = c .make-ready .last  .1 .1 .1 .1 .0
+fed c = c .make-ready .last .1 .1 .1 .1 .0
 
 abbrev backward : tie.After-make-ready → List ℕ
-backward c = c .make-ready .last  .1 .1 .1 .1 .1 .0
+backward c = c .make-ready .last .1 .1 .1 .1 .1 .0
 
 abbrev flags : tie.After-make-ready → List Bool
-flags c = c .make-ready .last  .1 .1 .1 .1 .1 .1 .0
+flags c = c .make-ready .last .1 .1 .1 .1 .1 .1 .0
 
 abbrev keys-rest : tie.After-make-ready → List ℕ
 keys-rest c = drop (edgeCount (start c)) (replicate connectionLimit 0)
@@ -59,13 +59,13 @@ abbrev flags-rest : tie.After-make-ready → List Bool
 flags-rest c = drop (nodes (start c)) (replicate componentLimit false)
 
 fed-long : (c : tie.After-make-ready) → length (fed c) ≡ edgeCount (start c)
-fed-long c = c .make-ready .kept  .1 .1 .1 .1 .0 ∙ keys-lent (start c)
+fed-long c = c .make-ready .kept .1 .1 .1 .1 .0 ∙ keys-lent (start c)
 
 backward-long : (c : tie.After-make-ready) → length (backward c) ≡ edgeCount (start c)
-backward-long c = c .make-ready .kept  .1 .1 .1 .1 .1 .0 ∙ keys-lent (start c)
+backward-long c = c .make-ready .kept .1 .1 .1 .1 .1 .0 ∙ keys-lent (start c)
 
 flags-long : (c : tie.After-make-ready) → length (flags c) ≡ nodes (start c)
-flags-long c = c .make-ready .kept  .1 .1 .1 .1 .1 .1 .0 ∙ flags-lent (start c)
+flags-long c = c .make-ready .kept .1 .1 .1 .1 .1 .1 .0 ∙ flags-lent (start c)
 
 make-ready-requires : tie.Need-make-ready-requires
 make-ready-requires c κs =
@@ -83,7 +83,7 @@ print-rows-requires c κs =
     let m = c .before .before .before .before .before .before .before .before .before .before in
     let s = start m in
     let a = s .args in
-    (s .pre .0 .1, ((a .ports .now, a .frontiers .now, is-ready m), (omega (arith, s .pre .1, m .make-ready .kept  .1 .1 .1 .1 .1 .1 .1 .0), m .make-ready .ensures .1)))
+    (s .pre .0 .1, ((a .ports .now, a .frontiers .now, is-ready m), (omega (arith, s .pre .1, m .make-ready .kept .1 .1 .1 .1 .1 .1 .1 .0), m .make-ready .ensures .1)))
 
 returns : tie.Need-returns
 returns c =
@@ -109,6 +109,6 @@ print-ready-spec =
     (λ c. let m = c .before .before .before .before .before .before .before in front-long _ (flags m) (flags-rest m) (flags-long m))
     (λ c. let m = c .before .before .before .before .before .before .before .before in front-length _ (flags m) (flags-rest m) (flags-long m))
     print-rows-requires
-    (λ c. c .before .before .before .before .print-rows .kept  .1 .1 .1 .1 .1 .1 .1 .1 .1 .1 .0 ∙ c .before .before .before .before .before .before .before .before .before .before .before .before .before .before .before .make-ready .kept  .1 .1 .1 .1 .1 .1 .1 .0)
-    (λ c. c .before .before .before .before .print-rows .kept  .1 .1 .1 .1 .1 .1 .1 .1 .1 .1 .1 .0)
+    (λ c. c .before .before .before .before .print-rows .kept .1 .1 .1 .1 .1 .1 .1 .1 .1 .1 .0 ∙ c .before .before .before .before .before .before .before .before .before .before .before .before .before .before .before .make-ready .kept .1 .1 .1 .1 .1 .1 .1 .0)
+    (λ c. c .before .before .before .before .print-rows .kept .1 .1 .1 .1 .1 .1 .1 .1 .1 .1 .1 .0)
     returns)
