@@ -1,3 +1,4 @@
 pub mod Places
 pub mod Inputs
 pub mod Ports
+pub mod Sheets

@@ -2,6 +2,7 @@
 mod groups;
 mod ports;
 mod query;
+mod sheets;
 
 ghost use mathlib.Core.Path.{_≡_};
 ghost use mathlib.Core.Bool.{true};
