@@ -8,6 +8,7 @@
 pub mod capi;
 pub mod ports;
 pub mod query;
+pub mod report;
 
 mod raw {
     //! A slice passes as a pointer and then a length in numbers.
