@@ -6,6 +6,7 @@ mod counted;
 mod groups;
 mod guarded;
 mod ports;
+pub mod program;
 pub mod runs;
 mod sheets;
 
