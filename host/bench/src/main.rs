@@ -4,6 +4,7 @@
 mod measure;
 mod subjects;
 mod tables;
+mod whole;
 
 use scenes::Scene;
 use scenes::sized::Shape;
@@ -11,6 +12,7 @@ use scenes::sized::Shape;
 use measure::Times;
 use subjects::{Groups, Liveness, Ports, Subject, without_supports};
 use tables::Row;
+use whole::Whole;
 
 const SIZES: [usize; 5] = [64, 128, 256, 512, 1_024];
 
@@ -61,5 +63,10 @@ fn main() {
     let liveness = measured::<Liveness>(|scene| scene);
     let title = "Liveness: `analyze_signal_liveness` and `dustroute_liveness`";
     tables::print(title, &liveness);
+    let whole = measured::<Whole>(|scene| scene);
+    tables::print(
+        "Whole report: the Rust between a reader and a printer, and the entry",
+        &whole,
+    );
     println!("{}", tables::NOTES);
 }

@@ -20,7 +20,9 @@ lists (here a function of its own). The scene builder also makes evidence with a
 connection, looks for each support among all components, copies blocks, nets and fragments, and
 lists the ports of every component; all that is left out of the port. Liveness also reads and writes
 bytes, and its connections are those that the scene builder keeps; the Rust also gives each verdict
-row its immediate sources and inferred inputs (here a query of its own), by a search upstream for each.";
+row its immediate sources and inferred inputs (here a query of its own), by a search upstream for each.
+A whole report is a sheet's bytes turned into a report's: the Rust's side has the tests' own reader and
+printer around each of its functions, run once, and checks nothing but the lines.";
 
 /// The times, and below them how they grow from the first size to the last.
 pub fn print(title: &str, rows: &[Row]) {
