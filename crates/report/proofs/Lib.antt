@@ -10,4 +10,5 @@ pub mod ReadLists
 pub mod Scenes
 pub mod Assembled
 pub mod Spoken
+pub mod SheetLaws
 mod Examples
