@@ -1,5 +1,5 @@
--- The worked example of document 01, as antt computes it: Lever 1 at 0,0,0 and Repeater 2 at 1,0,0 facing 2, one connection 1 to 2 of kind 5,
--- no frontier.
+-- The worked example of document 01 with a connection that is dropped, as antt computes it: Lever 1 at 0,0,0 and Repeater 2 at 1,0,0 facing 2,
+-- one connection 1 to 2 of kind 5, no frontier. The example itself is computed in crate `worked`.
 -- Assumes nothing.
 use mathlib.Core.Path.{_≡_, refl}
 use mathlib.Core.List.{List, [], _∷_}
@@ -7,7 +7,6 @@ use lib.IntN.{ℤ, pos}
 use Rattle.sets.specs.Members.{countBelow}
 use Rattle.lists.specs.First.{firstFrom, tabulate}
 use Rattle.lists.specs.Ids.{placeBelow, smallerIds}
-use Rattle.lines.specs.Text.{ascii}
 use Rattle.lines.specs.Decimal.{digitsThen}
 use Rattle.sheet.specs.Writing.{fieldLines}
 use Rattle.circuit.specs.Forest as forest
@@ -34,10 +33,6 @@ leverAndRepeater =
 
 abbrev fromLever : List ℤ
 fromLever = pos 1 ∷ pos 2 ∷ pos 5 ∷ []
-
-pub worked-report : reportOf leverAndRepeater fromLever [] ≡ ascii "answer=0\ncomponents=2\nid=1\nnet=0\nfragment=0\nregion=0\ndrive=1\npotential=1\nid=2\nnet=1\nfragment=0\nregion=1\ndrive=1\npotential=1\nconnections=1\nsource=1\nsource_port=1\nsink=2\nsink_port=1\ntransfer=4\nregions=2\ncyclic=0\nhas_drive=1\ncyclic=0\nhas_drive=0\nsources=1\nid=1\nkind=0\ninputs=1\ndevice=2\nport=1\nstatus=0\nimmediate=1\ninferred=\n"
-unfolding countBelow firstFrom tabulate placeBelow smallerIds digitsThen fieldLines forest.range forest.singletons forest.redirect forest.link forest.uniteRoots forest.unite forest.uniteAll rootsBelow groupsOf joins opposite faceOr neither repeaterPorts portsFor serves selectPort transferOf shiftBetween facingBetween portsBetween rowsBelow graph.range graph.filter graph.each graph.next walk.visit walk.order walk.paint walk.label walk.labels walk.reached signals sourceKind firstAt onFrontier isCyclic hasDrive fedFromOutside neighbours isInferred membersWhere drive potential fedBy statusOf portRows verdictRows sourcesAt sourceRowsBelow isImmediate upstream isInferredFor allRows spaced memberId idsBelow portLines verdictLines reportOf
-worked-report = refl
 
 -- a Support connection more, which is dropped, changes nothing: `connections=` counts those kept
 abbrev andSupport : List ℤ

@@ -1,0 +1,5 @@
+-- The theorems.
+--     Worked      W1 to W12, in a single list
+--     Printed     the worked sheet, from its bytes to those of its report
+pub mod Worked
+pub mod Printed

@@ -1,0 +1,3 @@
+-- What the theorems say.
+pub mod Plots
+pub mod Example
