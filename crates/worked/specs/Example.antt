@@ -29,10 +29,11 @@ abbrev pub reportText : List ℕ
 reportText =
     ascii "answer=0\ncomponents=2\nid=1\nnet=0\nfragment=0\nregion=0\ndrive=1\npotential=1\nid=2\nnet=1\nfragment=0\nregion=1\ndrive=1\npotential=1\nconnections=1\nsource=1\nsource_port=1\nsink=2\nsink_port=1\ntransfer=4\nregions=2\ncyclic=0\nhas_drive=1\ncyclic=0\nhas_drive=0\nsources=1\nid=1\nkind=0\ninputs=1\ndevice=2\nport=1\nstatus=0\nimmediate=1\ninferred=\n"
 
--- the program's limits, and the numbers and bytes that it lends
+-- by the program's limits: 256 components, 1,024 connections, 256 frontiers
 abbrev pub programParse : List ℕ → Parsed
 programParse text = parse 256 1024 256 text
 
+-- the program lends work lists for as many, of eight, three and three numbers each, and 65,536 bytes
 pub record Example : Type 0 where
   pub reads : programParse sheetText ≡ Lists leverAndRepeater fromLever []
   pub accepts : reportChecked (Lists leverAndRepeater fromLever []) 2048 3072 768 65536 ≡ Accepted
