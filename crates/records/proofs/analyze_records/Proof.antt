@@ -53,7 +53,7 @@ use Rattle.liveness.specs.declared.Analysis.{Analysis}
 use Rattle.liveness.proofs.Analysis as R
 use Rattle.liveness.proofs.Analysis.Laws as R′
 use Rattle.records.specs.declared.PortRecord.{PortRecord}
-use Rattle.records.specs.Records.{flatten, copied}
+use Rattle.records.specs.Records.{flatten, room, copied}
 use Rattle.records.proofs.PortRecord as T
 use Rattle.records.proofs.BigLit.{big-lit}
 use Rattle.records.proofs.Copied.{copied-le, copied-fits, front}
@@ -91,7 +91,7 @@ stayed = (
 -- ---- the flat array
 
 abbrev size : ℕ
-size = 20481
+size = room
 
 abbrev zeros : List ℤ
 zeros = replicate size (pos 0)
