@@ -1,5 +1,6 @@
 //! Times of the unchanged Rust and of the proved library on the same scenes,
-//! taken in turn in one run, as Markdown tables.
+//! taken in turn in one run, as Markdown tables. Words choose: `liveness 1024`
+//! times that table at that size only.
 
 mod measure;
 mod subjects;
@@ -34,11 +35,40 @@ fn medians<S: Subject>(scenes: impl Iterator<Item = Scene>) -> measure::Medians 
     times.medians()
 }
 
+/// What the words of the command line choose.
+struct Chosen {
+    words: Vec<String>,
+}
+
+impl Chosen {
+    fn has(&self, word: &str) -> bool {
+        self.words.iter().any(|given| given == word)
+    }
+
+    /// The sizes among the words, or all.
+    fn sizes(&self) -> Vec<usize> {
+        let named = |size: &usize| self.has(&size.to_string());
+        let sizes: Vec<usize> = SIZES.into_iter().filter(named).collect();
+        if sizes.is_empty() {
+            SIZES.to_vec()
+        } else {
+            sizes
+        }
+    }
+
+    /// Whether a table is among the words, or none is.
+    fn table(&self, name: &str) -> bool {
+        self.has(name) || !TABLES.into_iter().any(|other| self.has(other))
+    }
+}
+
+const TABLES: [&str; 4] = ["groups", "ports", "liveness", "whole"];
+
 /// Times both sides on the scenes of every shape and size, changed first.
-fn measured<S: Subject>(change: impl Fn(Scene) -> Scene) -> Vec<Row> {
+fn measured<S: Subject>(chosen: &Chosen, change: impl Fn(Scene) -> Scene) -> Vec<Row> {
     let mut rows = Vec::new();
     for shape in Shape::ALL {
-        for size in SIZES {
+        for size in chosen.sizes() {
             let scenes = (0..SCENES).map(|seed| change(shape.scene(size, seed)));
             rows.push(Row {
                 shape,
@@ -54,19 +84,28 @@ fn main() {
     if cfg!(debug_assertions) {
         eprintln!("these times mean nothing without --profile bench");
     }
-    let groups = measured::<Groups>(|scene| scene);
-    tables::print("Groups: `from_parts` and `dustroute_groups`", &groups);
-    let ports = measured::<Ports>(|scene| scene);
-    tables::print("Ports: scene builder and `port_connections`", &ports);
-    let ports = measured::<Ports>(without_supports);
-    tables::print("Ports, no component with a support", &ports);
-    let liveness = measured::<Liveness>(|scene| scene);
-    let title = "Liveness: `analyze_signal_liveness` and `dustroute_liveness`";
-    tables::print(title, &liveness);
-    let whole = measured::<Whole>(|scene| scene);
-    tables::print(
-        "Whole report: the Rust between a reader and a printer, and the entry",
-        &whole,
-    );
+    let chosen = Chosen {
+        words: std::env::args().skip(1).collect(),
+    };
+    if chosen.table("groups") {
+        let groups = measured::<Groups>(&chosen, |scene| scene);
+        tables::print("Groups: `from_parts` and `dustroute_groups`", &groups);
+    }
+    if chosen.table("ports") {
+        let ports = measured::<Ports>(&chosen, |scene| scene);
+        tables::print("Ports: scene builder and `port_connections`", &ports);
+        let ports = measured::<Ports>(&chosen, without_supports);
+        tables::print("Ports, no component with a support", &ports);
+    }
+    if chosen.table("liveness") {
+        let liveness = measured::<Liveness>(&chosen, |scene| scene);
+        let title = "Liveness: `analyze_signal_liveness` and `dustroute_liveness`";
+        tables::print(title, &liveness);
+    }
+    if chosen.table("whole") {
+        let whole = measured::<Whole>(&chosen, |scene| scene);
+        let title = "Whole report: the Rust between a reader and a printer, and the entry";
+        tables::print(title, &whole);
+    }
     println!("{}", tables::NOTES);
 }
