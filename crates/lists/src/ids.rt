@@ -2,6 +2,9 @@
 use super::COMPONENT;
 use super::Found;
 use super::PORT;
+use super::hints::HINTS;
+use super::hints::has_near;
+use super::hints::hint_ids;
 use super::numbers::natural_at;
 use tables::SPAN;
 ghost use mathlib.Core.Path.{_≡_};
@@ -117,15 +120,15 @@ pub fn first_repeated(keys: &[u64], components: &[i64]) -> Found
 pub const SUPPORT: u64 = 6;
 
 // Whether port connection k is no support and has an end that is no component.
-fn end_missing(keys: &[u64], ports: &[i64], k: usize) -> bool
+fn end_missing(keys: &[u64], hints: &[u16; HINTS], ports: &[i64], k: usize) -> bool
     requires { ⌜ PortConnections (now ports) ⌝ }
     requires { ⌜ k < portCount (now ports) ⌝ }
     ensures { λ r. ⌜ ((cs : List ℤ) → IdTable cs (now (keys .entry)) → r ≡ endMissing cs (now (ports .entry)) k) ⌝ }
 {
     let at = k * PORT;
     let transfer = natural_at(ports, at + 4);
-    let source = has_component(keys, natural_at(ports, at));
-    let sink = has_component(keys, natural_at(ports, at + 2));
+    let source = has_near(keys, hints, natural_at(ports, at));
+    let sink = has_near(keys, hints, natural_at(ports, at + 2));
     !(transfer == SUPPORT) & !(source & sink)
 }
 
@@ -134,10 +137,12 @@ pub fn first_end_missing(keys: &[u64], ports: &[i64]) -> Found
     requires { ⌜ PortConnections (now ports) ⌝ }
     ensures { λ r. ⌜ ((cs : List ℤ) → IdTable cs (now (keys .entry)) → r ≡ firstEndMissing cs (now (ports .entry))) ⌝ }
 {
+    let mut hints = [0u16; HINTS];
+    hint_ids(keys, &mut hints);
     let count = ports.len() / PORT;
     let mut k: usize = 0;
     while k < count {
-        if end_missing(keys, ports, k) {
+        if end_missing(keys, &hints, ports, k) {
             return Found::At(k);
         }
         k += 1;

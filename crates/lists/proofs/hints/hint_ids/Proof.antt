@@ -39,4 +39,4 @@ hint-ids-spec =
     (λ c. search needs)
     (λ c. search needs)
     (λ c. simp length-set (c .before .before .before .before .loop .inv))
-    (λ c. tt))
+    (λ c. c .before .loop .inv))

@@ -23,7 +23,7 @@ source-requires c κs =
     let s = c .before .before in
     (omega (arith, within s), first-nonNeg (s .pre .0) (s .args .k) (s .pre .1) (omega arith) refl)
 
-has-source-requires : tie.Need-has-component-requires
+has-source-requires : tie.Need-has-near-requires
 has-source-requires c κs =
     let s = c .before .before .before in
     omega (arith, c .natural-at2 .ensures, first-most (s .pre .0) (s .args .k) (s .pre .1) (omega arith) 4294967295 refl refl)
@@ -33,7 +33,7 @@ sink-requires c κs =
     let s = c .before .before .before .before in
     (omega (arith, within s), field-nonNeg (s .pre .0) (s .args .k) 2 (s .pre .1) (omega arith) refl)
 
-has-sink-requires : tie.Need-has-component-requires-2
+has-sink-requires : tie.Need-has-near-requires-2
 has-sink-requires c κs =
     let s = c .before .before .before .before .before in
     omega (arith, c .natural-at3 .ensures, field-most (s .pre .0) (s .args .k) 2 (s .pre .1) (omega arith) 4294967295 refl refl)
@@ -43,7 +43,7 @@ returns c cs t =
     let sink = c .before in
     let source = sink .before in
     let transfer = source .before .before in
-    cc (c .has-component2 .ensures cs t, source .has-component .ensures cs t)
+    cc (c .has-near2 .ensures cs t, source .has-near .ensures cs t)
 
 pub end-missing-spec : {M : Type 1} → statement M
 end-missing-spec =
