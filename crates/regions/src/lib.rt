@@ -1,5 +1,7 @@
 // Walks over a graph: its regions, by the two walks of Kosaraju and Sharir, and what a set of nodes reaches. The calls of the recursive
 // definition are a stack that the caller lends.
+use tables::rows::hint_rows;
+use tables::rows::lower_bound_in;
 ghost use mathlib.Core.Path.{_≡_};
 ghost use mathlib.Core.Bool.{false};
 ghost use Prim.Native.Nat.{ℕ, _+_, _*_, _<_, _≤_};
@@ -10,6 +12,12 @@ ghost use Rattle.regions.specs.Graph.{flip};
 ghost use Rattle.regions.specs.Kosaraju as Kosaraju;
 ghost use Rattle.regions.specs.Keys.{edges, Reversed, Next};
 ghost use Rattle.regions.specs.Search.{fresh, Room, Entered, Searched, Ordered, Labelled, Regions, Reached};
+
+// The nodes whose row of keys has a hint of where it begins. Others are searched for.
+const HINTED: usize = 1024;
+
+// Where a pair's second number begins in a key.
+const SECOND: u64 = 12;
 
 // Sets every flag to false.
 pub fn clear_flags(flags: &mut [bool])
@@ -34,13 +42,20 @@ pub fn clear(numbers: &mut [usize])
 }
 
 // Marks the node and puts its call on the stack: the node, and the place of its first key.
-fn enter(keys: &[u64], node: usize, visited: &mut [bool], stack: &mut [usize], at: usize)
+fn enter(
+    keys: &[u64],
+    node: usize,
+    visited: &mut [bool],
+    stack: &mut [usize],
+    at: usize,
+    rows: &[usize],
+)
     requires { ⌜ (node < span) × (node < length (now visited)) × (at + 1 < length (now stack)) ⌝ }
     ensures { λ _. ⌜ Entered (now (keys .entry)) node at (now (visited .entry)) (now (stack .entry)) (now (visited .exit)) (now (stack .exit)) ⌝ }
 {
     visited[node] = true;
     stack[at] = node;
-    stack[at + 1] = tables::lower_bound(keys, node as u64 * tables::SPAN);
+    stack[at + 1] = lower_bound_in(keys, node as u64 * tables::SPAN, rows, node);
 }
 
 // The neighbour of `node` that stands at the place, or n where the keys of `node` end before it.
@@ -61,7 +76,7 @@ fn neighbour_at(keys: &[u64], n: usize, node: usize, place: usize) -> usize
 
 // Visits the nodes that `start` reaches over nodes that are not visited, and adds them to the order as they finish.
 // Answers the new length of the order. The stack holds, for each open call, its node and the place of the key to look at next.
-pub fn visit_from(
+fn visit_from(
     keys: &[u64],
     n: usize,
     start: usize,
@@ -69,6 +84,7 @@ pub fn visit_from(
     order: &mut [usize],
     count: usize,
     stack: &mut [usize],
+    rows: &[usize],
 ) -> usize
     requires { ⌜ (start < n) × (count + fresh (now visited) ≤ n) × Room n (now keys) (now visited) (now order) (now stack) ⌝ }
     ensures { λ r. ⌜ Searched n (edges n (now (keys .entry))) start (now (visited .entry)) (now (order .entry)) count
@@ -77,7 +93,7 @@ pub fn visit_from(
     if visited[start] {
         return count;
     }
-    enter(keys, start, visited, stack, 0);
+    enter(keys, start, visited, stack, 0, rows);
     let mut depth = 1;
     let mut done = count;
     while 0 < depth {
@@ -93,7 +109,7 @@ pub fn visit_from(
         } else {
             stack[at + 1] += 1;
             if !visited[k] {
-                enter(keys, k, visited, stack, at + 2);
+                enter(keys, k, visited, stack, at + 2, rows);
                 depth += 1;
             }
         }
@@ -113,10 +129,12 @@ fn finish_order(
     ensures { λ _. ⌜ Ordered n (edges n (now (keys .entry))) (now (order .entry)) (now (order .exit)) (now (stack .exit)) ⌝ }
 {
     clear_flags(visited);
+    let mut rows = [0usize; HINTED];
+    hint_rows(keys, SECOND, &mut rows);
     let mut count = 0;
     let mut start = 0;
     while start < n {
-        count = visit_from(keys, n, start, visited, order, count, stack);
+        count = visit_from(keys, n, start, visited, order, count, stack, &rows);
         start += 1;
     }
 }
@@ -144,6 +162,7 @@ fn label_from(
     count: usize,
     members: &mut [usize],
     stack: &mut [usize],
+    rows: &[usize],
 ) -> usize
     requires { ⌜ (node < n) × (count < n) × (length (now labels) ≡ n) × Room n (now backward) (now visited) (now members) (now stack) ⌝ }
     ensures { λ r. ⌜ Labelled n (flip (edges n (now (backward .entry)))) node (now (visited .entry)) (now (labels .entry)) count
@@ -152,7 +171,7 @@ fn label_from(
     if visited[node] {
         return count;
     }
-    let size = visit_from(backward, n, node, visited, members, 0, stack);
+    let size = visit_from(backward, n, node, visited, members, 0, stack, rows);
     paint(labels, members, size, count);
     count + 1
 }
@@ -173,6 +192,8 @@ fn label_all(
 {
     clear_flags(visited);
     clear(labels);
+    let mut rows = [0usize; HINTED];
+    hint_rows(backward, SECOND, &mut rows);
     let mut count = 0;
     let mut i = n;
     while 0 < i {
@@ -186,6 +207,7 @@ fn label_all(
             count,
             members,
             stack,
+            &rows,
         );
     }
     count
@@ -223,11 +245,13 @@ pub fn reach_from(
     ensures { λ _. ⌜ Reached n (edges n (now (keys .entry))) (now (starts .entry)) (now (visited .exit)) (now (stack .exit)) ⌝ }
 {
     clear_flags(visited);
+    let mut rows = [0usize; HINTED];
+    hint_rows(keys, SECOND, &mut rows);
     let mut count = 0;
     let mut start = 0;
     while start < n {
         if starts[start] {
-            count = visit_from(keys, n, start, visited, order, count, stack);
+            count = visit_from(keys, n, start, visited, order, count, stack, &rows);
         }
         start += 1;
     }

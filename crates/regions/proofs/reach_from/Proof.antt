@@ -4,6 +4,7 @@ use Prim.Native.Nat.{_≤_, _-_}
 use mathlib.Core.Path.{_≡_, refl, ap, _∙_}
 use mathlib.Core.Bool.{false}
 use mathlib.Core.Logic.{⊎-elim}
+use borrow.Author.Needs.{needs}
 use native.Mathlib.Omega.{arith}
 use lib.ListN.{length, replicate}
 use Rattle.regions.specs.Kosaraju.{startsOf}
@@ -12,21 +13,21 @@ use Rattle.regions.proofs.reach_from.Statement.{statement}
 use Rattle.regions.proofs.reach_from.Tie as tie
 
 abbrev Inv-loop : tie.InvT-loop
-Inv-loop keys n starts visited₀ order₀ stack₀ count₀ start₀ visited order stack count start =
+Inv-loop keys n starts visited₀ order₀ stack₀ rows count₀ start₀ visited order stack count start =
     (start ≤ n) × (length order ≡ length order₀) × (length stack ≡ length stack₀)
     × Walked n keys order₀ visited order count stack (startsOf start starts)
 
 abbrev μ-loop : tie.MeasureT-loop
-μ-loop keys n starts visited₀ order₀ stack₀ count₀ start₀ visited order stack count start = n - start
+μ-loop keys n starts visited₀ order₀ stack₀ rows count₀ start₀ visited order stack count start = n - start
 
 clear-flags-requires : tie.Need-clear-flags-requires Inv-loop μ-loop
 clear-flags-requires c κs = tt
 
 loop-holds : tie.Need-loop-holds Inv-loop μ-loop
 loop-holds c =
-    let entry = c .before .before .before .before .before .before .before .before .before in
+    let entry = c .before .before .before .before .before .before .before .before .before .before .before .before in
     let (starts-length, room) = entry .pre in
-    let cleared = c .before .before .clear-flags in
+    let cleared = c .before .before .before .before .before .clear-flags in
     (omega arith, refl, refl, reach-begin _ (cleared .ensures ∙ ap (λ k. replicate k false) (room .visited-length)) (room-kept room (room .keys-rise) (cleared .kept .0) (room .order-room) refl (room .stack-zeros)) (entry .args .starts .now))
 
 shared-slice-read-if1 : tie.Need-shared-slice-read-if1 Inv-loop μ-loop
@@ -34,8 +35,8 @@ shared-slice-read-if1 c = omega arith
 
 visit-from-requires : tie.Need-visit-from-requires Inv-loop μ-loop
 visit-from-requires c κs =
-    let (le, order-length, stack-length, w) = c .before .before .before .before .before .before .loop .inv in
-    (c .before .before .before .before .before .loop-test .taken, omega arith, w .room)
+    let (le, order-length, stack-length, w) = c .before .before .before .before .before .before .before .loop .inv in
+    (c .before .before .before .before .before .before .loop-test .taken, omega arith, w .room)
 
 add-start : tie.Need-add-start Inv-loop μ-loop
 add-start c = omega arith
@@ -47,12 +48,12 @@ loop-again : tie.Need-loop-again Inv-loop μ-loop
 loop-again c =
     let (le, order-length, stack-length, w) = c .before .before .before .loop .inv in
     let start = c .before .before .before .loop .start in
-    let starts = c .before .before .before .before .before .before .before .before .before .before .before .before .before .args .starts .now in
+    let starts = c .before .before .before .before .before .before .before .before .before .before .before .before .before .before .before .before .args .starts .now in
     ⊎-elim
     (λ v.
-    let kept = v .4 .kept .1 .1 .1 in
-    rw (v .11, v .12, v .13, v .14)
-    (omega arith, kept .1 .0 ∙ order-length, kept .1 .1 .1 .0 ∙ stack-length, reach-more start starts w (v .0 .taken) (v .4 .ensures) (kept .0) (kept .1 .0) (kept .1 .1 .1 .0)))
+    let kept = v .5 .kept .1 .1 .1 in
+    rw (v .12, v .13, v .14, v .15)
+    (omega arith, kept .1 .0 ∙ order-length, kept .1 .1 .1 .0 ∙ stack-length, reach-more start starts w (v .0 .taken) (v .5 .ensures) (kept .0) (kept .1 .0) (kept .1 .1 .1 .0)))
     (λ v. rw (v .1, v .2, v .3, v .4) (omega arith, order-length, stack-length, reach-skip start starts w (v .0 .left)))
     (c .if1 .came)
 
@@ -77,8 +78,11 @@ reach-from-spec =
     Inv-loop
     μ-loop
     clear-flags-requires
+    (λ c. search needs)
+    (λ c κs. search needs)
     loop-holds
     shared-slice-read-if1
+    (λ c. search needs)
     visit-from-requires
     add-start
     loop-less

@@ -13,19 +13,19 @@ use Rattle.regions.proofs.visit_from.Statement.{statement}
 use Rattle.regions.proofs.visit_from.Tie as tie
 
 abbrev Inv-loop : tie.InvT-loop
-Inv-loop keys n start visited₀ order₀ count stack₀ depth₀ done₀ visited order stack depth done =
+Inv-loop keys n start visited₀ order₀ count stack₀ rows depth₀ done₀ visited order stack depth done =
     Open n keys (finish n keys (n - depth₀) (frames depth₀ stack₀) (walkOf visited₀ order₀ done₀))
     (depth₀ + (done₀ + fresh visited₀)) done₀ order₀ stack₀ visited order done stack depth
 
 abbrev μ-loop : tie.MeasureT-loop
-μ-loop keys n start visited₀ order₀ count stack₀ depth₀ done₀ visited order stack depth done = effort (length keys) visited depth stack
+μ-loop keys n start visited₀ order₀ count stack₀ rows depth₀ done₀ visited order stack depth done = effort (length keys) visited depth stack
 
 slice-read-if1 : tie.Need-slice-read-if1 Inv-loop μ-loop
 slice-read-if1 c = omega arith
 
 returns : tie.Need-returns Inv-loop μ-loop
 returns c =
-    let entry = c .before .before .before .before .before .before in
+    let entry = c .before .before .before .before .before .before .before in
     searched-old _ (entry .args .keys .now) _ _ _ _ _ (entry .pre .2 .stack-zeros) (c .if1 .taken)
 
 enter-requires : tie.Need-enter-requires Inv-loop μ-loop
@@ -33,7 +33,7 @@ enter-requires c κs = omega arith
 
 loop-holds : tie.Need-loop-holds Inv-loop μ-loop
 loop-holds c =
-    let (lt, fits, room) = c .before .before .before .before .before .before .before .before .before .before .before .before .before .pre in
+    let (lt, fits, room) = c .before .before .before .before .before .before .before .before .before .before .before .before .before .before .pre in
     begin _ lt fits room (c .before .before .before .before .before .before .before .if1 .left) (c .before .before .before .before .enter .ensures)
 
 sub-at : tie.Need-sub-at Inv-loop μ-loop
@@ -150,7 +150,7 @@ same-length-3 c = c .before .loop .inv .stack-length ∙ c .before .before .befo
 
 returns-2 : tie.Need-returns-2 Inv-loop μ-loop
 returns-2 c =
-    let (lt, fits, room) = c .before .before .before .before .before .before .before .before .before .before .before .before .before .before .before .pre in
+    let (lt, fits, room) = c .before .before .before .before .before .before .before .before .before .before .before .before .before .before .before .before .pre in
     searched _ lt fits room (c .before .before .before .before .before .before .before .before .before .if1 .left) (c .before .before .before .before .before .before .enter .ensures) (c .loop-test .left) (c .before .loop .inv)
 
 pub visit-from-spec : {M : Type 1} → statement M
