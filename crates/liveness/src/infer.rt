@@ -8,6 +8,7 @@ use signals::inferred::is_inferred;
 use signals::inferred::outside_flags;
 use signals::inferred::passive_flags;
 use signals::inferred::sink_regions;
+use tables::rows::hint_rows;
 ghost use mathlib.Core.Path.{_≡_};
 ghost use mathlib.Core.Bool.{Bool, true, not, _&&_, _||_};
 ghost use Prim.Native.Nat.{ℕ, _≤_, _<_};
@@ -26,6 +27,9 @@ ghost use Rattle.liveness.specs.Scene.{Scene, Prepared};
 ghost use Rattle.signals.specs.Flags.{Flags, Indices};
 ghost use Rattle.signals.specs.Seen.{Rows, SignalEnds};
 ghost use Rattle.signals.specs.Stages.{inferredBy};
+
+// Where a pair's first number begins in a key.
+const FIRST: u64 = 12;
 
 // Flags the inferred inputs, by list place, given which regions have a drive source and which are fed from outside.
 pub(crate) fn infer(
@@ -47,11 +51,25 @@ pub(crate) fn infer(
         (now (flags .exit)) ⌝ }
 {
     let count = components.len() / COMPONENT;
+    let mut forward_rows = [0usize; COMPONENTS];
+    let mut backward_rows = [0usize; COMPONENTS];
+    hint_rows(forward, FIRST, &mut forward_rows);
+    hint_rows(backward, FIRST, &mut backward_rows);
     let mut p: usize = 0;
     while p < count {
         let region = region_at[p];
         let quiet = !has_drive[region] & !fed[region];
-        flags[p] = is_inferred(components, p, quiet, forward, backward, labels, members[p]);
+        flags[p] = is_inferred(
+            components,
+            p,
+            quiet,
+            forward,
+            backward,
+            labels,
+            members[p],
+            &forward_rows,
+            &backward_rows,
+        );
         p += 1;
     }
 }

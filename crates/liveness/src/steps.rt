@@ -70,7 +70,7 @@ pub(crate) fn prepare(
 {
     build_tables(keys, ports, sources, sinks, forward, backward, fed);
     let count = find_regions(forward, backward, labels, stack);
-    place_members(keys, components, members);
+    place_members(keys, members);
     place_labels(labels.len(), members, labels, region_at);
     count
 }

@@ -1,11 +1,11 @@
 -- Arrays of flags and counts, and sets, a place at a time.
 --     set-marked                                       a flag that is set
 --     flags-none, flags-more                           `Flags`: one flag written more
---     gathered-none, gathered-set, gathered-skip       `Gathered`: one test more
+--     gathered-none, gathered-or                       `Gathered`: one test more
 --     counted-none, counted-more, counted-most         `Counted`: one index more
---     set-none, set-in, set-out                        `SetOf`: one flag more
+--     set-none, set-if                                 `SetOf`: one flag more
 -- Assumes nothing.
-use mathlib.Core.Path.{_≡_, sym, ap, _∙_}
+use mathlib.Core.Path.{_≡_, refl, sym, ap, _∙_, subst}
 use mathlib.Core.Bool.{Bool, true, false, _&&_, _||_}
 use mathlib.Core.List.{List}
 use mathlib.Core.Logic.{⊎-elim}
@@ -14,9 +14,9 @@ use native.Mathlib.Nat.{add-zero, eq-or-lt-of-le}
 use native.Mathlib.Omega.{arith}
 use lib.Dec.{eqb}
 use lib.ListN.{length, getD, set, replicate, length-set, length-replicate, getD-replicate}
-use lib.Seq.{getD-set-same, getD-set-other}
+use lib.Seq.{getD-set-same, getD-set-other, set-getD}
 use borrow.Author.Tests.{eq-eqb, ne-eqb}
-use Rattle.sets.specs.Members.{memberOf, countBelow, Inserted}
+use Rattle.sets.specs.Members.{memberOf, countBelow, Inserted, InsertedIf}
 use Rattle.sets.proofs.Counts.{count-suc, count-le}
 use Rattle.tables.specs.Laws.{same?}
 use Rattle.lists.specs.First.{firstFrom}
@@ -53,17 +53,29 @@ module _ (index : List ℕ) (tests : List Bool) where
   gathered-none n = record { at = λ j h. getD-replicate n j false false (rw length-replicate at h) }
 
   module _ (p : ℕ) {out : List Bool} (g : Gathered p index tests out) where
-    pub gathered-set : marked tests p ≡ true → getD index p 0 < length out → Gathered (p + 1) index tests (set out (getD index p 0) true)
+    gathered-set : marked tests p ≡ true → getD index p 0 < length out → Gathered (p + 1) index tests (set out (getD index p 0) true)
     gathered-set e l = record {
       at = λ j h.
           set-marked out (getD index p 0) j l ∙ ap (λ (t : Bool). t || eqb (getD index p 0) j) (g .at j (rw length-set at h))
           ∙ sym (some-more (λ q. marked tests q && eqb (getD index q 0) j) p ∙ rw e);
     }
 
-    pub gathered-skip : marked tests p ≡ false → Gathered (p + 1) index tests out
+    gathered-skip : marked tests p ≡ false → Gathered (p + 1) index tests out
     gathered-skip e = record {
       at = λ j h. g .at j h ∙ sym (some-more (λ q. marked tests q && eqb (getD index q 0) j) p ∙ rw e (sym (or-false _)));
     }
+
+    -- one test more, without a branch on it
+    pub gathered-or : getD index p 0 < length out
+        → Gathered (p + 1) index tests (set out (getD index p 0) (marked out (getD index p 0) || marked tests p))
+    gathered-or l = go (marked tests p) refl
+      where
+        go : (t : Bool) → marked tests p ≡ t → Gathered (p + 1) index tests (set out (getD index p 0) (marked out (getD index p 0) || t))
+        go true e = subst (λ (b : Bool). Gathered (p + 1) index tests (set out (getD index p 0) b)) (or-true (marked out (getD index p 0))) (gathered-set e l)
+        go false e =
+            subst (λ (o : List Bool). Gathered (p + 1) index tests o)
+            (sym (ap (set out (getD index p 0)) (sym (or-false (marked out (getD index p 0)))) ∙ set-getD out (getD index p 0) false))
+            (gathered-skip e)
 
 -- ---- counts
 
@@ -95,7 +107,7 @@ pub set-none : (flags : List Bool) (words : List ℕ) → ((k : ℕ) → memberO
 set-none flags words e = record { member = λ k h. absurd (omega arith); past = λ k h. e k }
 
 module _ (k : ℕ) {flags : List Bool} {words : List ℕ} (s : SetOf k flags words) where
-  pub set-in : marked flags k ≡ true → (words′ : List ℕ) → Inserted words k words′ → SetOf (k + 1) flags words′
+  set-in : marked flags k ≡ true → (words′ : List ℕ) → Inserted words k words′ → SetOf (k + 1) flags words′
   set-in e words′ i = record {
     member = λ j h. ⊎-elim
         (λ (same : j ≡ k). rw same (i .there ∙ sym e))
@@ -104,7 +116,7 @@ module _ (k : ℕ) {flags : List Bool} {words : List ℕ} (s : SetOf k flags wor
     past = λ j h. i .others j (λ q. omega arith) ∙ s .past j (omega arith);
   }
 
-  pub set-out : marked flags k ≡ false → SetOf (k + 1) flags words
+  set-out : marked flags k ≡ false → SetOf (k + 1) flags words
   set-out e = record {
     member = λ j h. ⊎-elim
         (λ (same : j ≡ k). rw same (s .past k (omega arith) ∙ sym e))
@@ -112,3 +124,11 @@ module _ (k : ℕ) {flags : List Bool} {words : List ℕ} (s : SetOf k flags wor
         (eq-or-lt-of-le (let m : j ≤ k = omega arith in m));
     past = λ j h. s .past j (omega arith);
   }
+
+  -- one flag more, without a branch on it
+  pub set-if : (words′ : List ℕ) → InsertedIf (marked flags k) words k words′ → SetOf (k + 1) flags words′
+  set-if words′ i = go (marked flags k) refl
+    where
+      go : (t : Bool) → marked flags k ≡ t → SetOf (k + 1) flags words′
+      go true e = set-in e words′ (i .put e)
+      go false e = subst (SetOf (k + 1) flags) (sym (i .kept e)) (set-out e)

@@ -1,8 +1,9 @@
 // The signal edges of a scene as sorted tables of keys: forward, backward, and by the port that they feed.
 use lists::CONNECTIONS;
 use lists::PORT;
+use lists::hints::HINTS;
+use lists::hints::member_near;
 use lists::ids::SUPPORT;
-use lists::ids::member_of;
 use lists::numbers::natural_at;
 use tables::SPAN;
 ghost use mathlib.Core.Path.{_≡_};
@@ -22,7 +23,7 @@ ghost use Rattle.signals.specs.Signals.{isSignal};
 ghost use Rattle.signals.specs.Keys.{Settled, Slots, signalKey, KeysOf, Sortable};
 
 // The member of field f of each port connection, 0 the sources and 2 the sinks.
-pub fn settle(keys: &[u64], ports: &[i64], f: usize, members: &mut [usize])
+pub fn settle(keys: &[u64], ports: &[i64], f: usize, members: &mut [usize], hints: &[u16; HINTS])
     requires { ⌜ PortConnections (now ports) ⌝ }
     requires { ⌜ ((f ≡ 0) ⊎ (f ≡ 2)) × (portCount (now ports) ≤ length (now members)) ⌝ }
     ensures { λ _. ⌜ ((cs : List ℤ) → IdTable cs (now (keys .entry)) → Settled cs (now (ports .entry)) f (now (members .exit))) ⌝ }
@@ -30,7 +31,7 @@ pub fn settle(keys: &[u64], ports: &[i64], f: usize, members: &mut [usize])
     let count = ports.len() / PORT;
     let mut k: usize = 0;
     while k < count {
-        members[k] = member_of(keys, natural_at(ports, k * PORT + f));
+        members[k] = member_near(keys, hints, natural_at(ports, k * PORT + f));
         k += 1;
     }
 }

@@ -8,7 +8,8 @@ ghost use Rattle.lists.specs.Limits.{componentLimit};
 ghost use Rattle.regions.specs.Graph.{marked};
 ghost use Rattle.signals.specs.Flags.{Flags, Gathered, Counted, SetOf, Indices};
 
-// Sets the flag of each index whose test holds, and clears the others.
+// Sets the flag of each index whose test holds, and clears the others. There is no branch on a test: they come in no order that a
+// processor could foresee.
 pub fn gather(n: usize, index: &[usize], tests: &[bool], out: &mut [bool])
     requires { ⌜ Indices n (length (now out)) (now index) × (n ≤ length (now tests)) ⌝ }
     ensures { λ _. ⌜ Gathered n (now (index .entry)) (now (tests .entry)) (now (out .exit)) ⌝ }
@@ -16,9 +17,8 @@ pub fn gather(n: usize, index: &[usize], tests: &[bool], out: &mut [bool])
     regions::clear_flags(out);
     let mut p: usize = 0;
     while p < n {
-        if tests[p] {
-            out[index[p]] = true;
-        }
+        let j = index[p];
+        out[j] = out[j] | tests[p];
         p += 1;
     }
 }
@@ -68,9 +68,7 @@ pub fn set_of(n: usize, flags: &[bool]) -> ComponentSet
     let mut set = sets::empty();
     let mut k: usize = 0;
     while k < n {
-        if flags[k] {
-            set = sets::insert(set, k);
-        }
+        set = sets::insert_if(set, k, flags[k]);
         k += 1;
     }
     set

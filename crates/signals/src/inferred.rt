@@ -4,6 +4,7 @@ use lists::PORT;
 use lists::ids::SUPPORT;
 use lists::numbers::natural_at;
 use tables::SPAN;
+use tables::rows::lower_bound_in;
 ghost use mathlib.Core.Path.{_≡_};
 ghost use mathlib.Core.Bool.{Bool, true, false, not, _&&_, _||_};
 ghost use Prim.Native.Nat.{ℕ, _≤_, _<_};
@@ -38,13 +39,13 @@ fn see(seen: Seen, j: usize) -> Seen
     }
 }
 
-// With the neighbours of m in a table seen too, those of its own region.
-fn see_row(keys: &[u64], labels: &[usize], m: usize, seen: Seen) -> Seen
+// With the neighbours of m in a table seen too, those of its own region. The rows are hints.
+fn see_row(keys: &[u64], labels: &[usize], m: usize, seen: Seen, rows: &[usize]) -> Seen
     requires { ⌜ Rows (length (now labels)) (now keys) × (m < length (now labels)) ⌝ }
     ensures { λ r. ⌜ ((test : ℕ → Bool) → SeenOf (length (now (labels .entry))) test seen →
         SeenOf (length (now (labels .entry))) (λ j. test j || (eqb (getD (now (labels .entry)) j 0) (getD (now (labels .entry)) m 0) && edges (length (now (labels .entry))) (now (keys .entry)) m j)) r) ⌝ }
 {
-    let mut at = tables::lower_bound(keys, m as u64 * SPAN);
+    let mut at = lower_bound_in(keys, m as u64 * SPAN, rows, m);
     let mut found = seen;
     while at < keys.len() {
         let key = keys[at];
@@ -61,13 +62,20 @@ fn see_row(keys: &[u64], labels: &[usize], m: usize, seen: Seen) -> Seen
 }
 
 // Whether m has at most one distinct neighbour in its region, either way along the edges.
-fn few_neighbours(forward: &[u64], backward: &[u64], labels: &[usize], m: usize) -> bool
+fn few_neighbours(
+    forward: &[u64],
+    backward: &[u64],
+    labels: &[usize],
+    m: usize,
+    forward_rows: &[usize],
+    backward_rows: &[usize],
+) -> bool
     requires { ⌜ Rows (length (now labels)) (now forward) × (Rows (length (now labels)) (now backward) × (m < length (now labels))) ⌝ }
     ensures { λ r. ⌜ r ≡ leb (countBelow (λ j. eqb (getD (now (labels .entry)) j 0) (getD (now (labels .entry)) m 0)
         && (edges (length (now (labels .entry))) (now (forward .entry)) m j || edges (length (now (labels .entry))) (now (backward .entry)) m j)) (length (now (labels .entry)))) 1 ⌝ }
 {
-    let first = see_row(forward, labels, m, Seen::None);
-    let both = see_row(backward, labels, m, first);
+    let first = see_row(forward, labels, m, Seen::None, forward_rows);
+    let both = see_row(backward, labels, m, first, backward_rows);
     match both {
         Seen::None => true,
         Seen::One(_) => true,
@@ -173,6 +181,7 @@ pub fn self_flags(ports: &[i64], sources: &[usize], sinks: &[usize], flags: &mut
 }
 
 // Whether component p, member m, is an inferred input, given whether its region has a drive source or is fed from outside.
+// The rows are hints.
 pub fn is_inferred(
     components: &[i64],
     p: usize,
@@ -181,6 +190,8 @@ pub fn is_inferred(
     backward: &[u64],
     labels: &[usize],
     m: usize,
+    forward_rows: &[usize],
+    backward_rows: &[usize],
 ) -> bool
     requires { ⌜ Components (now components) × (p < componentCount (now components)) ⌝ }
     requires { ⌜ Rows (length (now labels)) (now forward) × (Rows (length (now labels)) (now backward) × (m < length (now labels))) ⌝ }
@@ -189,7 +200,7 @@ pub fn is_inferred(
 {
     let kind = natural_at(components, p * COMPONENT + 4);
     if (kind == 0) & quiet {
-        return few_neighbours(forward, backward, labels, m);
+        return few_neighbours(forward, backward, labels, m, forward_rows, backward_rows);
     }
     false
 }

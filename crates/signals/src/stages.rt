@@ -7,12 +7,12 @@ use super::flags::count_into;
 use super::flags::gather;
 use super::inferred::self_flags;
 use super::inferred::sink_regions;
-use lists::COMPONENT;
 use lists::COMPONENTS;
 use lists::CONNECTIONS;
 use lists::PORT;
-use lists::ids::member_of;
-use lists::numbers::natural_at;
+use lists::hints::HINTS;
+use lists::hints::hint_ids;
+use lists::ids::place_at;
 ghost use mathlib.Core.Path.{_≡_};
 ghost use mathlib.Core.Bool.{_||_};
 ghost use mathlib.Core.List.{List};
@@ -23,9 +23,10 @@ ghost use lib.IntN.{ℤ};
 ghost use Rattle.tables.specs.Order.{Ascending};
 ghost use Rattle.lists.specs.Limits.{componentLimit};
 ghost use Rattle.lists.specs.Records.{componentCount, portCount};
-ghost use Rattle.lists.specs.Ids.{IdTable, IsIdTable, memberOf};
-ghost use Rattle.lists.specs.Within.{Components, PortConnections};
+ghost use Rattle.lists.specs.Ids.{IdTable, IsIdTable, memberOf, firstRepeated};
+ghost use Rattle.lists.specs.Within.{PortConnections};
 ghost use Rattle.lists.specs.First.{some};
+ghost use Rattle.lists.specs.declared.Found.the-variants.{Nothing};
 ghost use Rattle.regions.specs.Keys.{edges, Reversed};
 ghost use Rattle.regions.specs.Graph.{marked};
 ghost use Rattle.regions.specs.Search.{Zeros, Regions};
@@ -49,8 +50,10 @@ pub fn build_tables(
     ensures { λ _. ⌜ ((cs : List ℤ) → IdTable cs (now (keys .entry)) → Tables cs (now (ports .entry)) (now (sources .exit)) (now (sinks .exit)) (now (forward .exit)) (now (backward .exit)) (now (fed .exit))) ⌝ }
 {
     let mut slots = [0usize; CONNECTIONS];
-    settle(keys, ports, 0, sources);
-    settle(keys, ports, 2, sinks);
+    let mut hints = [0u16; HINTS];
+    hint_ids(keys, &mut hints);
+    settle(keys, ports, 0, sources, &hints);
+    settle(keys, ports, 2, sinks, &hints);
     settle_slots(ports, sinks, &mut slots);
     signal_keys(ports, sources, sinks, COMPONENTS, forward);
     signal_keys(ports, sinks, sources, COMPONENTS, backward);
@@ -105,16 +108,14 @@ pub fn find_reach(
 }
 
 // The member of each component, by list place.
-pub fn place_members(keys: &[u64], components: &[i64], members: &mut [usize])
-    requires { ⌜ Components (now components) × IdTable (now components) (now keys) ⌝ }
-    requires { ⌜ componentCount (now components) ≤ length (now members) ⌝ }
-    ensures { λ _. ⌜ Numbers (componentCount (now (components .entry))) (memberOf (now (components .entry))) (now (members .exit)) ⌝ }
+pub fn place_members(keys: &[u64], members: &mut [usize])
+    requires { ⌜ IsIdTable (now keys) × (length (now keys) ≤ length (now members)) ⌝ }
+    ensures { λ _. ⌜ ((cs : List ℤ) → IdTable cs (now (keys .entry)) → firstRepeated cs ≡ Nothing → Numbers (componentCount cs) (memberOf cs) (now (members .exit))) ⌝ }
 {
-    let count = components.len() / COMPONENT;
-    let mut p: usize = 0;
-    while p < count {
-        members[p] = member_of(keys, natural_at(components, p * COMPONENT));
-        p += 1;
+    let mut m: usize = 0;
+    while m < keys.len() {
+        members[place_at(keys, m)] = m;
+        m += 1;
     }
 }
 

@@ -2,15 +2,19 @@
 use super::edges::PORTS;
 use super::sources::source_kind;
 use lists::COMPONENT;
+use lists::COMPONENTS;
 use lists::Found;
 use lists::numbers::natural_at;
 use tables::SPAN;
+use tables::rows::hint_rows;
+use tables::rows::lower_bound_in;
 ghost use mathlib.Core.Path.{_≡_};
 ghost use mathlib.Core.Bool.{true, false};
 ghost use mathlib.Core.List.{[], _∷_};
 ghost use Prim.Native.Nat.{_+_, _*_, _^_, _≤_, _<_};
 ghost use lib.ListN.{length};
-ghost use Rattle.tables.specs.Order.{Ascending};
+ghost use Rattle.tables.specs.Order.{Ascending, LowerBound};
+ghost use Rattle.tables.specs.Pairs.{span};
 ghost use Rattle.lists.specs.Limits.{componentLimit};
 ghost use Rattle.lists.specs.Records.{componentCount};
 ghost use Rattle.lists.specs.Within.{Components};
@@ -42,25 +46,25 @@ pub fn required_count(kind: u64) -> usize
     }
 }
 
-// Whether some key has the slot.
-fn slot_fed(keys: &[u64], slot: usize) -> bool
+// Whether some key has the slot, given where its keys begin.
+fn slot_fed(keys: &[u64], slot: usize, at: usize) -> bool
     requires { ⌜ Ascending (now keys) × (slot < 2 ^ 32) ⌝ }
+    requires { ⌜ LowerBound (now keys) (slot * span) at ⌝ }
     ensures { λ r. ⌜ r ≡ slotFed (now (keys .entry)) slot ⌝ }
 {
-    let at = tables::lower_bound(keys, slot as u64 * SPAN);
     if keys.len() <= at {
         return false;
     }
     keys[at] / SPAN == slot as u64
 }
 
-// Whether some key of the slot has a marked second number.
-fn slot_fed_by(keys: &[u64], slot: usize, flags: &[bool]) -> bool
+// Whether some key of the slot has a marked second number, given where its keys begin.
+fn slot_fed_by(keys: &[u64], slot: usize, flags: &[bool], start: usize) -> bool
     requires { ⌜ Ascending (now keys) × (slot < 2 ^ 32) ⌝ }
-    requires { ⌜ SlotWithin (now keys) slot (length (now flags)) ⌝ }
+    requires { ⌜ SlotWithin (now keys) slot (length (now flags)) × LowerBound (now keys) (slot * span) start ⌝ }
     ensures { λ r. ⌜ r ≡ slotFedBy (now (keys .entry)) slot (now (flags .entry)) ⌝ }
 {
-    let mut at = tables::lower_bound(keys, slot as u64 * SPAN);
+    let mut at = start;
     while at < keys.len() {
         let key = keys[at];
         if key / SPAN != slot as u64 {
@@ -74,19 +78,20 @@ fn slot_fed_by(keys: &[u64], slot: usize, flags: &[bool]) -> bool
     false
 }
 
-// The status of a slot: 2 Disconnected, 0 DrivenByKnownSource, 1 AwaitingExternalInput, 3 NoKnownSource.
-fn slot_status(keys: &[u64], slot: usize, drive: &[bool], potential: &[bool]) -> u64
+// The status of a slot: 2 Disconnected, 0 DrivenByKnownSource, 1 AwaitingExternalInput, 3 NoKnownSource. The rows are hints.
+fn slot_status(keys: &[u64], slot: usize, drive: &[bool], potential: &[bool], rows: &[usize]) -> u64
     requires { ⌜ Ascending (now keys) × (slot < 2 ^ 32) ⌝ }
     requires { ⌜ SlotWithin (now keys) slot (length (now drive)) × SlotWithin (now keys) slot (length (now potential)) ⌝ }
     ensures { λ r. ⌜ r ≡ slotStatus (now (keys .entry)) slot (now (drive .entry)) (now (potential .entry)) ⌝ }
 {
-    if !slot_fed(keys, slot) {
+    let at = lower_bound_in(keys, slot as u64 * SPAN, rows, slot / PORTS);
+    if !slot_fed(keys, slot, at) {
         return 2;
     }
-    if slot_fed_by(keys, slot, drive) {
+    if slot_fed_by(keys, slot, drive, at) {
         return 0;
     }
-    if slot_fed_by(keys, slot, potential) {
+    if slot_fed_by(keys, slot, potential, at) {
         return 1;
     }
     3
@@ -126,6 +131,7 @@ fn put_device(
     potential: &[bool],
     out: &mut [u64],
     at: usize,
+    rows: &[usize],
 ) -> usize
     requires { ⌜ Ascending (now fed) × (member < componentLimit) ⌝ }
     requires { ⌜ FedWithin (now fed) (length (now drive)) × FedWithin (now fed) (length (now potential)) ⌝ }
@@ -138,12 +144,15 @@ fn put_device(
     let mut k: usize = 0;
     while k < count {
         let port = first + k;
-        let status = slot_status(fed, member * PORTS + port, drive, potential);
+        let status = slot_status(fed, member * PORTS + port, drive, potential, rows);
         place = put_verdict(out, place, id, port as u64, status);
         k += 1;
     }
     place
 }
+
+// Where the member begins in a key of the table of fed ports.
+const MEMBER: u64 = 20;
 
 // Writes the verdict rows of all components, in list order, and answers how many there are.
 pub fn put_verdicts(
@@ -161,12 +170,14 @@ pub fn put_verdicts(
         3 (now (out .entry)) (now (out .exit)) r ⌝ }
 {
     let count = components.len() / COMPONENT;
+    let mut rows = [0usize; COMPONENTS];
+    hint_rows(fed, MEMBER, &mut rows);
     let mut at: usize = 0;
     let mut p: usize = 0;
     while p < count {
         let id = natural_at(components, p * COMPONENT);
         let kind = natural_at(components, p * COMPONENT + 4);
-        at = put_device(id, kind, members[p], fed, drive, potential, out, at);
+        at = put_device(id, kind, members[p], fed, drive, potential, out, at, &rows);
         p += 1;
     }
     at / 3

@@ -73,7 +73,7 @@ find-regions-requires c κs =
     )
 
 place-members-requires : tie.Need-place-members-requires
-place-members-requires c κs = let s = c .before .before .before .before .before .before .before .before .before .before .before .before .before .before .before .before .before .before .before .before .before .before .before .before .before .before .before .before .before .before .before .before .before .before .before .before in ((s .pre .0 .0 .components, s .pre .0 .1), s .pre .1 .members-room)
+place-members-requires c κs = let s = c .before .before .before .before .before .before .before .before .before .before .before .before .before .before .before .before .before .before .before .before .before .before .before .before .before .before .before .before .before .before .before .before .before .before .before .before in ((s .args .components .now, s .pre .0 .1), omega (arith, table-long (s .pre .0 .1), s .pre .1 .members-room))
 
 -- the members of all components are nodes
 indices-at : {n m k : ℕ} {index : List ℕ} → n ≡ k → m ≡ k → Indices k k index → Indices n m index
@@ -86,7 +86,7 @@ place-labels-requires c κs =
     let b = c .before .before .before .before .before .before .before .before .before .before .before .before .before .before .before .before .before .before .before .before .before .before .before .before .before .before in
     let room = start b .pre .1 in
     let long = found .find-regions .kept .1 .1 .0 ∙ room .labels-room in
-    (indices-at long long (members-below (cs b) (placed .place-members .ensures)), omega (arith, long, room .regions-room))
+    (indices-at long long (members-below (cs b) (placed .place-members .ensures (cs b) (start b .pre .0 .1) (start b .pre .0 .0 .distinct))), omega (arith, long, room .regions-room))
 
 returns : tie.Need-returns
 returns c =
@@ -97,7 +97,7 @@ returns c =
     let room = start b .pre .1 in
     let long = found .find-regions .kept .1 .1 .0 ∙ room .labels-room in
     let regions = regions-are (cs b) (ps b) (forward b) (graph b) (rw (room .labels-room) at (found .find-regions .ensures)) in
-    let numbers = placed .place-members .ensures in
+    let numbers = placed .place-members .ensures (cs b) (start b .pre .0 .1) (start b .pre .0 .0 .distinct) in
     record {
       prepared = record {
         tables = tables b;

@@ -19,12 +19,12 @@ use Rattle.signals.proofs.edges.settle.Statement.{statement}
 use Rattle.signals.proofs.edges.settle.Tie as tie
 
 abbrev Inv-loop : tie.InvT-loop
-Inv-loop keys ports f members₀ count k₀ members k =
+Inv-loop keys ports f members₀ hints count k₀ members k =
     (k ≤ count) × (length members ≡ length members₀)
     × ((cs : List ℤ) → IdTable cs keys → (j : ℕ) → j < k → getD members j 0 ≡ smallerIds cs (naturalAt ports (j * portWidth + f)))
 
 abbrev μ-loop : tie.MeasureT-loop
-μ-loop keys ports f members₀ count k₀ members k = count - k
+μ-loop keys ports f members₀ hints count k₀ members k = count - k
 
 -- the connection of a turn lies within the list
 within : (c : tie.In-loop Inv-loop μ-loop) → c .before .loop .k * 5 + 5 ≤ length (c .before .before .before .before .args .ports .now)
@@ -40,8 +40,8 @@ natural-at-requires c κs =
     let range = end-range (s .args .f) (s .pre .1 .0) in
     (omega (arith, within c, range .0), field-nonNeg (s .pre .0) (c .before .loop .k) (s .args .f) (c .loop-test .taken) (range .0) (range .1 .0))
 
-member-of-requires : tie.Need-member-of-requires Inv-loop μ-loop
-member-of-requires c κs =
+member-near-requires : tie.Need-member-near-requires Inv-loop μ-loop
+member-near-requires c κs =
     let turn = c .before in
     let s = turn .before .before .before .before in
     let range = end-range (s .args .f) (s .pre .1 .0) in
@@ -65,7 +65,7 @@ loop-again c =
       omega (arith, turn .loop-test .taken),
       simp length-set (l .inv .1),
       λ cs t j h. ⊎-elim
-          (λ (same : j ≡ l .k). rw same (getD-set-same (l .members) (l .k) _ 0 here ∙ c .member-of .ensures cs t ∙ ap (smallerIds cs) (c .before .natural-at .ensures)))
+          (λ (same : j ≡ l .k). rw same (getD-set-same (l .members) (l .k) _ 0 here ∙ c .member-near .ensures cs t ∙ ap (smallerIds cs) (c .before .natural-at .ensures)))
           (λ (less : j < l .k). getD-set-other (l .members) (l .k) j _ 0 (λ e. omega arith) ∙ l .inv .2 cs t j less)
           (eq-or-lt-of-le (let m : j ≤ l .k = omega arith in m)),
     )
@@ -86,7 +86,7 @@ settle-spec =
     (λ c. omega (arith, within c))
     (λ c. omega (arith, within c, field (c .before .before .before .before)))
     natural-at-requires
-    member-of-requires
+    member-near-requires
     mul-members
     slice-write
     (λ c. omega arith)

@@ -2,12 +2,11 @@
 -- Assumes nothing.
 use borrow.Author.Needs.{needs}
 use mathlib.Core.Path.{_≡_, refl, ap, _∙_}
-use mathlib.Core.Logic.{⊎-elim}
 use Prim.Native.Nat.{_-_, _≤_, _<_}
 use native.Mathlib.Omega.{arith}
 use lib.ListN.{length, getD, length-set}
 use Rattle.signals.specs.Flags.{Gathered}
-use Rattle.signals.proofs.Marks.{gathered-none, gathered-set, gathered-skip}
+use Rattle.signals.proofs.Marks.{gathered-none, gathered-or}
 use Rattle.signals.proofs.flags.gather.Statement.{statement}
 use Rattle.signals.proofs.flags.gather.Tie as tie
 
@@ -38,14 +37,11 @@ room c = omega (arith, same (c .before), start (c .before) .pre .0 .below (c .be
 
 loop-again : tie.Need-loop-again Inv-loop μ-loop
 loop-again c =
-    let turn = c .before .before in
+    let turn = c .before .before .before in
     let l = turn .before .loop in (
       omega (arith, turn .loop-test .taken),
-      ⊎-elim (λ w. ap length (w .2) ∙ simp length-set (l .inv .1)) (λ w. ap length (w .1) ∙ l .inv .1) (c .if1 .came),
-      ⊎-elim
-          (λ w. rw (w .2) (gathered-set _ _ (l .p) (l .inv .2) (w .0 .taken) (room turn)))
-          (λ w. rw (w .1) (gathered-skip _ _ (l .p) (l .inv .2) (w .0 .left)))
-          (c .if1 .came),
+      simp length-set (l .inv .1),
+      gathered-or _ _ (l .p) (l .inv .2) (room turn),
     )
 
 returns : tie.Need-returns Inv-loop μ-loop
@@ -62,12 +58,13 @@ gather-spec =
     μ-loop
     (λ c κs. search needs)
     loop-holds
-    (λ c. omega (arith, c .before .loop-test .taken, start (c .before .before) .pre .1))
-    (λ c. omega (arith, c .before .before .loop-test .taken, start (c .before .before .before) .pre .0 .long, start (c .before .before .before) .good .1 .0))
-    (λ c. omega (arith, c .before .before .before .loop-test .taken, start (c .before .before .before .before) .pre .0 .long))
+    (λ c. omega (arith, c .loop-test .taken, start (c .before) .pre .0 .long, start (c .before) .good .1 .0))
+    (λ c. omega (arith, c .before .loop-test .taken, start (c .before .before) .pre .0 .long))
+    (λ c. room (c .before .before))
+    (λ c. omega (arith, c .before .before .before .loop-test .taken, start (c .before .before .before .before) .pre .1))
     (λ c. room (c .before .before .before))
-    (λ c. omega (arith, c .before .before .loop-test .taken, start (c .before .before .before) .fits .n))
-    (λ c. omega (arith, c .before .before .loop-test .taken))
+    (λ c. omega (arith, c .before .before .before .loop-test .taken, start (c .before .before .before .before) .fits .n))
+    (λ c. omega (arith, c .before .before .before .loop-test .taken))
     loop-again
     (λ c. same (c .before))
     returns)

@@ -2,11 +2,10 @@
 -- Assumes nothing.
 use borrow.Author.Needs.{needs}
 use mathlib.Core.Path.{_≡_}
-use mathlib.Core.Logic.{⊎-elim}
 use Prim.Native.Nat.{_-_, _≤_}
 use native.Mathlib.Omega.{arith}
 use Rattle.signals.specs.Flags.{SetOf}
-use Rattle.signals.proofs.Marks.{set-none, set-in, set-out}
+use Rattle.signals.proofs.Marks.{set-none, set-if}
 use Rattle.signals.proofs.flags.set_of.Statement.{statement}
 use Rattle.signals.proofs.flags.set_of.Tie as tie
 
@@ -22,13 +21,7 @@ loop-holds c = (omega arith, set-none _ _ (c .empty .ensures))
 loop-again : tie.Need-loop-again Inv-loop μ-loop
 loop-again c =
     let turn = c .before .before in
-    let l = turn .before .loop in (
-      omega (arith, turn .loop-test .taken),
-      ⊎-elim
-          (λ w. rw (w .2) (set-in (l .k) (l .inv .1) (w .0 .taken) _ (w .1 .ensures)))
-          (λ w. rw (w .1) (set-out (l .k) (l .inv .1) (w .0 .left)))
-          (c .if1 .came),
-    )
+    let l = turn .before .loop in (omega (arith, turn .loop-test .taken), set-if (l .k) (l .inv .1) _ (c .insert-if .ensures))
 
 returns : tie.Need-returns Inv-loop μ-loop
 returns c =

@@ -13,7 +13,7 @@ use Rattle.signals.proofs.inferred.few_neighbours.Statement.{statement}
 use Rattle.signals.proofs.inferred.few_neighbours.Tie as tie
 
 abbrev start : tie.After-see-row2 → tie.Start
-start c = c .before .before .before .before .before
+start c = c .before .before .before .before .before .before .before
 
 -- a neighbour along an edge, either way
 abbrev near : tie.After-see-row2 → ℕ → Bool

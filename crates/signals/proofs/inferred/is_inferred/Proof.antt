@@ -18,13 +18,13 @@ within s = record-within (s .args .p) _ 8 (s .pre .0 .1)
 
 natural-at-requires : tie.Need-natural-at-requires
 natural-at-requires c κs =
-    let s = c .before .before .before in
+    let s = c .before .before .before .before .before in
     (omega (arith, within s), field-nonNeg (s .pre .0 .0) (s .args .p) 4 (s .pre .0 .1) (omega arith) refl)
 
 returns : tie.Need-returns
 returns c =
     let chosen = c .before in
-    let a = chosen .before .before .before .before .before .args in
+    let a = chosen .before .before .before .before .before .before .before .args in
     let tests = both (eqb (component (a .components .now) (a .p) .kind) 0) (a .quiet) (rw (chosen .before .natural-at .ensures) at (chosen .if1 .taken)) in
     rw (tests .0, tests .1) (c .few-neighbours .ensures)
 
@@ -35,15 +35,15 @@ none false b x e = refl
 
 returns-2 : tie.Need-returns-2
 returns-2 c =
-    let a = c .before .before .before .before .before .args in
+    let a = c .before .before .before .before .before .before .before .args in
     none (eqb (component (a .components .now) (a .p) .kind) 0) (a .quiet) _ (rw (c .before .natural-at .ensures) at (c .if1 .left))
 
 pub is-inferred-spec : {M : Type 1} → statement M
 is-inferred-spec =
     tie.close
     (tie.spec
-    (λ c. omega (arith, within (c .before .before .before)))
-    (λ c. omega (arith, within (c .before .before .before)))
+    (λ c. omega (arith, within (c .before .before .before .before .before)))
+    (λ c. omega (arith, within (c .before .before .before .before .before)))
     natural-at-requires
     (λ c κs. search needs)
     returns

@@ -14,23 +14,23 @@ use Rattle.signals.proofs.inferred.see_row.Statement.{statement}
 use Rattle.signals.proofs.inferred.see_row.Tie as tie
 
 abbrev Inv-loop : tie.InvT-loop
-Inv-loop keys labels m at₀ found₀ at found =
+Inv-loop keys labels m rows at₀ found₀ at found =
     (at₀ ≤ at) × (at ≤ length keys)
     × ((test : ℕ → Bool) → SeenOf (length labels) test found₀ → SeenOf (length labels) (passed keys labels m at test) found)
 
 abbrev μ-loop : tie.MeasureT-loop
-μ-loop keys labels m at₀ found₀ at found = length keys - at
+μ-loop keys labels m rows at₀ found₀ at found = length keys - at
 
 abbrev start : tie.At-loop Inv-loop μ-loop → tie.Start Inv-loop μ-loop
-start c = c .before .before .before .before
+start c = c .before .before .before .before .before
 
-mul-lower-bound : tie.Need-mul-lower-bound Inv-loop μ-loop
-mul-lower-bound c = let s = c .before .before in omega (arith, s .pre .0 .nodes, s .pre .1)
+mul-lower-bound : tie.Need-mul-lower-bound-in Inv-loop μ-loop
+mul-lower-bound c = let s = c .before .before .before in omega (arith, s .pre .0 .nodes, s .pre .1)
 
 loop-holds : tie.Need-loop-holds Inv-loop μ-loop
 loop-holds c =
-    let s = c .before .before .before in
-    let low = c .lower-bound .ensures in
+    let s = c .before .before .before .before in
+    let low = c .lower-bound-in .ensures in
     (omega arith, low .within, λ test. row-none (s .args .keys .now) (s .args .labels .now) (s .args .m) (s .pre .0) (s .pre .1) low test (s .args .seen))
 
 returns : tie.Need-returns Inv-loop μ-loop
@@ -39,7 +39,7 @@ returns c test seen =
     let s = start at-loop in
     let l = at-loop .loop in
     row-all (s .args .keys .now) (s .args .labels .now) (s .args .m) (s .pre .0) (s .pre .1)
-    (at-loop .before .lower-bound .ensures) (l .at) (l .inv .0) (λ h. c .if1 .taken) test (l .found) (l .inv .2 test seen)
+    (at-loop .before .lower-bound-in .ensures) (l .at) (l .inv .0) (λ h. c .if1 .taken) test (l .found) (l .inv .2 test seen)
 
 -- the neighbour of a turn is a node
 below : (c : tie.Else1 Inv-loop μ-loop)
@@ -81,7 +81,7 @@ returns-2 c test seen =
     let s = start at-loop in
     let l = at-loop .loop in
     row-all (s .args .keys .now) (s .args .labels .now) (s .args .m) (s .pre .0) (s .pre .1)
-    (at-loop .before .lower-bound .ensures) (l .at) (l .inv .0) (λ h. absurd (omega (arith, c .loop-test .left))) test (l .found) (l .inv .2 test seen)
+    (at-loop .before .lower-bound-in .ensures) (l .at) (l .inv .0) (λ h. absurd (omega (arith, c .loop-test .left))) test (l .found) (l .inv .2 test seen)
 
 pub see-row-spec : {M : Type 1} → statement M
 see-row-spec =

@@ -16,18 +16,18 @@ use Rattle.signals.proofs.stages.build_tables.Statement.{statement}
 use Rattle.signals.proofs.stages.build_tables.Tie as tie
 
 settle-requires : tie.Need-settle-requires
-settle-requires c κs = let s = c .before .before .before .before .before .before .before in (s .pre .0 .0, (inl refl, s .pre .1 .0 .1 .0))
+settle-requires c κs = let s = c .before .before .before .before .before .before .before .before .before .before in (s .pre .0 .0, (inl refl, s .pre .1 .0 .1 .0))
 
 settle-requires-2 : tie.Need-settle-requires-2
-settle-requires-2 c κs = let s = c .before .before .before .before .before .before .before .before .before .before .before in (s .pre .0 .0, (inr refl, s .pre .1 .0 .1 .1))
+settle-requires-2 c κs = let s = c .before .before .before .before .before .before .before .before .before .before .before .before .before .before .before in (s .pre .0 .0, (inr refl, s .pre .1 .0 .1 .1))
 
 -- ---- after the ends are settled
 
 abbrev settled : tie.After-settle2 → tie.After-settle
-settled c = c .before .before .before .before
+settled c = c .before .before .before .before .before
 
 abbrev start : tie.After-settle2 → tie.Start
-start c = settled c .before .before .before .before .before .before .before .before
+start c = settled c .before .before .before .before .before .before .before .before .before .before .before
 
 abbrev sources : tie.After-settle2 → List ℕ
 sources c = settled c .settle .last .1 .1 .1 .0
@@ -82,6 +82,24 @@ signal-keys-requires-3 c κs =
     let s = start (slots .before .before .before .before .before) in
     (s .pre .0 .0, (fed-sortable slots, s .pre .1 .1 .1 .1))
 
+same-length : tie.Need-same-length
+same-length c =
+    let third = c .before .before in
+    let second = third .before .before .before .before .before .before in
+    let first = second .before .before .before .before .before .before in
+    let slots = first .before .before .before .before .before in
+    let ends = slots .before .before .before .before .before in
+    settled ends .settle .kept .1 .1 .1 .0
+
+same-length-2 : tie.Need-same-length-2
+same-length-2 c =
+    let third = c .before .before in
+    let second = third .before .before .before .before .before .before in
+    let first = second .before .before .before .before .before .before in
+    let slots = first .before .before .before .before .before in
+    let ends = slots .before .before .before .before .before in
+    ends .settle2 .kept .1 .1 .1 .0
+
 returns : tie.Need-returns
 returns c cs t =
     let third = c .before .before in
@@ -103,6 +121,7 @@ pub build-tables-spec : {M : Type 1} → statement M
 build-tables-spec =
     tie.close
     (tie.spec
+    (λ c κs. search needs)
     settle-requires
     settle-requires-2
     (λ c. search needs)
@@ -112,8 +131,8 @@ build-tables-spec =
     (λ c. search needs)
     (λ c. search needs)
     signal-keys-requires-3
-    (λ c. search needs)
-    (λ c. search needs)
+    same-length
+    same-length-2
     (λ c. search needs)
     (λ c. search needs)
     (λ c. search needs)

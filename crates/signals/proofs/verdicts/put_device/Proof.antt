@@ -11,14 +11,14 @@ use Rattle.signals.proofs.verdicts.put_device.Statement.{statement}
 use Rattle.signals.proofs.verdicts.put_device.Tie as tie
 
 abbrev Inv-loop : tie.InvT-loop
-Inv-loop id kind member fed drive potential out₀ at first count place₀ k₀ out place k =
+Inv-loop id kind member fed drive potential out₀ at rows first count place₀ k₀ out place k =
     (k ≤ count) × PortsPut id first (λ port. slotStatus fed (slot member port) drive potential) at out₀ out place k
 
 abbrev μ-loop : tie.MeasureT-loop
-μ-loop id kind member fed drive potential out₀ at first count place₀ k₀ out place k = count - k
+μ-loop id kind member fed drive potential out₀ at rows first count place₀ k₀ out place k = count - k
 
 abbrev start : tie.At-loop Inv-loop μ-loop → tie.Start Inv-loop μ-loop
-start c = c .before .before .before .before .before .before .before
+start c = c .before .before .before .before .before .before .before .before
 
 loop-holds : tie.Need-loop-holds Inv-loop μ-loop
 loop-holds c = (omega arith, ports-none _ _ _ _ _)

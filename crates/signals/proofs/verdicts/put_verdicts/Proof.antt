@@ -1,5 +1,6 @@
 -- `liveness::verdicts::put_verdicts` meets its contract: at component p the rows of those before it stand at the front.
 -- Assumes nothing.
+use borrow.Author.Needs.{needs}
 use mathlib.Core.Path.{refl}
 use mathlib.Core.Bool.{Bool}
 use mathlib.Core.List.{List, []}
@@ -20,14 +21,14 @@ abbrev row : List ℤ → List ℕ → List ℕ → List Bool → List Bool → 
 row cs members fed drive potential p = kindRows (component cs p .id) (component cs p .kind) (getD members p 0) fed drive potential
 
 abbrev Inv-loop : tie.InvT-loop
-Inv-loop components members fed drive potential out₀ count at₀ p₀ out at p =
+Inv-loop components members fed drive potential out₀ count rows at₀ p₀ out at p =
     RowsPut (verdictsBelow components members fed drive potential) 3 12 count out₀ out at p
 
 abbrev μ-loop : tie.MeasureT-loop
-μ-loop components members fed drive potential out₀ count at₀ p₀ out at p = count - p
+μ-loop components members fed drive potential out₀ count rows at₀ p₀ out at p = count - p
 
 abbrev start : tie.At-loop Inv-loop μ-loop → tie.Start Inv-loop μ-loop
-start c = c .before .before .before .before .before .before
+start c = c .before .before .before .before .before .before .before .before .before
 
 abbrev rowOf : tie.At-loop Inv-loop μ-loop → ℕ → List ℕ
 rowOf l =
@@ -51,7 +52,7 @@ kind-requires c κs =
 
 device-requires : tie.Need-put-device-requires Inv-loop μ-loop
 device-requires c κs =
-    let i = c .before .before .before .before in
+    let i = c .before .before .before .before .before in
     let l = i .before in
     let s = start l in
     let v = l .loop .inv in (
@@ -63,7 +64,7 @@ loop-again : tie.Need-loop-again Inv-loop μ-loop
 unfolding verdictsBelow
 loop-again c =
     let d = c .before .before in
-    let n = d .before .before .before in
+    let n = d .before .before .before .before in
     let i = n .before .before in
     let l = i .before in
     let s = start l in
@@ -86,6 +87,8 @@ put-verdicts-spec =
     (tie.spec
     Inv-loop
     μ-loop
+    (λ c. search needs)
+    (λ c κs. search needs)
     loop-holds
     (λ c. omega (arith, within c))
     id-requires
@@ -94,9 +97,10 @@ put-verdicts-spec =
     kind-requires
     (λ c. omega (arith, within (c .before .before)))
     (λ c. let i = c .before .before .before in omega (arith, start (i .before) .pre .0 .1 .long, i .loop-test .taken))
+    (λ c. search needs)
     device-requires
-    (λ c. omega (arith, c .before .before .before .before .before .before .before .loop-test .taken))
-    (λ c. omega (arith, c .before .before .before .before .before .before .before .loop-test .taken))
+    (λ c. omega (arith, c .before .before .before .before .before .before .before .before .loop-test .taken))
+    (λ c. omega (arith, c .before .before .before .before .before .before .before .before .loop-test .taken))
     loop-again
     (λ c. c .before .loop .inv .long)
     returns)

@@ -15,27 +15,24 @@ use Rattle.signals.proofs.verdicts.slot_fed.Tie as tie
 
 returns : tie.Need-returns
 returns c =
-    let s = c .before .before .before in
-    sym (fed-past (s .args .keys .now) (s .args .slot) (s .pre .0) (c .before .lower-bound .ensures) (λ h. absurd (omega (arith, c .if1 .taken))))
+    let s = c .before in
+    sym (fed-past (s .args .keys .now) (s .args .slot) (s .pre .0 .0) (s .pre .1) (λ h. absurd (omega (arith, c .if1 .taken))))
 
 returns-2 : tie.Need-returns-2
 returns-2 c =
-    let at-bound = c .before .before in
-    let s = at-bound .before .before in
+    let s = c .before .before in
     let keys = s .args .keys .now in
     let slot = s .args .slot in
-    let at = at-bound .lower-bound .result in
+    let at = s .args .at in
     ⊎-elim
     (λ (e : getD keys at 0 / span ≡ slot). eq-eqb _ slot e ∙ sym (fed-here keys slot at (c .before .if1 .left) e))
-    (λ n. ne-eqb _ slot n ∙ sym (fed-past keys slot (s .pre .0) (at-bound .lower-bound .ensures) (λ h. n)))
+    (λ n. ne-eqb _ slot n ∙ sym (fed-past keys slot (s .pre .0 .0) (s .pre .1) (λ h. n)))
     (same? (getD keys at 0 / span) slot)
 
 pub slot-fed-spec : {M : Type 1} → statement M
 slot-fed-spec =
     tie.close
     (tie.spec
-    (λ c. search needs)
-    (λ c κs. search needs)
     returns
     (λ c. search needs)
     (λ c. search needs)

@@ -15,29 +15,29 @@ use Rattle.signals.proofs.verdicts.slot_fed_by.Statement.{statement}
 use Rattle.signals.proofs.verdicts.slot_fed_by.Tie as tie
 
 abbrev Inv-loop : tie.InvT-loop
-Inv-loop keys slot flags at₀ at =
+Inv-loop keys slot flags start₀ at₀ at =
     (at₀ ≤ at) × (at ≤ length keys) × ((k : ℕ) → at₀ ≤ k → k < at → marked flags (getD keys k 0 % span) ≡ false)
 
 abbrev μ-loop : tie.MeasureT-loop
-μ-loop keys slot flags at₀ at = length keys - at
+μ-loop keys slot flags start₀ at₀ at = length keys - at
 
 abbrev start : tie.At-loop Inv-loop μ-loop → tie.Start Inv-loop μ-loop
-start c = c .before .before .before .before
+start c = c .before
 
 loop-holds : tie.Need-loop-holds Inv-loop μ-loop
-loop-holds c = (omega arith, c .lower-bound .ensures .within, λ k h l. absurd (omega arith))
+loop-holds c = (omega arith, c .pre .1 .1 .within, λ k h l. absurd (omega arith))
 
 returns : tie.Need-returns Inv-loop μ-loop
 returns c =
     let at-loop = c .before .before .before in
     let s = start at-loop in
     let l = at-loop .loop in
-    sym (fed-by-past (s .args .keys .now) (s .args .slot) (s .pre .0 .0) (at-loop .before .lower-bound .ensures) (s .args .flags .now) (l .at) (l .inv .0) (λ h. c .if1 .taken) (l .inv .2))
+    sym (fed-by-past (s .args .keys .now) (s .args .slot) (s .pre .0 .0) (s .pre .1 .1) (s .args .flags .now) (l .at) (l .inv .0) (λ h. c .if1 .taken) (l .inv .2))
 
 shared-slice-read-if2 : tie.Need-shared-slice-read-if2 Inv-loop μ-loop
 shared-slice-read-if2 c =
     let in-loop = c .before .before .before in
-    start (in-loop .before) .pre .1 .below (in-loop .before .loop .at) (in-loop .loop-test .taken) (c .before .if1 .left)
+    start (in-loop .before) .pre .1 .0 .below (in-loop .before .loop .at) (in-loop .loop-test .taken) (c .before .if1 .left)
 
 returns-2 : tie.Need-returns-2 Inv-loop μ-loop
 returns-2 c =
@@ -66,7 +66,7 @@ returns-3 c =
     let at-loop = c .before in
     let s = start at-loop in
     let l = at-loop .loop in
-    sym (fed-by-past (s .args .keys .now) (s .args .slot) (s .pre .0 .0) (at-loop .before .lower-bound .ensures) (s .args .flags .now) (l .at) (l .inv .0)
+    sym (fed-by-past (s .args .keys .now) (s .args .slot) (s .pre .0 .0) (s .pre .1 .1) (s .args .flags .now) (l .at) (l .inv .0)
     (λ h. absurd (omega (arith, c .loop-test .left))) (l .inv .2))
 
 pub slot-fed-by-spec : {M : Type 1} → statement M
@@ -75,8 +75,6 @@ slot-fed-by-spec =
     (tie.spec
     Inv-loop
     μ-loop
-    (λ c. omega (arith, c .before .before .pre .0 .1))
-    (λ c κs. search needs)
     loop-holds
     (λ c. omega arith)
     (λ c. omega arith)

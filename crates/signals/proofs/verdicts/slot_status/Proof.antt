@@ -10,7 +10,7 @@ use Rattle.signals.proofs.verdicts.slot_status.Statement.{statement}
 use Rattle.signals.proofs.verdicts.slot_status.Tie as tie
 
 abbrev start : tie.After-slot-fed → tie.Start
-start c = c .before .before .before .before
+start c = c .before .before .before .before .before .before
 
 returns : tie.Need-returns
 returns c =
@@ -52,6 +52,8 @@ pub slot-status-spec : {M : Type 1} → statement M
 slot-status-spec =
     tie.close
     (tie.spec
+    (λ c. search needs)
+    (λ c κs. search needs)
     (λ c κs. search needs)
     returns
     (λ c κs. search needs)
