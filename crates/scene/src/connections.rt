@@ -12,7 +12,9 @@ use lists::Checked;
 use lists::Found;
 use lists::PORT;
 use lists::Refusal;
-use lists::ids::place_of;
+use lists::hints::HINTS;
+use lists::hints::hint_ids;
+use lists::hints::place_near;
 use lists::numbers::natural_at;
 use lists::refusals::grouping_lists;
 use lists::refusals::room_for;
@@ -103,7 +105,13 @@ fn ports_between(components: &[i64], a: usize, b: usize, kind: u64) -> Link
 }
 
 // The ports of connection k. `keys` is the table of ids.
-fn link_of(components: &[i64], keys: &[u64], connections: &[i64], k: usize) -> Link
+fn link_of(
+    components: &[i64],
+    keys: &[u64],
+    connections: &[i64],
+    k: usize,
+    hints: &[u16; HINTS],
+) -> Link
     requires { ⌜ Components (now components) ⌝ }
     requires { ⌜ IdTable (now components) (now keys) ⌝ }
     requires { ⌜ Connections (now connections) ⌝ }
@@ -111,11 +119,11 @@ fn link_of(components: &[i64], keys: &[u64], connections: &[i64], k: usize) -> L
     ensures { λ r. ⌜ r ≡ linkOf (now (components .entry)) (connection (now (connections .entry)) k) ⌝ }
 {
     let at = k * CONNECTION;
-    let from = place_of(keys, natural_at(connections, at));
+    let from = place_near(keys, hints, natural_at(connections, at));
     let Found::At(a) = from else {
         return Link::Dropped;
     };
-    let to = place_of(keys, natural_at(connections, at + 1));
+    let to = place_near(keys, hints, natural_at(connections, at + 1));
     let Found::At(b) = to else {
         return Link::Dropped;
     };
@@ -154,6 +162,7 @@ fn keep(
     k: usize,
     out: &mut [i64],
     count: usize,
+    hints: &[u16; HINTS],
 ) -> usize
     requires { ⌜ Components (now components) ⌝ }
     requires { ⌜ IdTable (now components) (now keys) ⌝ }
@@ -162,7 +171,7 @@ fn keep(
     requires { ⌜ count * portWidth + portWidth ≤ length (now out) ⌝ }
     ensures { λ r. ⌜ Filled (map pos (keptRow (now (components .entry)) (now (connections .entry)) k)) count (now (out .entry)) (now (out .exit)) r ⌝ }
 {
-    let link = link_of(components, keys, connections, k);
+    let link = link_of(components, keys, connections, k, hints);
     let Link::Ports { source, sink } = link else {
         return count;
     };
@@ -178,11 +187,13 @@ pub fn keep_all(components: &[i64], keys: &[u64], connections: &[i64], out: &mut
     requires { ⌜ connectionCount (now connections) * portWidth ≤ length (now out) ⌝ }
     ensures { λ r. ⌜ AllKept (now (components .entry)) (now (connections .entry)) (now (out .entry)) (now (out .exit)) r ⌝ }
 {
+    let mut hints = [0u16; HINTS];
+    hint_ids(keys, &mut hints);
     let connection_count = connections.len() / CONNECTION;
     let mut count: usize = 0;
     let mut k: usize = 0;
     while k < connection_count {
-        count = keep(components, keys, connections, k, out, count);
+        count = keep(components, keys, connections, k, out, count, &hints);
         k += 1;
     }
     count

@@ -17,24 +17,24 @@ within : (c : tie.Start) → c .args .k * 3 + 3 ≤ length (c .args .connections
 within c = record-within (c .args .k) _ 3 (c .pre .1 .1 .1)
 
 -- the places that the lookups give
-from-place : (c : tie.After-place-of)
+from-place : (c : tie.After-place-near)
     → let s = c .before .before .before in
-    c .place-of .result ≡ placeOf (s .args .components .now) (connection (s .args .connections .now) (s .args .k) .source)
+    c .place-near .result ≡ placeOf (s .args .components .now) (connection (s .args .connections .now) (s .args .k) .source)
 from-place c =
     let s = c .before .before .before in
-    c .place-of .ensures (s .args .components .now) (s .pre .1 .0) ∙ ap (placeOf (s .args .components .now)) (c .before .natural-at .ensures)
+    c .place-near .ensures (s .args .components .now) (s .pre .1 .0) ∙ ap (placeOf (s .args .components .now)) (c .before .natural-at .ensures)
 
-to-place : (c : tie.After-place-of2)
+to-place : (c : tie.After-place-near2)
     → let s = c .before .before .before .before .before .before .before .before in
-    c .place-of2 .result ≡ placeOf (s .args .components .now) (connection (s .args .connections .now) (s .args .k) .sink)
+    c .place-near2 .result ≡ placeOf (s .args .components .now) (connection (s .args .connections .now) (s .args .k) .sink)
 to-place c =
     let s = c .before .before .before .before .before .before .before .before in
-    c .place-of2 .ensures (s .args .components .now) (s .pre .1 .0) ∙ ap (placeOf (s .args .components .now)) (c .before .natural-at2 .ensures)
+    c .place-near2 .ensures (s .args .components .now) (s .pre .1 .0) ∙ ap (placeOf (s .args .components .now)) (c .before .natural-at2 .ensures)
 
 source-requires : tie.Need-natural-at-requires
 source-requires c κs = let s = c .before in (omega (arith, within s), first-nonNeg (s .pre .1 .1 .0) (s .args .k) (s .pre .1 .1 .1) (omega arith) refl)
 
-place-requires : tie.Need-place-of-requires
+place-requires : tie.Need-place-near-requires
 place-requires c κs =
     let s = c .before .before in
     omega (arith, c .natural-at .ensures, first-most (s .pre .1 .1 .0) (s .args .k) (s .pre .1 .1 .1) (omega arith) 4294967295 refl refl)
@@ -47,7 +47,7 @@ sink-requires c κs =
     let s = c .before .before .before .before .before .before in
     (omega (arith, within s), field-nonNeg (s .pre .1 .1 .0) (s .args .k) 1 (s .pre .1 .1 .1) (omega arith) refl)
 
-place-requires-2 : tie.Need-place-of-requires-2
+place-requires-2 : tie.Need-place-near-requires-2
 place-requires-2 c κs =
     let s = c .before .before .before .before .before .before .before in
     omega (arith, c .natural-at2 .ensures, field-most (s .pre .1 .1 .0) (s .args .k) 1 (s .pre .1 .1 .1) (omega arith) 4294967295 refl refl)
