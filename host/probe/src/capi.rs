@@ -1,41 +1,11 @@
 //! The product's own entries: lists lent as bytes, eight to a number, lowest
-//! first.
+//! first. The calls themselves are those of the crate `dustroute`; here their
+//! answers stay plain numbers.
+
+use dustroute::bytes::{self, NUMBER};
+pub use dustroute::bytes::{Lent, WORDS};
 
 use crate::{Refusal, unpack};
-
-mod raw {
-    unsafe extern "C" {
-        pub fn dustroute_groups(
-            components: *const u8,
-            components_len: usize,
-            connections: *const u8,
-            connections_len: usize,
-            nets: *mut u8,
-            nets_len: usize,
-            fragments: *mut u8,
-            fragments_len: usize,
-        ) -> u64;
-
-        pub fn dustroute_liveness(
-            components: *const u8,
-            components_len: usize,
-            ports: *const u8,
-            ports_len: usize,
-            frontiers: *const u8,
-            frontiers_len: usize,
-            regions: *mut u8,
-            regions_len: usize,
-            sources: *mut u8,
-            sources_len: usize,
-            inputs: *mut u8,
-            inputs_len: usize,
-            sets: *mut u8,
-            sets_len: usize,
-            stack: *mut u8,
-            stack_len: usize,
-        ) -> u64;
-    }
-}
 
 /// How many nets and fragments an accepted scene has.
 #[derive(Clone, Copy, Debug, Eq, PartialEq)]
@@ -54,34 +24,15 @@ pub fn groups(
     nets: &mut [u8],
     fragments: &mut [u8],
 ) -> Result<Counts, Refusal> {
-    // SAFETY: each pointer is to a whole slice of the length beside it. The
-    // callee only reads the first two, and the borrows keep the others apart.
-    let answer = unsafe {
-        raw::dustroute_groups(
-            components.as_ptr(),
-            components.len(),
-            connections.as_ptr(),
-            connections.len(),
-            nets.as_mut_ptr(),
-            nets.len(),
-            fragments.as_mut_ptr(),
-            fragments.len(),
-        )
-    };
+    let answer = bytes::groups(components, connections, nets, fragments);
     unpack(answer).map(|counts| Counts {
         nets: counts % 65_536,
         fragments: counts / 65_536,
     })
 }
 
-/// Bytes to a number.
-const NUMBER: usize = 8;
-
 /// Numbers to a component.
 const COMPONENT: usize = 8;
-
-/// Words to a set.
-pub const WORDS: usize = 16;
 
 /// The words of a set: the number k is bit k % 64 of word k / 64.
 pub type Words = [u64; WORDS];
@@ -92,15 +43,6 @@ pub struct RowCounts {
     pub regions: u64,
     pub sources: u64,
     pub inputs: u64,
-}
-
-/// The slices that the liveness entry is lent, of any length.
-pub struct Lent<'a> {
-    pub regions: &'a mut [u8],
-    pub sources: &'a mut [u8],
-    pub inputs: &'a mut [u8],
-    pub sets: &'a mut [u8],
-    pub stack: &'a mut [u8],
 }
 
 /// The region of each component, the source rows, the verdict rows and the
@@ -114,28 +56,7 @@ pub fn liveness_bytes(
     frontiers: &[u8],
     lent: Lent<'_>,
 ) -> Result<RowCounts, Refusal> {
-    // SAFETY: each pointer is to a whole slice of the length beside it. The
-    // callee only reads the first three, and the borrows keep the others apart.
-    let answer = unsafe {
-        raw::dustroute_liveness(
-            components.as_ptr(),
-            components.len(),
-            ports.as_ptr(),
-            ports.len(),
-            frontiers.as_ptr(),
-            frontiers.len(),
-            lent.regions.as_mut_ptr(),
-            lent.regions.len(),
-            lent.sources.as_mut_ptr(),
-            lent.sources.len(),
-            lent.inputs.as_mut_ptr(),
-            lent.inputs.len(),
-            lent.sets.as_mut_ptr(),
-            lent.sets.len(),
-            lent.stack.as_mut_ptr(),
-            lent.stack.len(),
-        )
-    };
+    let answer = bytes::liveness(components, ports, frontiers, lent);
     unpack(answer).map(|counts| RowCounts {
         regions: counts % 65_536,
         sources: counts / 65_536 % 65_536,
@@ -176,9 +97,9 @@ pub fn liveness(components: &[i64], ports: &[i64], frontiers: &[i64]) -> Result<
     let mut sets = vec![0; 4 * WORDS * NUMBER];
     let mut stack = vec![0; 2 * count * NUMBER];
     let counts = liveness_bytes(
-        &bytes(components),
-        &bytes(ports),
-        &bytes(frontiers),
+        &lent_bytes(components),
+        &lent_bytes(ports),
+        &lent_bytes(frontiers),
         Lent {
             regions: &mut regions,
             sources: &mut sources,
@@ -201,7 +122,7 @@ pub fn liveness(components: &[i64], ports: &[i64], frontiers: &[i64]) -> Result<
 }
 
 /// The bytes of a list.
-fn bytes(numbers: &[i64]) -> Vec<u8> {
+fn lent_bytes(numbers: &[i64]) -> Vec<u8> {
     let numbers = numbers.iter();
     numbers.flat_map(|number| number.to_le_bytes()).collect()
 }
