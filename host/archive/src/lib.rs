@@ -3,7 +3,9 @@
 //! The archive is `target/staticlib/libNAME.a` of the repository. It is made
 //! by `rt staticlib NAME` when it is missing or older than the sources. An
 //! archive has no symbols but its exported functions, so two that share code
-//! can be linked side by side.
+//! can be linked side by side. Where a crate links one and depends on a crate
+//! that links another, cargo runs the scripts one after the other (`links`), so
+//! that no two `rt` work in the repository at once.
 
 use std::env;
 use std::path::{Path, PathBuf};

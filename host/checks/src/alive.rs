@@ -281,7 +281,11 @@ fn hold_rows(
         words(cyclic),
         words(driven.map(|(k, _)| k)),
     ];
-    let sets: Vec<u8> = sets.concat().iter().flat_map(|it| it.to_le_bytes()).collect();
+    let sets: Vec<u8> = sets
+        .concat()
+        .iter()
+        .flat_map(|it| it.to_le_bytes())
+        .collect();
     assert!(slices.sets.holds(&sets), "sets, {case}{lists}");
     let zero = vec![0; lists.lent.stack];
     assert!(slices.stack.holds(&zero), "stack, {case}{lists}");
@@ -289,7 +293,12 @@ fn hold_rows(
 
 /// The set of the components with these ids: member k has the k-th smallest.
 fn members(ids: &[i64], scene: &Scene) -> Vec<u64> {
-    let mut all: Vec<i64> = scene.components.iter().step_by(COMPONENT).copied().collect();
+    let mut all: Vec<i64> = scene
+        .components
+        .iter()
+        .step_by(COMPONENT)
+        .copied()
+        .collect();
     all.sort_unstable();
     let member = |id: &i64| all.binary_search(id).unwrap_or(usize::MAX) as u64;
     words(ids.iter().map(member))

@@ -24,7 +24,16 @@ fn graph(code: usize) -> Scene {
     let kinds = [0, 0, 1, 4, 9, 11, 3, 0, 8];
     let component = |k: usize| {
         let place = i64::try_from(k).unwrap_or(0);
-        [7 * (3 - place), place, 0, 0, kinds[(code / 7 + k) % kinds.len()], 0, 0, 1]
+        [
+            7 * (3 - place),
+            place,
+            0,
+            0,
+            kinds[(code / 7 + k) % kinds.len()],
+            0,
+            0,
+            1,
+        ]
     };
     let pair = |k: usize| {
         let ids = [k / 4, k % 4].map(|it| 7 * i64::try_from(it).unwrap_or(0));
