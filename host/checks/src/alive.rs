@@ -4,8 +4,9 @@
 
 use std::fmt::{self, Display};
 
-use probe::capi::{self, RowCounts};
-use probe::query::{Asked, input_refusal, required_input};
+use oracle::Input;
+use probe::capi::{self, RowCounts, WORDS};
+use probe::query::{Asked, immediate_word, inferred_word, input_refusal};
 use scenes::bytes::{self, LivenessLent, NUMBER, SET_WORDS};
 use scenes::limits::COMPONENT;
 use scenes::{Lent, Scene};
@@ -25,18 +26,11 @@ impl LivenessLists {
     /// The lists of a scene, with the fewest bytes lent that are enough.
     #[must_use]
     pub fn of(scene: &Scene) -> Self {
-        let enough = Lent::enough(scene);
         Self {
             components: bytes::of(&scene.components),
             ports: bytes::of(&scene.ports),
             frontiers: bytes::of(&scene.frontiers),
-            lent: LivenessLent {
-                regions: enough.regions * NUMBER,
-                sources: enough.sources * NUMBER,
-                inputs: enough.inputs * NUMBER,
-                sets: SET_WORDS * NUMBER,
-                stack: enough.stack * NUMBER,
-            },
+            lent: enough(scene),
         }
     }
 
@@ -72,7 +66,8 @@ pub struct Alive {
     cyclic: u64,
     by_source: [u64; 4],
     by_status: [u64; 4],
-    queries: u64,
+    rows_asked: u64,
+    words_asked: u64,
 }
 
 /// Up to this many components every row is asked for.
@@ -87,6 +82,9 @@ const NO_ROW: probe::Refusal = probe::Refusal {
     list: 3,
     item: 0,
 };
+
+/// Asks for a word of a set.
+type Word = fn(&Asked<'_>, usize, &mut [usize]) -> u64;
 
 /// The slices that are lent to one call.
 struct Slices {
@@ -149,7 +147,11 @@ impl Alive {
                 self.count(&report);
                 assert_eq!(given, Ok(counts(&report)), "counts, {case}{lists}");
                 hold_rows(&slices, &report, &scene, lists, case);
-                self.queries(&report, &scene, case);
+                // The query is lent none of these slices: other lengths of them
+                // need not ask it again.
+                if lists.lent == enough(&scene) {
+                    self.queries(&report, &scene, case);
+                }
             }
             Err(refusal) => {
                 self.by_number[usize::try_from(refusal.number).unwrap_or(0)] += 1;
@@ -181,7 +183,6 @@ impl Alive {
             1 + report.inputs.len() / ASKED
         };
         for input in report.inputs.iter().step_by(step) {
-            self.queries += 1;
             let [id, port] = [input.device, input.port].map(i64::unsigned_abs);
             let mut asked = Asked {
                 components: &scene.components,
@@ -190,18 +191,39 @@ impl Alive {
                 id,
                 port,
             };
-            let length = Lent::enough(scene).stack;
-            let mut stack = Guarded::new(length, 0);
-            let given = required_input(&asked, stack.lent());
-            let sets = [&input.immediate, &input.inferred].map(|ids| members(ids, scene));
-            assert_eq!(given, Ok(sets), "input {id} {port}, {case}{scene}");
-            assert!(stack.holds(&vec![0; length]), "stack, {case}{scene}");
+            self.query(&asked, input, scene, case);
             asked.port += 5;
-            let mut stack = Guarded::new(length, 0);
+            let mut stack = Guarded::new(Lent::enough(scene).stack, 0);
             let given = input_refusal(&asked, stack.lent());
             assert_eq!(given, Some(NO_ROW), "no row, {case}{scene}");
             assert!(stack.holds(&[]), "a refusal wrote, {case}{scene}");
         }
+    }
+
+    /// Every word is a query of its own, so not all are asked for: those that
+    /// have members and one more in turn, and after sixteen rows every word of one.
+    fn query(&mut self, asked: &Asked<'_>, row: &Input, scene: &Scene, case: &dyn Display) {
+        let turn = usize::try_from(self.rows_asked).unwrap_or(0);
+        self.rows_asked += 1;
+        let length = Lent::enough(scene).stack;
+        let mut stack = Guarded::new(length, 0);
+        let refusal = input_refusal(asked, stack.lent());
+        assert_eq!(refusal, None, "{asked:?}, {case}");
+        let sets: [(Word, &[i64]); 2] = [
+            (immediate_word, &row.immediate),
+            (inferred_word, &row.inferred),
+        ];
+        for (given, ids) in sets {
+            let wanted = members(ids, scene).into_iter().enumerate();
+            let in_turn = turn % (WORDS + 1);
+            let all = in_turn == WORDS;
+            for (k, word) in wanted.filter(|(k, word)| all || *word != 0 || in_turn == *k) {
+                self.words_asked += 1;
+                let given = given(asked, k, stack.lent());
+                assert_eq!(given, word, "word {k} of {asked:?}, {case}");
+            }
+        }
+        assert!(stack.holds(&vec![0; length]), "stack, {case}{scene}");
     }
 
     /// How often each status came up.
@@ -226,6 +248,18 @@ impl Counted for Alive {
 
     fn print(&self, title: &str) {
         println!("{title}: {self:?}");
+    }
+}
+
+/// The fewest bytes that are enough.
+const fn enough(scene: &Scene) -> LivenessLent {
+    let enough = Lent::enough(scene);
+    LivenessLent {
+        regions: enough.regions * NUMBER,
+        sources: enough.sources * NUMBER,
+        inputs: enough.inputs * NUMBER,
+        sets: SET_WORDS * NUMBER,
+        stack: enough.stack * NUMBER,
     }
 }
 
@@ -306,7 +340,7 @@ fn members(ids: &[i64], scene: &Scene) -> Vec<u64> {
 
 /// Sixteen words with these bits.
 fn words(numbers: impl Iterator<Item = u64>) -> Vec<u64> {
-    let mut words = vec![0; SET_WORDS / 4];
+    let mut words = vec![0; WORDS];
     for number in numbers {
         let word = usize::try_from(number / 64).unwrap_or(usize::MAX);
         words[word] |= 1_u64 << (number % 64);

@@ -1,9 +1,7 @@
-//! The input query: its refusal, and its two sets as words.
+//! The input query: its refusal, and its two sets word by word. Each call asks
+//! the whole query anew.
 
 use crate::{Refusal, refused};
-
-/// Words to a set.
-const WORDS: usize = 16;
 
 mod raw {
     unsafe extern "C" {
@@ -60,21 +58,7 @@ pub struct Asked<'a> {
     pub port: u64,
 }
 
-/// The immediate sources of a port, and the inferred inputs among these and
-/// all upstream of them, each as the words of a set of members.
-///
-/// # Errors
 /// The refusal of lists that are not as they must be, or 8.
-pub fn required_input(asked: &Asked<'_>, stack: &mut [usize]) -> Result<[Vec<u64>; 2], Refusal> {
-    if let Some(refusal) = input_refusal(asked, stack) {
-        return Err(refusal);
-    }
-    let immediate = (0..WORDS).map(|k| immediate_word(asked, k, stack)).collect();
-    let inferred = (0..WORDS).map(|k| inferred_word(asked, k, stack)).collect();
-    Ok([immediate, inferred])
-}
-
-/// The refusal alone.
 pub fn input_refusal(asked: &Asked<'_>, stack: &mut [usize]) -> Option<Refusal> {
     // SAFETY: each pointer is to a whole slice of the length beside it. The
     // callee only reads the lists, and the borrow keeps the stack apart.
@@ -94,7 +78,9 @@ pub fn input_refusal(asked: &Asked<'_>, stack: &mut [usize]) -> Option<Refusal> 
     })
 }
 
-fn immediate_word(asked: &Asked<'_>, k: usize, stack: &mut [usize]) -> u64 {
+/// Word k of the immediate sources of a port, as a set of members; 0 where the
+/// query is refused.
+pub fn immediate_word(asked: &Asked<'_>, k: usize, stack: &mut [usize]) -> u64 {
     // SAFETY: as for `input_refusal`.
     unsafe {
         raw::probe_immediate_word(
@@ -113,7 +99,9 @@ fn immediate_word(asked: &Asked<'_>, k: usize, stack: &mut [usize]) -> u64 {
     }
 }
 
-fn inferred_word(asked: &Asked<'_>, k: usize, stack: &mut [usize]) -> u64 {
+/// Word k of the inferred inputs among the immediate sources of a port and all
+/// upstream of them.
+pub fn inferred_word(asked: &Asked<'_>, k: usize, stack: &mut [usize]) -> u64 {
     // SAFETY: as for `input_refusal`.
     unsafe {
         raw::probe_inferred_word(
