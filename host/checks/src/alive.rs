@@ -59,6 +59,8 @@ impl Display for LivenessLists {
 /// Counts of what was compared.
 #[derive(Clone, Debug, Default)]
 pub struct Alive {
+    /// Scenes that are not asked about after one that is.
+    spared: u64,
     calls: u64,
     by_number: [u64; 8],
     components: u64,
@@ -131,6 +133,15 @@ impl Slices {
 }
 
 impl Alive {
+    /// The input query is asked on one accepted scene of so many.
+    #[must_use]
+    pub fn asking_every(scenes: u64) -> Self {
+        Self {
+            spared: scenes.saturating_sub(1),
+            ..Self::default()
+        }
+    }
+
     /// One call, with all that it answers and leaves.
     ///
     /// # Panics
@@ -149,7 +160,8 @@ impl Alive {
                 hold_rows(&slices, &report, &scene, lists, case);
                 // The query is lent none of these slices: other lengths of them
                 // need not ask it again.
-                if lists.lent == enough(&scene) {
+                let is_asked = self.by_number[0].is_multiple_of(self.spared + 1);
+                if is_asked && lists.lent == enough(&scene) {
                     self.queries(&report, &scene, case);
                 }
             }

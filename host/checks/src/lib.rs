@@ -8,6 +8,7 @@ mod guarded;
 mod ports;
 pub mod program;
 pub mod runs;
+pub mod scale;
 mod sheets;
 
 pub use alive::{Alive, LivenessLists};
