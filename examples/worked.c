@@ -18,11 +18,11 @@
 
 #define FILLING 0xa5
 
-/* Lists, as bytes. */
+/* Lists, as bytes, with a record more than there may be. */
 static uint8_t components[(DUSTROUTE_COMPONENTS + 1) * DUSTROUTE_COMPONENT_BYTES];
-static uint8_t connections[DUSTROUTE_CONNECTIONS * DUSTROUTE_CONNECTION_BYTES];
-static uint8_t ports[DUSTROUTE_CONNECTIONS * DUSTROUTE_PORT_BYTES];
-static uint8_t frontiers[DUSTROUTE_FRONTIER_BYTES];
+static uint8_t connections[(DUSTROUTE_CONNECTIONS + 1) * DUSTROUTE_CONNECTION_BYTES];
+static uint8_t ports[(DUSTROUTE_CONNECTIONS + 1) * DUSTROUTE_PORT_BYTES];
+static uint8_t frontiers[(DUSTROUTE_FRONTIERS + 1) * DUSTROUTE_FRONTIER_BYTES];
 
 /* Room for the largest plot. */
 static uint8_t nets[DUSTROUTE_NETS_BYTES(DUSTROUTE_COMPONENTS)];
@@ -179,9 +179,9 @@ static void refusals(void)
     hold(is_refusal(analyzed(length, fed, 0, sizeof stack), 7, 1, 1), "7: a cleared block");
 }
 
-/* A ring of wires through as many components as there may be, three more
-   connections from each, and a frontier. */
-static void full_plot(void)
+/* A ring of wires through as many components as there may be, four connections
+   from each to the next, and frontiers that are all the origin. */
+static void full_lists(void)
 {
     const size_t count = DUSTROUTE_COMPONENTS;
     size_t joined = 0, fed = 0;
@@ -197,17 +197,25 @@ static void full_plot(void)
             joined += put_all(connections + joined, connection, 3);
             fed += put_all(ports + fed, port, 5);
         }
-    const int64_t origin[] = {0, 0, 0};
-    size_t seen = put_all(frontiers, origin, 3);
-    uint64_t answer = grouped(count * DUSTROUTE_COMPONENT_BYTES, joined);
-    hold(joined == sizeof connections && fed == sizeof ports, "full lists");
-    hold(answer == ((uint64_t)1 << 16 | (uint64_t)1 << 32), "one net, one fragment");
-    answer = analyzed(count * DUSTROUTE_COMPONENT_BYTES, fed, seen, sizeof stack);
-    hold(answer == ((uint64_t)1 << 16 | (uint64_t)1 << 32), "one region, one source, no input");
+    memset(frontiers, 0, sizeof frontiers);
+}
+
+static void full_plot(void)
+{
+    const size_t wires = DUSTROUTE_COMPONENTS * DUSTROUTE_COMPONENT_BYTES;
+    const size_t joined = DUSTROUTE_CONNECTIONS * DUSTROUTE_CONNECTION_BYTES;
+    const size_t fed = DUSTROUTE_CONNECTIONS * DUSTROUTE_PORT_BYTES;
+    const size_t seen = DUSTROUTE_FRONTIERS * DUSTROUTE_FRONTIER_BYTES;
+    const uint64_t one_and_one = (uint64_t)1 << 16 | (uint64_t)1 << 32;
+    full_lists();
+    hold(grouped(wires, joined) == one_and_one, "one net, one fragment");
+    hold(analyzed(wires, fed, seen, sizeof stack) == one_and_one, "one region, one source, no input");
     hold(is_filled(sets, 0, 256, 0xff), "all driven");
     hold(get(sets, 32) == 1 && get(sets, 48) == 1, "a loop that holds a drive source");
-    answer = grouped((count + 1) * DUSTROUTE_COMPONENT_BYTES, joined);
-    hold(is_refusal(answer, 1, 0, count), "1: a component too many");
+    hold(is_refusal(grouped(sizeof components, joined), 1, 0, DUSTROUTE_COMPONENTS), "1: a component too many");
+    hold(is_refusal(grouped(wires, sizeof connections), 1, 1, DUSTROUTE_CONNECTIONS), "1: a connection too many");
+    hold(is_refusal(analyzed(wires, sizeof ports, seen, sizeof stack), 1, 1, DUSTROUTE_CONNECTIONS), "1: a port connection too many");
+    hold(is_refusal(analyzed(wires, fed, sizeof frontiers, sizeof stack), 1, 2, DUSTROUTE_FRONTIERS), "1: a frontier too many");
 }
 
 /* A copy on the heap, or so many bytes that nothing was written to. */

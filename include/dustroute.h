@@ -77,9 +77,9 @@
  *   are initialized; those of outputs need not be.
  * - A slice that is written overlaps no other slice of the call, and nothing
  *   else reads or writes it, or writes a list, until the call returns.
- * - A stack of 1 MiB is enough. Of the archive of 2026-11-16 dustroute_liveness
- *   takes 740 KB and dustroute_groups 315 KB, whatever the lists; pages are
- *   touched in order, so that a guard page stops a stack that is too small.
+ * - A stack of 1 MiB is enough for either call, whatever the lists
+ *   (docs/ARCHITECTURE.md has the sizes). Pages are touched in order, so that a
+ *   guard page stops a stack that is too small.
  *
  * Nothing else is owed: any bytes are answered, and every call returns. No
  * memory is allocated and nothing is kept or shared between calls, so any

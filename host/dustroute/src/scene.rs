@@ -321,3 +321,78 @@ impl PortConnection {
         [source, source_port, sink, sink_port, self.transfer as i64]
     }
 }
+
+/// No answer depends on every number of a record, so these are held here.
+#[cfg(test)]
+mod tests {
+    use super::{
+        BlockKind, Component, ComponentId, Connection, ConnectionKind, Facing, PortConnection,
+        PortRef, Position, TransferKind,
+    };
+
+    const LAST: ComponentId = ComponentId(u32::MAX);
+
+    #[test]
+    fn components_are_eight_numbers() {
+        let position = Position::new(-30_000_000, 64, 30_000_000);
+        for (code, kind) in (0..).zip(BlockKind::ALL) {
+            let record = Component::new(LAST, position, kind).record();
+            let wanted = [4_294_967_295, -30_000_000, 64, 30_000_000, code, 0, 0, 0];
+            assert_eq!(record, wanted);
+        }
+        for (code, face) in (1..).zip(Facing::ALL) {
+            let component = Component {
+                facing: Some(face),
+                ..Component::new(ComponentId(0), Position::default(), BlockKind::Air)
+            };
+            assert_eq!(component.record(), [0, 0, 0, 0, 12, code, 0, 0]);
+            let component = Component {
+                facing: None,
+                support: Some(face),
+                conducts: true,
+                ..component
+            };
+            assert_eq!(component.record(), [0, 0, 0, 0, 12, 0, code, 1]);
+        }
+    }
+
+    /// As in the table of faces: 0 none, North, East, South, West, Up, Down.
+    #[test]
+    fn the_codes_are_those_of_the_table() {
+        let codes = [
+            (Facing::North, 1),
+            (Facing::East, 2),
+            (Facing::South, 3),
+            (Facing::West, 4),
+            (Facing::Up, 5),
+            (Facing::Down, 6),
+        ];
+        for (face, code) in codes {
+            assert_eq!(Facing::code(Some(face)), code);
+        }
+        assert_eq!(Facing::code(None), 0);
+        assert_eq!(BlockKind::Lever as i64, 4);
+        assert_eq!(BlockKind::Air as i64, 12);
+        assert_eq!(ConnectionKind::StrongPower as i64, 4);
+        assert_eq!(ConnectionKind::Support as i64, 9);
+        assert_eq!(TransferKind::DirectionalDevice as i64, 4);
+        assert_eq!(TransferKind::StructuralSupport as i64, 6);
+    }
+
+    #[test]
+    fn connections_are_three_numbers_and_port_connections_five() {
+        let (source, sink) = (ComponentId(3), LAST);
+        for (code, kind) in (0..).zip(ConnectionKind::ALL) {
+            let connection = Connection { source, sink, kind };
+            assert_eq!(connection.record(), [3, 4_294_967_295, code]);
+        }
+        for (code, transfer) in (0..).zip(TransferKind::ALL) {
+            let connection = PortConnection {
+                source: PortRef::new(source, 255),
+                sink: PortRef::new(sink, 1),
+                transfer,
+            };
+            assert_eq!(connection.record(), [3, 255, 4_294_967_295, 1, code]);
+        }
+    }
+}

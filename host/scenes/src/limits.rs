@@ -1,5 +1,5 @@
-//! The limits, widths and ranges of the lists. They are named here and nowhere
-//! else in this workspace.
+//! The limits, widths and ranges of the lists, by which the tests judge. The
+//! limits that `dustroute` tells a host are held to these.
 
 pub const COMPONENTS: usize = 1_024;
 pub const CONNECTIONS: usize = 4_096;
