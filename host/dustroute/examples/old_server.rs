@@ -10,8 +10,9 @@ use dustroute_physical as physical;
 use dustroute_translate::{SignalLivenessReport, analyze_signal_liveness};
 
 use dustroute::{
-    BlockKind, Component, ComponentId, Connection, ConnectionKind, Facing, Groups, Liveness,
-    PortConnection, PortRef, Position, TransferKind,
+    BlockKind, Component, ComponentId, ComponentLiveness, Connection, ConnectionKind, Facing,
+    Groups, Liveness, PortConnection, PortRef, Position, RequiredInput, RequiredInputStatus,
+    SignalSource, SignalSourceKind, TransferKind,
 };
 
 type Failure = Box<dyn Error>;
@@ -153,18 +154,64 @@ pub fn analyzed(scene: &physical::PhysicalScene) -> Result<Liveness, Failure> {
     )?)
 }
 
-/// Whether all that both forms of the answer have is the same.
-pub fn agree(old: &SignalLivenessReport, new: &Liveness) -> Result<bool, Failure> {
-    let ids = |old: &BTreeSet<physical::ComponentId>| -> Result<BTreeSet<ComponentId>, Failure> {
-        old.iter().copied().map(id).collect()
+/// In place of an assessment's `immediate_sources`.
+pub fn immediate_sources(connections: &[PortConnection], input: PortRef) -> BTreeSet<ComponentId> {
+    let feeds =
+        |it: &&PortConnection| it.sink == input && it.transfer != TransferKind::StructuralSupport;
+    let sources = connections.iter().filter(feeds);
+    sources.map(|it| it.source.component).collect()
+}
+
+/// In place of `drive_sources`.
+pub fn drive_sources(found: &Liveness) -> BTreeSet<ComponentId> {
+    let drives = |it: &&SignalSource| it.kind != SignalSourceKind::InferredPrimaryInput;
+    let sources = found.sources.iter().filter(drives);
+    sources.map(|it| it.component).collect()
+}
+
+/// In place of `undriven_inputs`.
+pub fn undriven_inputs(found: &Liveness) -> Vec<PortRef> {
+    let undriven = |it: &&RequiredInput| match it.status {
+        RequiredInputStatus::Disconnected | RequiredInputStatus::NoKnownSource => true,
+        RequiredInputStatus::DrivenByKnownSource | RequiredInputStatus::AwaitingExternalInput => {
+            false
+        }
     };
-    let reached = |holds: fn(&dustroute::ComponentLiveness) -> bool| -> BTreeSet<ComponentId> {
+    let inputs = found.inputs.iter().filter(undriven);
+    inputs.map(|it| it.input).collect()
+}
+
+fn ids(old: &BTreeSet<physical::ComponentId>) -> Result<BTreeSet<ComponentId>, Failure> {
+    old.iter().copied().map(id).collect()
+}
+
+/// Whether what a scene's liveness has in both forms is the same.
+pub fn agree(
+    scene: &physical::PhysicalScene,
+    old: &SignalLivenessReport,
+    new: &Liveness,
+) -> Result<bool, Failure> {
+    let reached = |holds: fn(&ComponentLiveness) -> bool| -> BTreeSet<ComponentId> {
         let some = new.components.iter().filter(|it| holds(it));
         some.map(|it| it.id).collect()
     };
-    let mut same = ids(&old.drive_reachable)? == reached(|it| it.drive)
+    let undriven = old.undriven_inputs.iter().map(|it| port(it.input));
+    Ok(ids(&old.drive_reachable)? == reached(|it| it.drive)
         && ids(&old.potential_drive_reachable)? == reached(|it| it.potential)
-        && old.directed_regions.len() == new.regions.len()
+        && ids(&old.drive_sources)? == drive_sources(new)
+        && undriven.collect::<Result<Vec<_>, _>>()? == undriven_inputs(new)
+        && rows_agree(scene, old, new)?)
+}
+
+/// Regions, sources and required inputs, one by one.
+fn rows_agree(
+    scene: &physical::PhysicalScene,
+    old: &SignalLivenessReport,
+    new: &Liveness,
+) -> Result<bool, Failure> {
+    let connections = scene.connections.iter().map(port_connection);
+    let connections = connections.collect::<Result<Vec<_>, _>>()?;
+    let mut same = old.directed_regions.len() == new.regions.len()
         && old.sources.len() == new.sources.len()
         && old.required_input_assessments.len() == new.inputs.len();
     let regions = new.regions.iter().zip(new.region_members());
@@ -176,7 +223,9 @@ pub fn agree(old: &SignalLivenessReport, new: &Liveness) -> Result<bool, Failure
         same &= id(old.component)? == new.component && old.kind as u8 == new.kind as u8;
     }
     for (old, new) in old.required_input_assessments.iter().zip(&new.inputs) {
-        same &= port(old.input)? == new.input && old.status as u8 == new.status as u8;
+        same &= port(old.input)? == new.input
+            && old.status as u8 == new.status as u8
+            && ids(&old.immediate_sources)? == immediate_sources(&connections, new.input);
     }
     Ok(same)
 }
@@ -197,6 +246,6 @@ fn main() -> Result<(), Failure> {
     for input in &new.inputs {
         println!("{:?}: {:?}", input.input, input.status);
     }
-    println!("old and new agree: {}", agree(&old, &new)?);
+    println!("old and new agree: {}", agree(&scene, &old, &new)?);
     Ok(())
 }

@@ -52,6 +52,7 @@
 )]
 
 pub mod bytes;
+mod codes;
 mod groups;
 pub mod limits;
 mod liveness;
@@ -59,16 +60,14 @@ mod numbers;
 mod refusal;
 mod scene;
 
+pub use codes::{BlockKind, ConnectionKind, Facing, TransferKind};
 pub use groups::{ComponentGroups, Groups, groups};
 pub use liveness::{
     ComponentLiveness, Liveness, Region, RequiredInput, RequiredInputStatus, SignalSource,
     SignalSourceKind, liveness,
 };
 pub use refusal::{List, Place, Reason, Refusal};
-pub use scene::{
-    BlockKind, Component, ComponentId, Connection, ConnectionKind, Facing, PortConnection, PortRef,
-    Position, TransferKind,
-};
+pub use scene::{Component, ComponentId, Connection, PortConnection, PortRef, Position};
 
 /// The code in README.md is run as well.
 #[cfg(doctest)]

@@ -45,7 +45,7 @@ fn old_and_new_agree() -> Result<(), Box<dyn std::error::Error>> {
             let old = lists::given_scene(&scene.components, &scene.ports, &scene.frontiers);
             let new = old_server::analyzed(&old)?;
             assert!(
-                old_server::agree(&analyze_signal_liveness(&old), &new)?,
+                old_server::agree(&old, &analyze_signal_liveness(&old), &new)?,
                 "{case}"
             );
             count += 1;
