@@ -141,3 +141,15 @@ fn on_the_longest_sheet() {
     sheets.sheet_with_every_length(&text, Limits::SCENE, &"longest sheet");
     assert_all_reported(&sheets, 1, "reports, longest sheet");
 }
+
+#[test]
+fn on_a_small_stack() -> io::Result<()> {
+    runs::within_one_mebibyte_of_stack(|| {
+        let mut sheets = Sheets::new(report);
+        for seed in 0..3 {
+            let text = sheet_of(&Profile::Full.scene(seed));
+            sheets.sheet(&text, Limits::SCENE, &"full plot");
+        }
+        assert_all_reported(&sheets, 3, "reports, small stack");
+    })
+}
