@@ -26,7 +26,7 @@ use Rattle.tables.specs.Laws.{member-at}
 use Rattle.tables.specs.Pairs.{pair, span}
 use Rattle.lists.specs.Limits.{componentLimit}
 use Rattle.lists.specs.Records.{component, portConnection, componentCount, portCount}
-use Rattle.lists.specs.First.{isFound, tabulate}
+use Rattle.lists.specs.First.{firstFrom, isFound, some, tabulate}
 use Rattle.lists.specs.Ids.{placeBelow, placeOf, smallerIds, memberOf, firstEndMissing}
 use Rattle.lists.specs.Within.{Components, PortConnections}
 use Rattle.lists.specs.declared.Found.{Found}
@@ -34,7 +34,7 @@ use Rattle.lists.specs.declared.Found.the-variants.{At, Nothing}
 use Rattle.lists.specs.Refusals.{refuse, tooShort, _or-else_, queryRefusal}
 use Rattle.lists.specs.declared.Checked.{Checked}
 use Rattle.lists.specs.declared.Checked.the-variants.{Accepted}
-use Rattle.lists.proofs.Search.{never, both, or-true, found-at}
+use Rattle.lists.proofs.Search.{never, both, or-true, none-found, found-at}
 use Rattle.lists.proofs.Members.{member-below}
 use Rattle.lists.proofs.Fields.{first-most}
 use Rattle.scene.specs.Ports.{portsOf}
@@ -42,6 +42,7 @@ use Rattle.scene.proofs.Sound.{ports-few}
 use Rattle.regions.specs.Graph.{Edges, marked, flip}
 use Rattle.regions.specs.Keys.{edges}
 use Rattle.regions.specs.Kosaraju.{reached}
+use Rattle.regions.proofs.Theorems.{keys-reach}
 use Rattle.signals.specs.Signals.{isSignal, sourceMember, sinkMember, signals}
 use Rattle.signals.specs.Regions.{isInferred}
 use Rattle.signals.specs.Drive.{membersWhere}
@@ -49,7 +50,7 @@ use Rattle.signals.specs.Verdicts.{isRequired}
 use Rattle.signals.specs.Keys.{Settled, Slots, KeysOf, slot, ports}
 use Rattle.signals.specs.Flags.{Flags, SetOf}
 use Rattle.liveness.specs.Sets.{SetWhere}
-use Rattle.signals.specs.Rows.{SlotWithin}
+use Rattle.signals.specs.Rows.{SlotWithin, slotFed}
 use Rattle.liveness.specs.Query.{isImmediate, upstream, isInferredFor, withRow, rowPlace, InputsBy, Answered}
 use Rattle.liveness.specs.Scene.{Scene, Prepared}
 use Rattle.liveness.specs.Inputs.{Ready, PortOf, UpstreamSet}
@@ -156,6 +157,26 @@ pub ready-nodes : {cs ps fs : List ℤ} {fed backward : List ℕ} {inferred : Li
 unfolding membersWhere
 ready-nodes {cs} r = ap length (r .inferred-are) ∙ tabulated-length _ (componentCount cs)
 
+-- ---- tests that hold nowhere
+
+some-none : (test : ℕ → Bool) (n : ℕ) → some test n ≡ false → (k : ℕ) → k < n → test k ≡ false
+some-none test n e k h = go (firstFrom test 0 n) refl e
+  where
+    go : (found : Found) → firstFrom test 0 n ≡ found → isFound found ≡ false → test k ≡ false
+    go (At p) f g = never (sym g)
+    go Nothing f g = none-found test 0 n f k (omega arith) (omega arith)
+
+not-marked : (t : Bool) → (t ≡ true → ⊥) → t ≡ false
+not-marked true h = absurd (h refl)
+not-marked false h = refl
+
+set-none : {n : ℕ} {P : ℕ → Bool} {words : List ℕ} → ((k : ℕ) → k < n → P k ≡ false) → SetWhere n (λ k. false) words → SetWhere n P words
+set-none {n} {P} none s = record { member = λ k. s .member k ∙ same k (ltb k n) refl }
+  where
+    same : (k : ℕ) (t : Bool) → ltb k n ≡ t → (t && false) ≡ (t && P k)
+    same k true e = sym (none k (ltb-true k n e))
+    same k false e = refl
+
 -- ---- the port of a prepared scene
 
 module _ {cs ps fs : List ℤ} {p port : ℕ} {fed backward : List ℕ} {at : ℕ} {inferred : List Bool} (q : PortOf cs ps fs p port fed backward at inferred) where
@@ -196,6 +217,36 @@ module _ {cs ps fs : List ℤ} {p port : ℕ} {fed backward : List ℕ} {at : �
   graph-back =
       let t = q .ready .tables in
       λ i a b. edges-back few (t .source-members) (t .sink-members) (ends-within cs ps (q .ready .scene .ends)) (t .backward-keys) a b i
+
+  -- ---- a slot that no key has
+
+  module _ (none : slotFed fed at ≡ false) where
+    none-immediate : (a : ℕ) → a < componentCount cs → isImmediate cs ps p port a ≡ false
+    unfolding slotFed
+    none-immediate a h = sym (immediate-at a (omega (arith, few))) ∙ some-none (λ k. member (pair at k) fed) span none a (omega (arith, few))
+
+    none-upstream : (a : ℕ) → marked (upstream cs ps p port) a ≡ false
+    unfolding upstream
+    none-upstream a =
+        let n = componentCount cs in
+        let test = isImmediate cs ps p port in
+        let starts = tabulate test n in
+        ap (λ (g : Edges). marked (reached n g starts) a) (sym graph-back)
+        ∙ not-marked (marked (reached n (edges n backward) starts) a) (λ e.
+        let start = keys-reach n backward starts .exactly a .0 e in
+        never (sym (sym (start .2) ∙ tabulated-at test false n (start .0) (start .1) ∙ none-immediate (start .0) (start .1))))
+
+    none-inferred : (a : ℕ) → isInferredFor cs ps fs p port a ≡ false
+    unfolding isInferredFor
+    none-inferred a = rw (none-upstream a)
+
+    pub none-fed : {stack stack′ : List ℕ} {r : InputSources} → InputsBy Accepted cs ps fs Nothing port stack stack′ r → InputsBy Accepted cs ps fs (At p) port stack stack′ r
+    none-fed a = record {
+      answer = a .answer;
+      stack-left = a .stack-left;
+      immediate-set = set-none none-immediate (a .immediate-set);
+      inferred-set = set-none (λ k h. none-inferred k) (a .inferred-set);
+    }
 
   module _ {starts : List Bool} (long : length starts ≡ length inferred) (flags : Flags (length inferred) (λ a. member (pair at a) fed) starts) where
     starts-are : starts ≡ tabulate (isImmediate cs ps p port) (componentCount cs)

@@ -1,12 +1,12 @@
 // The sets of many ports of one accepted scene, which is prepared once.
 use super::InputSources;
 use super::query::inferred_members;
+use super::query::no_sources;
 use super::query::row_place;
 use super::query::row_sources;
 use super::steps::prepare;
 use lists::COMPONENTS;
 use lists::CONNECTIONS;
-use lists::Checked;
 use lists::Found;
 use lists::PORT;
 use lists::ids::member_of;
@@ -18,7 +18,6 @@ ghost use lib.ListN.{length};
 ghost use lib.IntN.{ℤ};
 ghost use Rattle.lists.specs.Records.{componentCount, portCount};
 ghost use Rattle.lists.specs.Ids.{IdTable};
-ghost use Rattle.lists.specs.declared.Found.the-variants.{Nothing};
 ghost use Rattle.lists.specs.declared.Checked.the-variants.{Accepted};
 ghost use Rattle.regions.specs.Search.{Zeros};
 ghost use Rattle.liveness.specs.Query.{rowPlace, InputsBy};
@@ -77,17 +76,6 @@ pub fn make_ready(
         &region_at,
         inferred,
     );
-}
-
-// The answer where the port asked for has no verdict row: empty sets.
-fn no_sources() -> InputSources
-    ensures { λ r. ⌜ ((cs ps fs : List ℤ) (port : ℕ) (stack : List ℕ) → Zeros stack → InputsBy Accepted cs ps fs Nothing port stack stack r) ⌝ }
-{
-    InputSources {
-        checked: Checked::Accepted,
-        immediate: sets::empty(),
-        inferred: sets::empty(),
-    }
 }
 
 // The sets of a port by the id of its component, empty where it has no verdict row. The stack is zero before and after.

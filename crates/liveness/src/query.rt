@@ -20,6 +20,7 @@ use signals::flags::gather;
 use signals::flags::set_of;
 use signals::verdicts::first_required;
 use signals::verdicts::required_count;
+use signals::verdicts::slot_fed;
 use tables::SPAN;
 ghost use mathlib.Core.Path.{_≡_};
 ghost use mathlib.Core.Bool.{_&&_};
@@ -36,7 +37,7 @@ ghost use Rattle.lists.specs.First.{isFound};
 ghost use Rattle.lists.specs.Ids.{IdTable};
 ghost use Rattle.lists.specs.Refusals.{refuse, tooShort};
 ghost use Rattle.lists.specs.declared.Found.{Found};
-ghost use Rattle.lists.specs.declared.Found.the-variants.{At};
+ghost use Rattle.lists.specs.declared.Found.the-variants.{At, Nothing};
 ghost use Rattle.lists.specs.declared.Checked.the-variants.{Accepted, Refused};
 ghost use Rattle.regions.specs.Search.{Zeros};
 ghost use Rattle.regions.specs.Keys.{edges};
@@ -44,7 +45,7 @@ ghost use Rattle.signals.specs.Regions.{isInferred};
 ghost use Rattle.signals.specs.Drive.{membersWhere};
 ghost use Rattle.liveness.specs.Query.{withRow, rowPlace, InputsBy};
 ghost use Rattle.signals.specs.Flags.{Flags};
-ghost use Rattle.signals.specs.Rows.{firstRequired, requiredCount, SlotWithin};
+ghost use Rattle.signals.specs.Rows.{firstRequired, requiredCount, slotFed, SlotWithin};
 ghost use Rattle.liveness.specs.Scene.{Scene, Prepared};
 ghost use Rattle.liveness.specs.Inputs.{PortOf, UpstreamRoom, UpstreamSet};
 
@@ -94,6 +95,25 @@ fn upstream_inputs(
     set_of(n, &both)
 }
 
+// The answer where the port asked for has no verdict row, or none feeds it: empty sets.
+pub(crate) fn no_sources() -> InputSources
+    ensures { λ r. ⌜ ((cs ps fs : List ℤ) (port : ℕ) (stack : List ℕ) → Zeros stack → InputsBy Accepted cs ps fs Nothing port stack stack r) ⌝ }
+{
+    InputSources {
+        checked: Checked::Accepted,
+        immediate: sets::empty(),
+        inferred: sets::empty(),
+    }
+}
+
+// Whether some key has the slot.
+fn is_fed(keys: &[u64], slot: usize) -> bool
+    requires { ⌜ Ascending (now keys) × (slot < 2 ^ 32) ⌝ }
+    ensures { λ r. ⌜ r ≡ slotFed (now (keys .entry)) slot ⌝ }
+{
+    slot_fed(keys, slot, tables::lower_bound(keys, slot as u64 * SPAN))
+}
+
 // The sets of one port, given the tables of the scene by the ports that are fed and backward, the port's slot, and the inferred inputs by
 // member. The stack is zero before and after.
 pub(crate) fn row_sources(
@@ -108,6 +128,9 @@ pub(crate) fn row_sources(
     ensures { λ r. ⌜ ((cs ps fs : List ℤ) (p port : ℕ) → PortOf cs ps fs p port (now (fed .entry)) (now (backward .entry)) slot (now (inferred .entry)) →
         InputsBy Accepted cs ps fs (At p) port (now (stack .entry)) (now (stack .exit)) r) ⌝ }
 {
+    if !is_fed(fed, slot) {
+        return no_sources();
+    }
     let n = inferred.len();
     let mut immediate = [false; COMPONENTS];
     immediate_flags(fed, slot, &mut immediate[..n]);

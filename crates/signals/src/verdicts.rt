@@ -47,7 +47,7 @@ pub fn required_count(kind: u64) -> usize
 }
 
 // Whether some key has the slot, given where its keys begin.
-fn slot_fed(keys: &[u64], slot: usize, at: usize) -> bool
+pub fn slot_fed(keys: &[u64], slot: usize, at: usize) -> bool
     requires { ⌜ Ascending (now keys) × (slot < 2 ^ 32) ⌝ }
     requires { ⌜ LowerBound (now keys) (slot * span) at ⌝ }
     ensures { λ r. ⌜ r ≡ slotFed (now (keys .entry)) slot ⌝ }

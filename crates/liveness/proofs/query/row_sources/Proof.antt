@@ -1,5 +1,8 @@
--- `liveness::query::row_sources` meets its contract: the flags of the slot's keys are the immediate sources; then upstream of them.
+-- `liveness::query::row_sources` meets its contract: a slot that no key has has no source; else the flags of its keys are the
+-- immediate sources; then upstream of them.
 -- Assumes nothing.
+use borrow.Author.Needs.{needs}
+use borrow.Author.Tests.{not-true}
 use mathlib.Core.Path.{_≡_, refl, sym, ap, _∙_}
 use mathlib.Core.Bool.{Bool, false}
 use mathlib.Core.List.{List, _++_}
@@ -10,7 +13,7 @@ use lib.Seq.{length-take-le}
 use Rattle.lists.specs.Limits.{componentLimit}
 use Rattle.regions.proofs.Fill.{zeros-cleared}
 use Rattle.signals.proofs.Lent.{front, front-long}
-use Rattle.liveness.proofs.Inputs.{slot-asked, nodes-few, back-rises, immediate-set, inferred-set}
+use Rattle.liveness.proofs.Inputs.{slot-asked, none-fed, nodes-few, back-rises, immediate-set, inferred-set}
 use Rattle.liveness.proofs.query.row_sources.Statement.{statement}
 use Rattle.liveness.proofs.query.row_sources.Tie as tie
 
@@ -23,10 +26,17 @@ small s = nodes-few (s .pre .0 .5)
 lent : (s : tie.Start) → length (take (nodes s) (replicate componentLimit false)) ≡ nodes s
 lent s = length-take-le _ _ (small s)
 
+-- nothing feeds the slot
+returns : tie.Need-returns
+returns c cs ps fs p port q =
+    let f = c .before .before in
+    let s = c .before .before .before .before .before .before .before in
+    none-fed q (sym (f .is-fed .ensures) ∙ not-true (f .is-fed .result) (c .before .if1 .taken)) (c .no-sources .ensures cs ps fs port (s .args .stack .now) (s .pre .1 .1))
+
 -- ---- the flags that came back stand at the front of the array
 
 abbrev start : tie.After-immediate-flags → tie.Start
-start c = c .before .before .before .before .before .before
+start c = c .before .before .before .before .before .before .before .before
 
 abbrev flags : tie.After-immediate-flags → List Bool
 flags c = c .immediate-flags .last .1 .1 .0
@@ -58,8 +68,8 @@ upstream-inputs-requires c κs =
       stack-zeros = s .pre .1 .1;
     }
 
-returns : tie.Need-returns
-returns c cs ps fs p port q =
+returns-2 : tie.Need-returns-2
+returns-2 c cs ps fs p port q =
     let f = c .before .before .before .before .before .before .before .before in
     let s = start f in
     let u = c .before .before .upstream-inputs in
@@ -75,9 +85,12 @@ pub row-sources-spec : {M : Type 1} → statement M
 row-sources-spec =
     tie.close
     (tie.spec
-    (λ c. small (c .before .before .before .before))
-    (λ c. sym (lent (c .before .before .before .before .before)))
-    (λ c κs. let s = c .before .before .before .before .before in slot-asked (s .pre .0 .5) _ (lent s))
+    (λ c κs. let s = c .before .before .before .before in slot-asked (s .pre .0 .5) _ refl .0)
+    (λ c κs. search needs)
+    returns
+    (λ c. small (c .before .before .before .before .before .before))
+    (λ c. sym (lent (c .before .before .before .before .before .before .before)))
+    (λ c κs. let s = c .before .before .before .before .before .before .before in slot-asked (s .pre .0 .5) _ (lent s))
     (λ c. let f = c .before in front-long _ (flags f) (rest f) (long f))
     (λ c. sym (front-length (c .before .before)))
     set-of-requires
@@ -85,4 +98,4 @@ row-sources-spec =
     (λ c. sym (front-length (c .before .before .before .before)))
     upstream-inputs-requires
     (λ c. c .before .before .upstream-inputs .kept .1 .1 .1 .0)
-    returns)
+    returns-2)

@@ -1,11 +1,11 @@
--- `liveness::asked::no_sources` meets its contract: the sets are empty, and a stack of zeros is as it is left.
+-- `liveness::query::no_sources` meets its contract: the sets are empty, and a stack of zeros is as it is left.
 -- Assumes nothing.
 use borrow.Author.Needs.{needs}
 use mathlib.Core.Path.{refl}
 use Rattle.regions.proofs.Fill.{zeros-cleared}
 use Rattle.liveness.proofs.Answers.{none-set}
-use Rattle.liveness.proofs.asked.no_sources.Statement.{statement}
-use Rattle.liveness.proofs.asked.no_sources.Tie as tie
+use Rattle.liveness.proofs.query.no_sources.Statement.{statement}
+use Rattle.liveness.proofs.query.no_sources.Tie as tie
 
 returns : tie.Need-returns
 returns c cs ps fs port stack zeros = record {
