@@ -4,6 +4,7 @@
 //! README beside the files lists the words.
 
 pub mod examples;
+pub mod replay;
 
 use std::fmt::{Display, Write};
 
