@@ -1,3 +1,4 @@
 -- Laws of the definitions, for the proofs of this crate.
 mod Counting
 mod Reading
+mod Listing

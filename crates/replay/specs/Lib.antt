@@ -1,3 +1,5 @@
 -- What the contracts cite.
 pub mod Differing
 pub mod Bounds
+pub mod Counts
+pub mod Names

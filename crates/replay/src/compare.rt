@@ -16,6 +16,8 @@ ghost use lib.ListN.{length, getD};
 ghost use Rattle.sets.specs.Members.{memberLimit};
 ghost use Rattle.lists.specs.Signed.{at, eqZ};
 ghost use Rattle.replay.specs.Differing.{oneUnless, eqN, differing};
+ghost use Rattle.replay.specs.Counts.{sum, afterNumbers, afterScene};
+ghost use Rattle.replay.specs.Names.{nameOf, namesBelow, flagsBelow, Written};
 
 // Where the next list stands in the text, how many scenes were read, how many recorded numbers were compared, and how many differ.
 pub struct Tally {
@@ -26,7 +28,9 @@ pub struct Tally {
 }
 
 // The sum, or the largest number.
-fn plus(a: u64, b: u64) -> u64 {
+fn plus(a: u64, b: u64) -> u64
+    ensures { λ r. ⌜ r ≡ sum a b ⌝ }
+{
     if u64::MAX - a < b {
         return u64::MAX;
     }
@@ -34,7 +38,9 @@ fn plus(a: u64, b: u64) -> u64 {
 }
 
 // So many recorded numbers more, up to a place, of which some differ.
-pub fn counted(tally: Tally, at: usize, numbers: usize, different: usize) -> Tally {
+pub fn counted(tally: Tally, at: usize, numbers: usize, different: usize) -> Tally
+    ensures { λ r. ⌜ r ≡ afterNumbers tally at numbers different ⌝ }
+{
     Tally {
         at,
         scenes: tally.scenes,
@@ -44,7 +50,9 @@ pub fn counted(tally: Tally, at: usize, numbers: usize, different: usize) -> Tal
 }
 
 // One scene more.
-pub fn with_scene(tally: Tally) -> Tally {
+pub fn with_scene(tally: Tally) -> Tally
+    ensures { λ r. ⌜ r ≡ afterScene tally ⌝ }
+{
     Tally {
         at: tally.at,
         scenes: plus(tally.scenes, 1),
@@ -134,7 +142,9 @@ pub fn compare_signed(tally: Tally, text: &[u8], word: &[u8], answered: &[i64]) 
 }
 
 // The id of a member by the table of ids; a number that is in no table stands for itself.
-fn name_of(keys: &[u64], member: usize) -> u64 {
+fn name_of(keys: &[u64], member: usize) -> u64
+    ensures { λ r. ⌜ r ≡ nameOf (now (keys .entry)) member ⌝ }
+{
     if member < keys.len() {
         return keys[member] / SPAN;
     }
@@ -144,7 +154,7 @@ fn name_of(keys: &[u64], member: usize) -> u64 {
 // Writes the names of a set's members, rising, and answers how many there are.
 fn list_names(keys: &[u64], set: ComponentSet, out: &mut [u64]) -> usize
     requires { ⌜ memberLimit ≤ length (now out) ⌝ }
-    ensures { λ r. ⌜ r ≤ memberLimit ⌝ }
+    ensures { λ r. ⌜ Written (namesBelow (now (keys .entry)) (set .words) memberLimit) (now (out .entry)) (now (out .exit)) r ⌝ }
 {
     let mut n: usize = 0;
     let mut m = next_member(set, 0);
@@ -170,7 +180,9 @@ pub fn compare_set(
 }
 
 // Writes 1 for each number that is in a set, and 0 for the others.
-fn list_flags(set: ComponentSet, out: &mut [u64]) {
+fn list_flags(set: ComponentSet, out: &mut [u64])
+    ensures { λ _. ⌜ now (out .exit) ≡ flagsBelow (set .words) (length (now (out .entry))) ⌝ }
+{
     let mut k: usize = 0;
     while k < out.len() {
         out[k] = contains(set, k) as u64;
