@@ -49,7 +49,7 @@ loop-again c =
     let a = start turn .args in
     let l = turn .before .loop in (
       rw (names-least (a .keys .now) (a .set .words) (c .next-member2 .ensures) (past c), names-more (a .keys .now) (a .set .words) (l .m) (l .inv .2 (turn .loop-test .taken)), c .before .name-of .ensures)
-      (front-more _ (l .inv .0) (room turn)),
+          (front-more _ (l .inv .0) (room turn)),
       omega (arith, c .next-member2 .ensures .bound, long (start turn)),
       λ h. c .next-member2 .ensures .found (omega (arith, h, long (start turn))) .1,
     )
