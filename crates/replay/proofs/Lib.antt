@@ -2,3 +2,6 @@
 mod Counting
 mod Reading
 mod Listing
+mod Numbers
+mod Counts
+mod Lists

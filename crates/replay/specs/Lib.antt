@@ -1,4 +1,5 @@
 -- What the contracts cite.
+pub mod Recorded
 pub mod Differing
 pub mod Bounds
 pub mod Counts

@@ -5,8 +5,11 @@ use lines::read::Skip;
 use lines::read::read_magnitude;
 use lines::read::read_number;
 use lines::read::skip_key;
+ghost use mathlib.Core.Path.{_≡_};
 ghost use Prim.Native.Nat.{_≤_};
-ghost use lib.ListN.{length};
+ghost use lib.ListN.{length, drop};
+ghost use Rattle.lines.specs.Line.{readLine, numberIn};
+ghost use Rattle.replay.specs.Recorded.{natural, readNumbers, readList, Filled, ReadFrom};
 ghost use Rattle.replay.specs.Bounds.{AtMost};
 
 // A list: how many numbers it has, and the position after it.
@@ -46,7 +49,9 @@ pub fn refill(text: &mut [u8], at: usize) {
 }
 
 // The count of a list, at the line of its word.
-fn read_count(text: &[u8], at: usize, word: &[u8]) -> Number {
+fn read_count(text: &[u8], at: usize, word: &[u8]) -> Number
+    ensures { λ r. ⌜ r ≡ numberIn (length (now (text .entry))) (natural (readLine (now (word .entry)) (drop at (now (text .entry))))) ⌝ }
+{
     if text.len() < at {
         return Number::Not;
     }
@@ -58,7 +63,10 @@ fn read_count(text: &[u8], at: usize, word: &[u8]) -> Number {
 }
 
 // Fills `out` with the numbers at `at`, and answers where they end.
-fn read_numbers(text: &[u8], at: usize, out: &mut [i64]) -> Skip {
+fn read_numbers(text: &[u8], at: usize, out: &mut [i64]) -> Skip
+    requires { ⌜ at ≤ length (now text) ⌝ }
+    ensures { λ r. ⌜ Filled (length (now (text .entry))) (readNumbers (length (now (out .entry))) (drop at (now (text .entry)))) (now (out .exit)) r ⌝ }
+{
     let mut p = at;
     let mut i: usize = 0;
     while i < out.len() {
@@ -80,6 +88,7 @@ fn read_numbers(text: &[u8], at: usize, out: &mut [i64]) -> Skip {
 // Reads the list of a word at `at` to the front of `out`.
 pub fn read_list(text: &[u8], at: usize, word: &[u8], out: &mut [i64]) -> Listed
     ensures { λ r. ⌜ AtMost (length (now (out .entry))) r ⌝ }
+    ensures { λ r. ⌜ ReadFrom (length (now (text .entry))) (readList (now (word .entry)) (drop at (now (text .entry)))) (now (out .entry)) (now (out .exit)) r ⌝ }
 {
     let head = read_count(text, at, word);
     let Number::Is(count, start) = head else {

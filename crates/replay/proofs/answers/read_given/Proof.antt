@@ -6,7 +6,7 @@ use Rattle.replay.proofs.answers.read_given.Statement.{statement}
 use Rattle.replay.proofs.answers.read_given.Tie as tie
 
 returns : tie.Need-returns
-returns c = listed-within _ _ (c .before .before .before .before .before .read-list .ensures) (c .before .before .listed .given .1)
+returns c = listed-within _ _ (c .before .before .before .before .before .read-list .ensures .0) (c .before .before .listed .given .1)
 
 pub read-given-spec : {M : Type 1} → statement M
 read-given-spec =

@@ -13,7 +13,7 @@ use Rattle.replay.proofs.compare.compare.Tie as tie
 -- what was read is within the list
 within : (c : tie.After-known-told) → c .before .listed .given .0 .0 ≤ length (c .before .before .before .before .before .read-list .last .1 .1 .1 .0)
 within c =
-    let h = listed-within _ _ (c .before .before .before .before .before .read-list .ensures) (c .before .listed .given .1) in
+    let h = listed-within _ _ (c .before .before .before .before .before .read-list .ensures .0) (c .before .listed .given .1) in
     omega (arith, h, c .before .before .before .before .before .read-list .kept .1 .1 .1 .0)
 
 array-share-prefix-recorded : tie.Need-array-share-prefix-recorded

@@ -3,9 +3,8 @@
 use borrow.Author.Needs.{needs}
 use native.Mathlib.Omega.{arith}
 use lib.ListN.{length}
-use mathlib.Core.Path.{_≡_, sym, ap, subst, _∙_}
-use mathlib.Core.List.{List}
-use Prim.Native.Nat.{ℕ, _-_, _+_, _<_}
+use mathlib.Core.Path.{_≡_}
+use Prim.Native.Nat.{_-_, _<_}
 use Rattle.replay.specs.Names.{flagsBelow}
 use Rattle.replay.proofs.Listing.{Front, front-none, front-length, front-more, front-whole, flags-none, flags-more}
 use Rattle.replay.proofs.compare.list_flags.Statement.{statement}
