@@ -5,3 +5,4 @@ mod Listing
 mod Numbers
 mod Counts
 mod Lists
+mod Comparing

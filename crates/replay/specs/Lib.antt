@@ -4,3 +4,4 @@ pub mod Differing
 pub mod Bounds
 pub mod Counts
 pub mod Names
+pub mod Compared

@@ -11,10 +11,12 @@ use sets::contains;
 use sets::next_member;
 use tables::SPAN;
 ghost use mathlib.Core.Path.{_≡_};
-ghost use Prim.Native.Nat.{_≤_, _<_};
-ghost use lib.ListN.{length, getD};
+ghost use Prim.Native.Nat.{_≤_, _<_, min};
+ghost use lib.ListN.{length, getD, take, drop};
 ghost use Rattle.sets.specs.Members.{memberLimit};
 ghost use Rattle.lists.specs.Signed.{at, eqZ};
+ghost use Rattle.replay.specs.Recorded.{readList};
+ghost use Rattle.replay.specs.Compared.{compared};
 ghost use Rattle.replay.specs.Differing.{oneUnless, eqN, differing};
 ghost use Rattle.replay.specs.Counts.{sum, afterNumbers, afterScene};
 ghost use Rattle.replay.specs.Names.{nameOf, namesBelow, flagsBelow, Written};
@@ -111,12 +113,15 @@ const LONGEST_SIGNED: usize = CONNECTIONS * PORT;
 
 pub fn least(a: usize, b: usize) -> usize
     ensures { λ r. ⌜ (r ≤ a) × (r ≤ b) ⌝ }
+    ensures { λ r. ⌜ r ≡ min a b ⌝ }
 {
     if a < b { a } else { b }
 }
 
 // Reads the list of a word, and compares an answer with it, which stands at the front of a list of at least so many numbers.
-pub fn compare(tally: Tally, text: &[u8], word: &[u8], answered: &[u64], count: usize) -> Tally {
+pub fn compare(tally: Tally, text: &[u8], word: &[u8], answered: &[u64], count: usize) -> Tally
+    ensures { λ r. ⌜ r ≡ compared eqN 4096 (length (now (text .entry))) (readList (now (word .entry)) (drop (tally .at) (now (text .entry)))) (take (min count (length (now (answered .entry)))) (now (answered .entry))) tally ⌝ }
+{
     let mut recorded = [0i64; LONGEST];
     let listed = read_list(text, tally.at, word, &mut recorded);
     let m = least(count, answered.len());
@@ -127,7 +132,9 @@ pub fn compare(tally: Tally, text: &[u8], word: &[u8], answered: &[u64], count: 
 }
 
 // The same of an answer of signed numbers.
-pub fn compare_signed(tally: Tally, text: &[u8], word: &[u8], answered: &[i64]) -> Tally {
+pub fn compare_signed(tally: Tally, text: &[u8], word: &[u8], answered: &[i64]) -> Tally
+    ensures { λ r. ⌜ r ≡ compared eqZ 20480 (length (now (text .entry))) (readList (now (word .entry)) (drop (tally .at) (now (text .entry)))) (now (answered .entry)) tally ⌝ }
+{
     let mut recorded = [0i64; LONGEST_SIGNED];
     let listed = read_list(text, tally.at, word, &mut recorded);
     match listed {
