@@ -1,22 +1,23 @@
 -- Sets listed a number at a time.
 --     Front                        rows stand at the front of a list, and the rest is as it was
 --     front-none, -more, -whole    none at first, one more, the whole list
---     flags-long, flags-more       the flags below a number
+--     front-taken                  numbers at the front, taken again
+--     flags-more, flags-long       the flags below a number
 --     names-skip, -more, ..        the names below a number
 -- Assumes nothing.
-use Prim.Native.Nat.{ℕ, zero, suc, _+_, _-_, _≤_, _<_}
+use Prim.Native.Nat.{ℕ, zero, suc, _+_, _-_, _≤_, _<_, min}
 use native.Mathlib.Nat.{add-zero}
 use native.Mathlib.Numerals.{add-one}
 use native.Mathlib.Omega.{arith}
 use mathlib.Core.Path.{_≡_, refl, ap, subst, _∙_}
 use mathlib.Core.Bool.{Bool, true, false, cond}
 use mathlib.Core.List.{List, [], _∷_, _++_, append-nil}
-use lib.ListN.{length, drop, set, length-append}
-use lib.Seq.{drop-length}
+use lib.ListN.{length, take, drop, set, length-append}
+use lib.Seq.{drop-length, take-append-seam}
 use Rattle.lists.specs.Slices.{laid}
 use Rattle.lines.proofs.Writing.{laid-snoc, length-laid}
 use Rattle.sets.specs.Members.{asNat, memberOf, NoneIn, LeastFrom}
-use Rattle.replay.specs.Names.{nameOf, namesBelow, flagsBelow}
+use Rattle.replay.specs.Names.{nameOf, namesBelow, flagsBelow, Written}
 
 pub record Front (rows : List ℕ) (n : ℕ) (old new : List ℕ) : Type 0 where
   pub count : length rows ≡ n
@@ -82,3 +83,15 @@ module _ (keys words : List ℕ) where
       go : (b : Bool) → length (namesBelow keys words m) ≤ m → length (namesBelow keys words m ++ cond b (nameOf keys m ∷ []) []) ≤ suc m
       go true h = omega (arith, h, length-append (namesBelow keys words m) (nameOf keys m ∷ []))
       go false h = omega (arith, h, length-append (namesBelow keys words m) [])
+
+-- numbers at the front of a list, taken as far as the list goes
+pub front-taken : (numbers out out′ : List ℕ) (r : ℕ) → Written numbers out out′ r → length numbers ≤ length out → take (min r (length out′)) out′ ≡ numbers
+front-taken numbers out out′ r w h =
+    let l : length out′ ≡ length out = ap length (w .front) ∙ length-laid numbers out h in
+    let e : min r (length out′) ≡ length numbers = omega (arith, l, h, w .count) in
+    ap (λ k. take k out′) e ∙ ap (take (length numbers)) (w .front) ∙ take-append-seam numbers (drop (length numbers) out)
+
+pub flags-long : (words : List ℕ) (n : ℕ) → length (flagsBelow words n) ≡ n
+unfolding flagsBelow
+flags-long words zero = refl
+flags-long words (suc n) = length-append (flagsBelow words n) (asNat (memberOf words n) ∷ []) ∙ (let e = flags-long words n in omega (arith, e))

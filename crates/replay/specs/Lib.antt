@@ -1,7 +1,7 @@
--- What the contracts cite.
+-- What the contracts cite. To be read in this order.
 pub mod Recorded
 pub mod Differing
-pub mod Bounds
 pub mod Counts
-pub mod Names
 pub mod Compared
+pub mod Names
+pub mod Bounds

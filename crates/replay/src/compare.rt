@@ -174,13 +174,9 @@ fn list_names(keys: &[u64], set: ComponentSet, out: &mut [u64]) -> usize
 }
 
 // Compares the list of a word with a set of members, by the table of ids, or with a set of numbers, by an empty table.
-pub fn compare_set(
-    tally: Tally,
-    text: &[u8],
-    word: &[u8],
-    keys: &[u64],
-    set: ComponentSet,
-) -> Tally {
+pub fn compare_set(tally: Tally, text: &[u8], word: &[u8], keys: &[u64], set: ComponentSet) -> Tally
+    ensures { λ r. ⌜ r ≡ compared eqN 4096 (length (now (text .entry))) (readList (now (word .entry)) (drop (tally .at) (now (text .entry)))) (namesBelow (now (keys .entry)) (set .words) memberLimit) tally ⌝ }
+{
     let mut names = [0u64; MEMBERS];
     let n = list_names(keys, set, &mut names);
     compare(tally, text, word, &names, n)
@@ -204,7 +200,9 @@ pub fn compare_flags(
     word: &[u8],
     set: ComponentSet,
     count: usize,
-) -> Tally {
+) -> Tally
+    ensures { λ r. ⌜ r ≡ compared eqN 4096 (length (now (text .entry))) (readList (now (word .entry)) (drop (tally .at) (now (text .entry)))) (take (min count memberLimit) (flagsBelow (set .words) memberLimit)) tally ⌝ }
+{
     let mut flags = [0u64; MEMBERS];
     list_flags(set, &mut flags);
     compare(tally, text, word, &flags, count)
