@@ -268,7 +268,7 @@ fn replay_given(tally: Tally, text: &[u8], components: &[i64], frontiers: &[i64]
 }
 
 // The text from the tally's place on comes to the front, with more behind it.
-pub fn go_on(tally: Tally, text: &mut [u8]) -> Tally {
+pub(crate) fn go_on(tally: Tally, text: &mut [u8]) -> Tally {
     refill(text, tally.at);
     counted(tally, 0, 0, 0)
 }
@@ -289,7 +289,7 @@ fn replay_lists(
 }
 
 // Replays the scene at the front of the text, and brings the next one there.
-pub fn replay_scene(tally: Tally, text: &mut [u8]) -> Tally {
+pub(crate) fn replay_scene(tally: Tally, text: &mut [u8]) -> Tally {
     let mut components = [0i64; COMPONENTS * COMPONENT];
     let mut connections = [0i64; CONNECTIONS * CONNECTION];
     let mut frontiers = [0i64; FRONTIERS * FRONTIER];

@@ -39,7 +39,7 @@ fn shift(text: &mut [u8], at: usize)
 }
 
 // Drops the text before `at`, and reads on behind what is left.
-pub fn refill(text: &mut [u8], at: usize) {
+pub(crate) fn refill(text: &mut [u8], at: usize) {
     if text.len() < at {
         return;
     }
