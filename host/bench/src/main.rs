@@ -1,6 +1,6 @@
 //! Times of the unchanged Rust and of the proved library on the same scenes,
-//! taken in turn in one run, as Markdown tables. Words choose: `liveness 1024`
-//! times that table at that size only.
+//! taken in turn in one run, as Markdown tables. Words choose: `liveness 1024
+//! random` times that table at that size and of that shape only.
 
 mod measure;
 mod subjects;
@@ -56,6 +56,17 @@ impl Chosen {
         }
     }
 
+    /// The shapes among the words, or all.
+    fn shapes(&self) -> Vec<Shape> {
+        let named = |shape: &Shape| self.has(shape.name());
+        let shapes: Vec<Shape> = Shape::ALL.into_iter().filter(named).collect();
+        if shapes.is_empty() {
+            Shape::ALL.to_vec()
+        } else {
+            shapes
+        }
+    }
+
     /// Whether a table is among the words, or none is.
     fn table(&self, name: &str) -> bool {
         self.has(name) || !TABLES.into_iter().any(|other| self.has(other))
@@ -67,7 +78,7 @@ const TABLES: [&str; 4] = ["groups", "ports", "liveness", "whole"];
 /// Times both sides on the scenes of every shape and size, changed first.
 fn measured<S: Subject>(chosen: &Chosen, change: impl Fn(Scene) -> Scene) -> Vec<Row> {
     let mut rows = Vec::new();
-    for shape in Shape::ALL {
+    for shape in chosen.shapes() {
         for size in chosen.sizes() {
             let scenes = (0..SCENES).map(|seed| change(shape.scene(size, seed)));
             rows.push(Row {
