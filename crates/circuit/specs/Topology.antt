@@ -15,7 +15,7 @@ use lib.IntN.{ℤ}
 use Rattle.lists.specs.Records.{connection, componentCount, connectionCount}
 use Rattle.lists.specs.First.{firstFrom, isFound}
 use Rattle.lists.specs.Ids.{placeOf}
-use Rattle.lists.specs.Refusals.{groupingRefusal}
+use Rattle.lists.specs.Refusals.{groupingRefusal, refusalNumbers, numbersBy}
 use Rattle.lists.specs.Slices.{laid, leftOf}
 use Rattle.lists.specs.declared.Found.{Found}
 use Rattle.lists.specs.declared.Found.the-variants.{At, Nothing}
@@ -75,6 +75,11 @@ abbrev pub answerOf : Checked → ℕ → ℕ → Grouping
 answerOf Accepted nets fragments = Groups (record { nets = nets; fragments = fragments })
 answerOf (CheckRefused refusal) nets fragments = Refused refusal
 
+-- the paper's numbers of each case: 0 and the two counts, or those of the refusal
+abbrev pub numbersOf : Grouping → List ℕ
+numbersOf (Groups counts) = 0 ∷ counts .nets ∷ counts .fragments ∷ []
+numbersOf (Refused refusal) = refusalNumbers refusal
+
 -- the groups of an accepted scene
 pub record GroupedBy (cs ps : List ℤ) (nets nets′ fragments fragments′ : List ℕ) (r : Counts) : Type 0 where
   pub nets-laid : nets′ ≡ laid (netsOf cs ps) nets
@@ -85,6 +90,7 @@ pub record GroupedBy (cs ps : List ℤ) (nets nets′ fragments fragments′ : L
 -- from components cs, grouping connections ps and two lent slices
 pub record Grouped (cs ps : List ℤ) (nets nets′ fragments fragments′ : List ℕ) (r : Grouping) : Type 0 where
   pub answer : r ≡ answerOf (groupingRefusal cs ps (length nets) (length fragments)) (netCount cs ps) (fragmentCount cs ps)
+  pub numbers : numbersOf r ≡ numbersBy (groupingRefusal cs ps (length nets) (length fragments)) (netCount cs ps ∷ fragmentCount cs ps ∷ [])
   pub nets-left : nets′ ≡ leftOf (groupingRefusal cs ps (length nets) (length fragments)) (netsOf cs ps) nets
   pub fragments-left : fragments′ ≡ leftOf (groupingRefusal cs ps (length nets) (length fragments)) (fragmentsOf cs ps) fragments
 

@@ -3,6 +3,7 @@ pub mod Digits
 pub mod Reading
 pub mod Grammar
 pub mod Placed
+pub mod Counting
 pub mod Writing
 pub mod Signs
 pub mod Again

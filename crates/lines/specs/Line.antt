@@ -69,6 +69,12 @@ readLine [] (b ∷ bs) = cond (eqb b 61) (readNumber bs) refused
 readLine (k ∷ ks) [] = refused
 readLine (k ∷ ks) (b ∷ bs) = let more = readLine ks bs in cond (eqb b k) more refused
 
+-- a count is not negative
+abbrev pub natural : Taken ℤ → Taken ℕ
+natural (taken (pos n) s) = taken n s
+natural (taken (negsuc n) s) = refused
+natural refused = refused
+
 -- the code's answers. The text that is left is told by the position where it starts in a text of n bytes
 abbrev pub numberIn : ℕ → Taken ℕ → Number
 numberIn n (taken v r) = Is v (n - length r)

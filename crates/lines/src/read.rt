@@ -4,7 +4,7 @@ ghost use Prim.Native.Nat.{_≤_};
 ghost use lib.ListN.{length, drop};
 ghost use lib.IntN.{pos, negℤ};
 ghost use Rattle.lines.specs.Decimal.{limit};
-ghost use Rattle.lines.specs.Line.{readDigits, readMagnitude, readNumber, numberIn, lineIn, Skipped};
+ghost use Rattle.lines.specs.Line.{readDigits, readMagnitude, readNumber, readLine, natural, numberIn, lineIn, Skipped};
 
 // The largest magnitude of a number.
 const LARGEST: u64 = 4294967295;
@@ -142,4 +142,18 @@ pub fn skip_key(text: &[u8], at: usize, key: &[u8]) -> Skip
         return Skip::No;
     }
     Skip::To(at + i + 1)
+}
+
+// The line of a count, which has no minus.
+pub fn read_count(text: &[u8], at: usize, key: &[u8]) -> Number
+    ensures { λ r. ⌜ r ≡ numberIn (length (now (text .entry))) (natural (readLine (now (key .entry)) (drop at (now (text .entry))))) ⌝ }
+{
+    if text.len() < at {
+        return Number::Not;
+    }
+    let s = skip_key(text, at, key);
+    match s {
+        Skip::To(p) => read_magnitude(text, p),
+        Skip::No => Number::Not,
+    }
 }

@@ -1,5 +1,6 @@
 -- The table of ids answers where an id stands.
 --     keys-length, keys-at           the keys of the components by their places
+--     keys-rise, keys-small          their places rise, and they have few bits
 --     table-of                       sorted they are the table of ids
 --     table-long, table-rising       the table has as many keys as there are components, rising
 --     table-holds                    it has the key of each component
@@ -13,7 +14,7 @@ use mathlib.Core.Path.{_≡_, refl, sym, ap, _∙_}
 use mathlib.Core.Bool.{Bool, true, false}
 use mathlib.Core.Logic.{⊎-elim}
 use mathlib.Core.List.{List, [], _∷_}
-use Prim.Native.Nat.{ℕ, zero, suc, _+_, _*_, _/_, _%_, _≤_, _<_}
+use Prim.Native.Nat.{ℕ, zero, suc, _+_, _*_, _/_, _%_, _^_, _≤_, _<_}
 use native.Mathlib.Nat.{eq-or-lt-of-le, le-of-suc-le-suc}
 use native.Mathlib.Omega.{arith}
 use lib.ListN.{length, getD, length-append, List·getD-append}
@@ -21,13 +22,16 @@ use lib.Seq.{getD-at, ext-getD}
 use lib.Dec.{eqb, ltb}
 use lib.IntN.{ℤ}
 use borrow.Author.Tests.{eq-eqb, ne-eqb, lt-ltb, le-ltb}
-use Rattle.tables.specs.Order.{Ascending, Sorted, LowerBound, member}
-use Rattle.tables.specs.Laws.{order?, at-member, member-at, member-rearranged}
+use Rattle.tables.specs.Order.{All, Ascending, Sorted, LowerBound, member}
+use Rattle.tables.specs.Laws.{order?, at-all, at-member, member-at, member-rearranged}
 use Rattle.tables.specs.Pairs.{pair, span}
+use Rattle.tables.specs.Radix.{RisingBy}
 use Rattle.lists.specs.Records.{component, componentCount}
 use Rattle.lists.specs.First.{isFound}
 use Rattle.lists.specs.Ids.{placeBelow, placeOf, usedEarlier, idKey, keysBelow, idKeys, IdTable, Unrepeated, firstRepeated}
+use Rattle.lists.specs.Within.{Components}
 use Rattle.lists.specs.declared.Found.the-variants.{At, Nothing}
+use Rattle.lists.proofs.Fields.{first-most}
 use Rattle.lists.proofs.Search.{first-is, first-nothing, found-at, none-found}
 
 -- ---- the keys
@@ -45,6 +49,21 @@ keys-at cs (suc n) k h =
     (λ (same : k ≡ n). rw same (getD-at (keysBelow cs n) (idKey cs n) [] 0 n (keys-length cs n)))
     (λ (less : k < n). List·getD-append (keysBelow cs n) (idKey cs n ∷ []) 0 k (rw (keys-length cs n) less) ∙ keys-at cs n k less)
     (eq-or-lt-of-le (le-of-suc-le-suc h))
+
+-- as they are made, before the sort
+module _ (cs : List ℤ) (keys : List ℕ) (w : Components cs) (long : length keys ≡ componentCount cs)
+    (each : (k : ℕ) → k < componentCount cs → getD keys k 0 ≡ idKey cs k) where
+  key-place : (k : ℕ) → k < length keys → getD keys k 0 % span ≡ k
+  key-place k h = omega (arith, each k (omega arith), w .few)
+
+  pub keys-rise : RisingBy (λ x. x % span) keys
+  keys-rise = record { at = λ i j l h. omega (arith, key-place i (omega arith), key-place j h) }
+
+  -- an id has 32 bits and a place 12
+  pub keys-small : All (λ x. x < 2 ^ 60) keys
+  keys-small = at-all (λ x. x < 2 ^ 60) keys (λ k h.
+      let here : k < componentCount cs = omega arith in
+      omega (arith, each k here, w .few, first-most w k here (omega arith) 4294967295 refl refl))
 
 pub table-of : (cs : List ℤ) {keys keys′ : List ℕ} → componentCount cs ≤ span → length keys ≡ componentCount cs
     → ((k : ℕ) → k < componentCount cs → getD keys k 0 ≡ idKey cs k) → Sorted keys keys′ → IdTable cs keys′

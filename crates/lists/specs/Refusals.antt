@@ -3,7 +3,7 @@
 -- Assumes nothing: these are definitions.
 use Prim.Native.Nat.{ℕ, _+_, _*_, _/_, _%_, _≤_, _<_, min}
 use mathlib.Core.Bool.{Bool, true, not, cond, _&&_, _||_}
-use mathlib.Core.List.{List, []}
+use mathlib.Core.List.{List, [], _∷_}
 use lib.ListN.{length}
 use lib.Dec.{eqb, leb, ltb}
 use lib.IntN.{ℤ}
@@ -97,6 +97,17 @@ queryRefusal cs ps fs stack = livenessLists cs ps fs (roomFor (componentCount cs
 -- the lists that a sheet counted. Number 1 does not arise there, since a count over its limit was refused by its line.
 abbrev pub sheetRefusal : List ℤ → List ℤ → List ℤ → Checked
 sheetRefusal cs ps fs = groupingLists cs ps fs true
+
+-- ---- an answer in the paper's numbers
+
+-- a refusal returns the number, the list and the item
+abbrev pub refusalNumbers : Refusal → List ℕ
+refusalNumbers r = r .number ∷ r .list ∷ r .item ∷ []
+
+-- 0 and what the entry counts, or the numbers of the refusal
+abbrev pub numbersBy : Checked → List ℕ → List ℕ
+numbersBy Accepted counts = 0 ∷ counts
+numbersBy (Refused r) counts = refusalNumbers r
 
 -- ---- an answer as one number
 

@@ -38,7 +38,8 @@ pub fn id_table(components: &[i64], keys: &mut [u64], spare: &mut [u64])
         keys[k] = id_key(components, k);
         k += 1;
     }
-    tables::sort(keys, spare);
+    // The keys were made by rising place.
+    tables::sort_pairs(keys, spare);
 }
 
 // The list place of an id.

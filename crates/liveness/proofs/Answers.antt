@@ -1,8 +1,8 @@
 -- Sets and rows of an answer are those of the definitions.
---     set-where, set-all, set-same      the set of the flags of a test; of a list of flags; of an equal test
+--     set-where, set-all, set-same, ..  the set of the flags of a test; of a list of flags; of an equal test
 --     empty-set, none-set               beside a refusal; of a test that never holds
 --     tabulated-same                    the values of two functions that agree
---     prepared-as, analyzed-stack       the same of equal arrays
+--     prepared-as, fed-as, ..           the same of equal arrays
 --     scene-of                          an accepted scene
 --     analyzed-accepted, ..-refused     the entry's answer, by what the checks say
 -- Assumes nothing.
@@ -13,10 +13,10 @@ use mathlib.Core.Logic.{⊎-elim}
 use Prim.Native.Nat.{ℕ, zero, suc, _≤_, _<_}
 use native.Mathlib.Omega.{arith}
 use lib.Dec.{ltb}
-use borrow.Author.Tests.{lt-ltb, le-ltb}
+use borrow.Author.Tests.{lt-ltb, le-ltb, ltb-true}
 use lib.ListN.{length, drop, replicate}
 use lib.IntN.{ℤ}
-use Rattle.sets.specs.Members.{memberOf}
+use Rattle.sets.specs.Members.{memberOf, SetOf}
 use Rattle.tables.specs.Laws.{order?}
 use Rattle.lists.specs.First.{tabulate}
 use Rattle.lists.specs.Refusals.{livenessRefusal}
@@ -25,9 +25,10 @@ use Rattle.lists.specs.declared.Checked.the-variants.{Accepted, Refused}
 use Rattle.lists.proofs.Chain.{refused-not}
 use Rattle.lists.proofs.Accepted.{LivenessScene}
 use Rattle.regions.specs.Graph.{marked}
-use Rattle.signals.specs.Flags.{Flags, SetOf}
+use Rattle.signals.specs.Flags.{Flags}
 use Rattle.liveness.specs.Sets.{SetWhere}
 use Rattle.signals.specs.Regions.{regionsOf}
+use Rattle.signals.specs.Stages.{FedTable}
 use Rattle.liveness.specs.Scene.{Scene, Prepared}
 use Rattle.liveness.specs.Entry.{AnalyzedBy, Analyzed}
 use Rattle.liveness.specs.declared.Analysis.{Analysis}
@@ -44,6 +45,14 @@ set-all {n} {m} {flags} {flags′} {words} e f s = record {
 
 pub set-same : {n m : ℕ} {P Q : ℕ → Bool} {words : List ℕ} → n ≡ m → ((k : ℕ) → P k ≡ Q k) → SetWhere n P words → SetWhere m Q words
 set-same {n} {m} {P} {Q} e f s = record { member = λ k. s .member k ∙ ap (λ (j : ℕ). ltb k j && P k) e ∙ ap (λ (b : Bool). ltb k m && b) (f k) }
+
+-- tests that agree on the numbers that count
+pub set-below : {n m : ℕ} {P Q : ℕ → Bool} {words : List ℕ} → n ≡ m → ((k : ℕ) → k < m → P k ≡ Q k) → SetWhere n P words → SetWhere m Q words
+set-below {n} {m} {P} {Q} e f s = record { member = λ k. s .member k ∙ ap (λ (j : ℕ). ltb k j && P k) e ∙ go k (ltb k m) refl }
+  where
+    go : (k : ℕ) (t : Bool) → ltb k m ≡ t → (t && P k) ≡ (t && Q k)
+    go k true h = f k (ltb-true k m h)
+    go k false h = refl
 
 pub set-where : {n m : ℕ} {P : ℕ → Bool} {flags : List Bool} {words : List ℕ} → n ≤ m → SetOf n flags words → Flags m P flags → SetWhere n P words
 set-where {n} {m} {P} {flags} {words} few s f = record {
@@ -69,10 +78,13 @@ unfolding tabulate
 tabulated-same f g zero e = refl
 tabulated-same f g (suc n) e = rw (tabulated-same f g n (λ p h. e p (omega arith)), e n (omega arith))
 
-pub prepared-as : {cs ps : List ℤ} {sources sinks forward backward fed labelled members regionOf forward′ backward′ fed′ labelled′ : List ℕ}
-    → forward′ ≡ forward → backward′ ≡ backward → fed′ ≡ fed → labelled′ ≡ labelled
-    → Prepared cs ps sources sinks forward backward fed labelled members regionOf → Prepared cs ps sources sinks forward′ backward′ fed′ labelled′ members regionOf
-prepared-as a b c d p = rw (a, b, c, d) p
+pub prepared-as : {cs ps : List ℤ} {sources sinks forward backward labelled members regionOf forward′ backward′ labelled′ : List ℕ}
+    → forward′ ≡ forward → backward′ ≡ backward → labelled′ ≡ labelled
+    → Prepared cs ps sources sinks forward backward labelled members regionOf → Prepared cs ps sources sinks forward′ backward′ labelled′ members regionOf
+prepared-as a b c p = rw (a, b, c) p
+
+pub fed-as : {ps : List ℤ} {sources sinks fed fed′ : List ℕ} → fed′ ≡ fed → FedTable ps sources sinks fed → FedTable ps sources sinks fed′
+fed-as e t = rw e t
 
 -- a work slice of the same length
 pub analyzed-stack : {cs ps fs : List ℤ} {regions regions′ sources sources′ inputs inputs′ stack stack₂ stack′ : List ℕ} {r : Analysis} → length stack₂ ≡ length stack

@@ -37,7 +37,7 @@ use Rattle.liveness.specs.Demand.{Chain, nil, link, RegionsOfScene}
 use Rattle.signals.proofs.Tabulated.{tab-length, tab-at}
 use Rattle.signals.proofs.Ends.{found-place, ends-below, ends-within, source-is}
 use Rattle.signals.proofs.Fed.{some-at}
-use Rattle.signals.proofs.Statuses.{some-found}
+use Rattle.signals.proofs.Fed.{some-found}
 
 -- ---- every member stands for a component
 

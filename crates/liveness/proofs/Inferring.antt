@@ -67,8 +67,8 @@ and-turned true true false = refl
 and-turned true false true = refl
 and-turned true false false = refl
 
-module _ {cs ps : List ℤ} (scene : Scene cs ps) {sources sinks forward backward keys labelled members regionOf : List ℕ}
-    (p : Prepared cs ps sources sinks forward backward keys labelled members regionOf) where
+module _ {cs ps : List ℤ} (scene : Scene cs ps) {sources sinks forward backward labelled members regionOf : List ℕ}
+    (p : Prepared cs ps sources sinks forward backward labelled members regionOf) where
   few : componentCount cs ≤ componentLimit
   few = scene .components .few
 

@@ -2,11 +2,11 @@
 --     Flagged, flagged-..            the flags of a slot's keys, by the keys passed so far
 --     immediate-is                   a slot's keys are the immediate sources of its port
 --     both-flags                     the flags of the nodes reached that are inferred
---     ready-of, ready-as, ..         what the ports of a prepared scene are asked by
---     nodes, slot-asked, ..          what `PortOf` says of the tables
---     immediate-set, inferred-set    the two sets of the port
+--     fed-scene, graph-back, ..      what the ports of a prepared scene are asked by
+--     slot-asked, immediate-at       what `SlotOf` says of the table of fed ports
+--     none-fed, immediate-set, ..    the two sets of the port, by a walk
 --     row-place, row-found, ..       the place of the port asked for
---     row-port                       that port by its slot
+--     row-slot                       that port by its slot
 --     inputs-..                      the answer, by what was found and by what the checks say
 -- Assumes nothing.
 use mathlib.Core.Path.{_≡_, refl, sym, ap, subst, _∙_}
@@ -24,6 +24,7 @@ use borrow.Author.Tests.{eqb-true, eq-eqb, ltb-true}
 use Rattle.tables.specs.Order.{Ascending, LowerBound, member}
 use Rattle.tables.specs.Laws.{member-at}
 use Rattle.tables.specs.Pairs.{pair, span}
+use Rattle.sets.specs.Members.{SetOf}
 use Rattle.lists.specs.Limits.{componentLimit}
 use Rattle.lists.specs.Records.{component, portConnection, componentCount, portCount}
 use Rattle.lists.specs.First.{firstFrom, isFound, some, tabulate}
@@ -44,16 +45,16 @@ use Rattle.regions.specs.Keys.{edges}
 use Rattle.regions.specs.Kosaraju.{reached}
 use Rattle.regions.proofs.Theorems.{keys-reach}
 use Rattle.signals.specs.Signals.{isSignal, sourceMember, sinkMember, signals}
-use Rattle.signals.specs.Regions.{isInferred}
 use Rattle.signals.specs.Drive.{membersWhere}
 use Rattle.signals.specs.Verdicts.{isRequired}
 use Rattle.signals.specs.Keys.{Settled, Slots, KeysOf, slot, ports}
-use Rattle.signals.specs.Flags.{Flags, SetOf}
+use Rattle.signals.specs.Flags.{Flags}
 use Rattle.liveness.specs.Sets.{SetWhere}
 use Rattle.signals.specs.Rows.{SlotWithin, slotFed}
 use Rattle.liveness.specs.Query.{isImmediate, upstream, isInferredFor, withRow, rowPlace, InputsBy, Answered}
 use Rattle.liveness.specs.Scene.{Scene, Prepared}
-use Rattle.liveness.specs.Inputs.{Ready, PortOf, UpstreamSet}
+use Rattle.signals.specs.Stages.{Tables, FedTable}
+use Rattle.liveness.specs.Inputs.{FedScene, SlotOf, Walkable, UpstreamSet}
 use Rattle.liveness.specs.declared.InputSources.{InputSources}
 use Rattle.signals.proofs.Tabulated.{first-cong, tabulated-length, tabulated-at}
 use Rattle.signals.proofs.Ends.{ends-within, sink-is}
@@ -61,7 +62,7 @@ use Rattle.signals.proofs.Graph.{noSlot, fed-at, edges-back, and-assoc}
 use Rattle.signals.proofs.Marks.{set-marked}
 use Rattle.signals.proofs.Fed.{here, outside}
 use Rattle.signals.proofs.Statuses.{same-truth, fed-within}
-use Rattle.liveness.proofs.Answers.{set-where, set-same}
+use Rattle.liveness.proofs.Answers.{set-where, set-same, set-below}
 
 -- ---- the keys of a slot
 
@@ -136,26 +137,33 @@ both-flags {n} inferred {visited} {visited′} {out} e f = subst (λ (l : List B
 
 -- ---- what the ports of a scene are asked by
 
-pub ready-of : {cs ps fs : List ℤ} {sources sinks forward backward fed labelled members regionOf : List ℕ} {inferred : List Bool}
-    → Scene cs ps → Prepared cs ps sources sinks forward backward fed labelled members regionOf → inferred ≡ membersWhere cs (isInferred cs ps fs)
-    → Ready cs ps fs fed backward inferred
-ready-of {sources = sources} {sinks = sinks} {forward = forward} scene prepared e = record {
+pub fed-scene : {cs ps : List ℤ} {sources sinks forward backward labelled members regionOf fed : List ℕ}
+    → Scene cs ps → Prepared cs ps sources sinks forward backward labelled members regionOf → FedTable ps sources sinks fed → FedScene cs ps fed
+fed-scene {sources = sources} {sinks = sinks} scene prepared table = record {
   scene = scene;
   sources = sources;
   sinks = sinks;
-  forward = forward;
-  tables = prepared .tables;
-  inferred-are = e;
+  source-members = prepared .tables .source-members;
+  sink-members = prepared .tables .sink-members;
+  table = table;
 }
 
--- the same of equal arrays
-pub ready-as : {cs ps fs : List ℤ} {fed backward fed′ backward′ : List ℕ} {inferred inferred′ : List Bool} → fed′ ≡ fed → backward′ ≡ backward → inferred′ ≡ inferred
-    → Ready cs ps fs fed backward inferred → Ready cs ps fs fed′ backward′ inferred′
-ready-as a b c r = rw (a, b, c) r
+pub graph-back : {cs ps : List ℤ} {sources sinks forward backward : List ℕ} → Scene cs ps → Tables cs ps sources sinks forward backward
+    → edges (componentCount cs) backward ≡ flip (signals cs ps)
+graph-back {cs} {ps} scene t =
+    λ i a b. edges-back (scene .components .few) (t .source-members) (t .sink-members) (ends-within cs ps (scene .ends)) (t .backward-keys) a b i
 
-pub ready-nodes : {cs ps fs : List ℤ} {fed backward : List ℕ} {inferred : List Bool} → Ready cs ps fs fed backward inferred → length inferred ≡ componentCount cs
+-- the same of equal arrays
+pub walk-as : {cs ps fs : List ℤ} {fed backward fed′ backward′ : List ℕ} {inferred inferred′ : List Bool} → fed′ ≡ fed → backward′ ≡ backward → inferred′ ≡ inferred
+    → Walkable cs ps fs fed backward inferred → Walkable cs ps fs fed′ backward′ inferred′
+walk-as a b c r = rw (a, b, c) r
+
+pub flags-long : (cs : List ℤ) (P : ℕ → Bool) → length (membersWhere cs P) ≡ componentCount cs
 unfolding membersWhere
-ready-nodes {cs} r = ap length (r .inferred-are) ∙ tabulated-length _ (componentCount cs)
+flags-long cs P = tabulated-length _ (componentCount cs)
+
+pub walk-nodes : {cs ps fs : List ℤ} {fed backward : List ℕ} {inferred : List Bool} → Walkable cs ps fs fed backward inferred → length inferred ≡ componentCount cs
+walk-nodes {cs} r = ap length (r .inferred-are) ∙ flags-long cs _
 
 -- ---- tests that hold nowhere
 
@@ -170,60 +178,46 @@ not-marked : (t : Bool) → (t ≡ true → ⊥) → t ≡ false
 not-marked true h = absurd (h refl)
 not-marked false h = refl
 
-set-none : {n : ℕ} {P : ℕ → Bool} {words : List ℕ} → ((k : ℕ) → k < n → P k ≡ false) → SetWhere n (λ k. false) words → SetWhere n P words
-set-none {n} {P} none s = record { member = λ k. s .member k ∙ same k (ltb k n) refl }
-  where
-    same : (k : ℕ) (t : Bool) → ltb k n ≡ t → (t && false) ≡ (t && P k)
-    same k true e = sym (none k (ltb-true k n e))
-    same k false e = refl
+-- ---- a port by its slot
 
--- ---- the port of a prepared scene
-
-module _ {cs ps fs : List ℤ} {p port : ℕ} {fed backward : List ℕ} {at : ℕ} {inferred : List Bool} (q : PortOf cs ps fs p port fed backward at inferred) where
+module _ {cs ps : List ℤ} {p port : ℕ} {fed : List ℕ} {number : ℕ} (q : SlotOf cs ps p port fed number) where
   few : componentCount cs ≤ componentLimit
-  few = q .ready .scene .components .few
+  few = q .fed-scene .scene .components .few
 
-  pub nodes : length inferred ≡ componentCount cs
-  nodes = ready-nodes (q .ready)
-
-  slot-below : at < componentLimit * ports
+  slot-below : number < componentLimit * ports
   slot-below = omega (arith, q .slot-is, q .port-small, member-below cs p (q .place), few)
 
-  slot-within : SlotWithin fed at (length inferred)
-  slot-within =
-      let t = q .ready .tables in
-      let within = fed-within few (q .ready .scene .connections) (t .source-members) (t .sink-members) (t .slots-are) (t .fed-keys) (q .ready .scene .ends) in
-      record { below = λ i h e. omega (arith, nodes, within .below i h (omega (arith, e, slot-below))) }
+  pub slot-asked : (m : ℕ) → m ≡ componentCount cs → (Ascending fed × (number < 2 ^ 32)) × (SlotWithin fed number m × (m ≤ span))
+  slot-asked m e =
+      let f = q .fed-scene in
+      let within = fed-within few (f .scene .connections) (f .source-members) (f .sink-members) (f .table .slots-are) (f .table .fed-keys) (f .scene .ends) in (
+        (f .table .fed-keys .sorted .ascending, omega (arith, slot-below)),
+        (record { below = λ i h l. omega (arith, e, within .below i h (omega (arith, l, slot-below))) }, omega (arith, e, few)),
+      )
 
-  pub slot-asked : (m : ℕ) → m ≡ length inferred → (Ascending fed × (at < 2 ^ 32)) × (SlotWithin fed at m × (m ≤ span))
-  slot-asked m e = (
-    (q .ready .tables .fed-keys .sorted .ascending, omega (arith, slot-below)),
-    (record { below = λ i h l. omega (arith, e, slot-within .below i h l) }, omega (arith, e, nodes, few)),
-  )
-
-  pub nodes-few : length inferred ≤ componentLimit
-  nodes-few = omega (arith, nodes, few)
-
-  pub back-rises : Ascending backward
-  back-rises = q .ready .tables .backward-keys .sorted .ascending
-
-  immediate-at : (a : ℕ) → a < span → member (pair at a) fed ≡ isImmediate cs ps p port a
+  pub immediate-at : (a : ℕ) → a < span → member (pair number a) fed ≡ isImmediate cs ps p port a
   immediate-at a h =
-      let t = q .ready .tables in
+      let f = q .fed-scene in
       ap (λ (x : ℕ). member (pair x a) fed) (q .slot-is)
-      ∙ immediate-is few (q .ready .scene .connections) (t .source-members) (t .sink-members) (t .slots-are) (t .fed-keys) (q .ready .scene .ends) p port (q .place) (q .port-small) a h
+      ∙ immediate-is few (f .scene .connections) (f .source-members) (f .sink-members) (f .table .slots-are) (f .table .fed-keys) (f .scene .ends) p port (q .place) (q .port-small) a h
 
-  graph-back : edges (componentCount cs) backward ≡ flip (signals cs ps)
-  graph-back =
-      let t = q .ready .tables in
-      λ i a b. edges-back few (t .source-members) (t .sink-members) (ends-within cs ps (q .ready .scene .ends)) (t .backward-keys) a b i
+-- ---- by a walk
+
+module _ {cs ps fs : List ℤ} {p port : ℕ} {fed backward : List ℕ} {number : ℕ} {inferred : List Bool} (w : Walkable cs ps fs fed backward inferred)
+    (q : SlotOf cs ps p port fed number) where
+  nodes : length inferred ≡ componentCount cs
+  nodes = walk-nodes w
+
+  nodes-small : componentCount cs ≤ componentLimit
+  nodes-small = q .fed-scene .scene .components .few
 
   -- ---- a slot that no key has
 
-  module _ (none : slotFed fed at ≡ false) where
+  module _ (none : slotFed fed number ≡ false) where
     none-immediate : (a : ℕ) → a < componentCount cs → isImmediate cs ps p port a ≡ false
     unfolding slotFed
-    none-immediate a h = sym (immediate-at a (omega (arith, few))) ∙ some-none (λ k. member (pair at k) fed) span none a (omega (arith, few))
+    none-immediate a h =
+        sym (immediate-at q a (omega (arith, nodes-small))) ∙ some-none (λ k. member (pair number k) fed) span none a (omega (arith, nodes-small))
 
     none-upstream : (a : ℕ) → marked (upstream cs ps p port) a ≡ false
     unfolding upstream
@@ -231,7 +225,7 @@ module _ {cs ps fs : List ℤ} {p port : ℕ} {fed backward : List ℕ} {at : �
         let n = componentCount cs in
         let test = isImmediate cs ps p port in
         let starts = tabulate test n in
-        ap (λ (g : Edges). marked (reached n g starts) a) (sym graph-back)
+        ap (λ (g : Edges). marked (reached n g starts) a) (sym (w .turned))
         ∙ not-marked (marked (reached n (edges n backward) starts) a) (λ e.
         let start = keys-reach n backward starts .exactly a .0 e in
         never (sym (sym (start .2) ∙ tabulated-at test false n (start .0) (start .1) ∙ none-immediate (start .0) (start .1))))
@@ -244,23 +238,23 @@ module _ {cs ps fs : List ℤ} {p port : ℕ} {fed backward : List ℕ} {at : �
     none-fed a = record {
       answer = a .answer;
       stack-left = a .stack-left;
-      immediate-set = set-none none-immediate (a .immediate-set);
-      inferred-set = set-none (λ k h. none-inferred k) (a .inferred-set);
+      immediate-set = set-below refl (λ k h. sym (none-immediate k h)) (a .immediate-set);
+      inferred-set = set-below refl (λ k h. sym (none-inferred k)) (a .inferred-set);
     }
 
-  module _ {starts : List Bool} (long : length starts ≡ length inferred) (flags : Flags (length inferred) (λ a. member (pair at a) fed) starts) where
+  module _ {starts : List Bool} (long : length starts ≡ length inferred) (flags : Flags (length inferred) (λ a. member (pair number a) fed) starts) where
     starts-are : starts ≡ tabulate (isImmediate cs ps p port) (componentCount cs)
     starts-are =
         let n = componentCount cs in
         let test = isImmediate cs ps p port in
         ext-getD false starts (tabulate test n) (long ∙ nodes ∙ sym (tabulated-length test n)) (λ a h.
-        flags .at a (omega (arith, long)) ∙ immediate-at a (omega (arith, long, nodes, few)) ∙ sym (tabulated-at test false n a (omega (arith, long, nodes))))
+        flags .at a (omega (arith, long)) ∙ immediate-at q a (omega (arith, long, nodes, nodes-small)) ∙ sym (tabulated-at test false n a (omega (arith, long, nodes))))
 
     pub immediate-set : {lent : List Bool} {words : List ℕ} → lent ≡ starts → SetOf (length inferred) lent words → SetWhere (componentCount cs) (isImmediate cs ps p port) words
     immediate-set {lent} {words} e s =
         let all : Flags (length inferred) (isImmediate cs ps p port) lent = record {
           long = omega (arith, ap length e, long);
-          at = λ a h. ap (λ (l : List Bool). marked l a) e ∙ flags .at a h ∙ immediate-at a (omega (arith, nodes, few));
+          at = λ a h. ap (λ (l : List Bool). marked l a) e ∙ flags .at a h ∙ immediate-at q a (omega (arith, nodes, nodes-small));
         } in
         set-same nodes (λ k. refl) (set-where (omega arith) s all)
 
@@ -269,7 +263,7 @@ module _ {cs ps fs : List ℤ} {p port : ℕ} {fed backward : List ℕ} {at : �
     reached-are =
         let n = componentCount cs in
         ap (λ (k : ℕ). reached k (edges k backward) starts) nodes
-        ∙ ap (λ (g : Edges). reached n g starts) graph-back
+        ∙ ap (λ (g : Edges). reached n g starts) (w .turned)
         ∙ ap (reached n (flip (signals cs ps))) starts-are
 
     pub inferred-set : {lent : List Bool} {stack words : List ℕ} → lent ≡ starts
@@ -280,7 +274,7 @@ module _ {cs ps fs : List ℤ} {p port : ℕ} {fed backward : List ℕ} {at : �
         set-same nodes (λ k.
         ap (λ (l : List Bool). marked (reached n (edges n backward) l) k && marked inferred k) e
         ∙ ap (λ (l : List Bool). marked l k && marked inferred k) reached-are
-        ∙ ap (λ (l : List Bool). marked (upstream cs ps p port) k && marked l k) (q .ready .inferred-are)) (u .set)
+        ∙ ap (λ (l : List Bool). marked (upstream cs ps p port) k && marked l k) (w .inferred-are)) (u .set)
 
 -- ---- the port asked for
 
@@ -333,13 +327,12 @@ module _ {cs : List ℤ} (w : Components cs) where
   row-member-small {p = p} row = omega (arith, ap (smallerIds cs) (row .id-is), member-below cs p (row .below), w .few)
 
 -- the port asked for by its slot
-pub row-port : {cs ps fs : List ℤ} {fed backward : List ℕ} {inferred : List Bool} {id port p member : ℕ} → Ready cs ps fs fed backward inferred → RowAt cs id port p
-    → member ≡ smallerIds cs id → PortOf cs ps fs p port fed backward (slot member port) inferred
-row-port {cs} {port = port} r row e = record {
-  ready = r;
+pub row-slot : {cs ps : List ℤ} {fed : List ℕ} {id port p m : ℕ} → FedScene cs ps fed → RowAt cs id port p → m ≡ smallerIds cs id → SlotOf cs ps p port fed (slot m port)
+row-slot {cs} {port = port} f row e = record {
+  fed-scene = f;
   place = row .below;
   port-small = row .port-small;
-  slot-is = ap (λ (m : ℕ). slot m port) (e ∙ sym (ap (smallerIds cs) (row .id-is)));
+  slot-is = ap (λ (x : ℕ). slot x port) (e ∙ sym (ap (smallerIds cs) (row .id-is)));
 }
 
 -- ---- the answer
@@ -354,11 +347,6 @@ module _ {cs ps fs : List ℤ} {port : ℕ} {stack stack′ : List ℕ} {r : Inp
     immediate-set = a .immediate-set;
     inferred-set = a .inferred-set;
   }
-
-  -- by what was found, in an accepted scene
-  pub inputs-at : (id : ℕ) {found : Found} → rowPlace cs id port ≡ found → InputsBy Accepted cs ps fs found port stack stack′ r
-      → InputsBy Accepted cs ps fs (rowPlace cs id port) port stack stack′ r
-  inputs-at id e a = subst (λ (f : Found). InputsBy Accepted cs ps fs f port stack stack′ r) (sym e) a
 
   -- by what was found, with 8 where nothing was
   pub inputs-found : (id : ℕ) {found : Found} → rowPlace cs id port ≡ found → InputsBy (refuse 8 3 (tooShort (isFound found))) cs ps fs found port stack stack′ r

@@ -1,7 +1,7 @@
 -- The regions fed from outside.
 --     some-only              a test that one place alone can pass is the test there
 --     passive-at             the mark of a used id's member is that of its component's kind
---     fed-is                 the flags gathered by the regions of the sinks
+--     fed-is                 the flags of the regions that are fed, in the words of the document
 -- Assumes nothing.
 use mathlib.Core.Path.{_≡_, refl, sym, ap, _∙_}
 use mathlib.Core.Bool.{Bool, true, false, not, _&&_}
@@ -25,7 +25,7 @@ use Rattle.signals.specs.Signals.{isSignal, sourceMember, sinkMember}
 use Rattle.signals.specs.Regions.{labels, isPassive, kindAt, fedFromOutside}
 use Rattle.signals.specs.Keys.{Settled}
 use Rattle.signals.specs.Flags.{Flags, Numbers, Gathered}
-use Rattle.signals.specs.Seen.{SinkRegions, outsideAt}
+use Rattle.signals.specs.Seen.{outsideAt}
 use Rattle.liveness.specs.Scene.{Scene}
 use Rattle.signals.proofs.Tabulated.{first-cong}
 use Rattle.signals.proofs.Ends.{ends-below}
@@ -84,10 +84,10 @@ module _ (cs : List ℤ) (once : firstRepeated cs ≡ Nothing) {members : List �
 -- ---- fed from outside
 
 -- the tests of a connection in another order, equal where it is a signal
-tests-same : (s x y y′ z z′ : Bool) → (s ≡ true → y ≡ y′) → (s ≡ true → z ≡ z′) → ((s && (x && not y)) && z) ≡ (s && (x && (z′ && not y′)))
-tests-same false x y y′ z z′ e f = refl
-tests-same true false y y′ z z′ e f = refl
-tests-same true true y y′ z z′ e f = turned y z ∙ rw (e refl, f refl)
+tests-same : (s x y y′ z : Bool) → (s ≡ true → y ≡ y′) → ((s && (x && not y)) && z) ≡ (s && (x && (z && not y′)))
+tests-same false x y y′ z e = refl
+tests-same true false y y′ z e = refl
+tests-same true true y y′ z e = turned y z ∙ rw (e refl)
   where
     turned : (a b : Bool) → (not a && b) ≡ (b && not a)
     turned true true = refl
@@ -97,14 +97,14 @@ tests-same true true y y′ z z′ e f = turned y z ∙ rw (e refl, f refl)
 
 module _ {cs ps : List ℤ} (scene : Scene cs ps) {sources sinks labelled members : List ℕ} (s : Settled cs ps 0 sources) (t : Settled cs ps 2 sinks)
     (is : labelled ≡ labels cs ps) (numbers : Numbers (componentCount cs) (memberOf cs) members) where
-  pub fed-is : (rest : List Bool) {flags marks outside fed : List Bool} {ends : List ℕ} → Flags (componentCount cs) (λ p. isPassive (component cs p .kind)) flags
+  pub fed-is : (rest : List Bool) {flags marks fed : List Bool} {n : ℕ} → Flags (componentCount cs) (λ p. isPassive (component cs p .kind)) flags
       → length marks ≡ componentCount cs → Gathered (componentCount cs) members flags marks
-      → Flags (portCount ps) (outsideAt ps sources sinks labelled (marks ++ rest)) outside → SinkRegions ps sinks labelled ends
-      → length fed ≡ componentLimit → Gathered (portCount ps) ends outside fed → Flags componentLimit (fedFromOutside cs ps) fed
+      → n ≡ componentLimit → Flags n (λ r. some (outsideAt ps sources sinks labelled (marks ++ rest) r) (portCount ps)) fed
+      → Flags componentLimit (fedFromOutside cs ps) fed
   unfolding fedFromOutside
-  fed-is rest {flags} {marks} {outside} {fed} {ends} f long g o e room gathered = record {
-    long = omega arith;
-    at = λ r h. gathered .at r (omega arith) ∙ ap isFound (first-cong _ _ 0 (portCount ps) (λ k a b. tested r k (omega arith)));
+  fed-is rest {flags} {marks} {fed} f long g room o = record {
+    long = omega (arith, o .long);
+    at = λ r h. o .at r (omega arith) ∙ ap isFound (first-cong _ _ 0 (portCount ps) (λ k a b. tested r k (omega arith)));
   }
     where
       few : componentCount cs ≤ componentLimit
@@ -117,11 +117,10 @@ module _ {cs ps : List ℤ} (scene : Scene cs ps) {sources sinks labelled member
           ∙ List·getD-append marks rest false (sourceMember cs ps k) (omega (arith, there .source-below))
           ∙ passive-at cs (scene .distinct) numbers f long g (portConnection ps k .source) (there .source-found)
 
-      tested : (r k : ℕ) → k < portCount ps → (marked outside k && eqb (getD ends k 0) r)
+      tested : (r k : ℕ) → k < portCount ps → outsideAt ps sources sinks labelled (marks ++ rest) r k
           ≡ (isSignal ps k && (not (eqb (at (labels cs ps) (sourceMember cs ps k)) (at (labels cs ps) (sinkMember cs ps k)))
           && (eqb (at (labels cs ps) (sinkMember cs ps k)) r && not (isPassive (kindAt cs (placeOf cs (portConnection ps k .source)))))))
       tested r k h =
-          ap (λ (b : Bool). b && eqb (getD ends k 0) r) (o .at k h)
-          ∙ tests-same (isSignal ps k) (not (eqb (getD labelled (getD sources k 0) 0) (getD labelled (getD sinks k 0) 0))) (marked (marks ++ rest) (getD sources k 0)) _
-          (eqb (getD ends k 0) r) _ (passive k h) (λ signal. ap (λ (x : ℕ). eqb x r) (e .at k h signal))
+          tests-same (isSignal ps k) (not (eqb (getD labelled (getD sources k 0) 0) (getD labelled (getD sinks k 0) 0))) (marked (marks ++ rest) (getD sources k 0)) _
+          (eqb (getD labelled (getD sinks k 0) 0) r) (passive k h)
           ∙ rw (is, source-at few s t k h, sink-at few s t k h)

@@ -24,7 +24,8 @@ use Rattle.signals.specs.Verdicts.{fedBy, statusOf, portRows, verdictRows, sour
 use Rattle.liveness.specs.Query.{isImmediate, upstream, isInferredFor}
 use Rattle.liveness.specs.Demand.{SameConnections, SameAnswer}
 use Rattle.signals.proofs.Fed.{some-at}
-use Rattle.signals.proofs.Statuses.{some-found, same-truth}
+use Rattle.signals.proofs.Fed.{some-found}
+use Rattle.signals.proofs.Statuses.{same-truth}
 
 -- ---- a test
 

@@ -1,24 +1,25 @@
 -- An accepted scene, and what the stages of its analysis leave in their arrays.
 -- Assumes nothing: these are definitions.
-use Prim.Native.Nat.{ℕ, _+_, _*_, _≤_}
+use Prim.Native.Nat.{ℕ, _*_, _≤_}
 use mathlib.Core.Path.{_≡_}
 use mathlib.Core.Bool.{Bool}
 use mathlib.Core.List.{List}
 use lib.ListN.{length}
 use lib.IntN.{ℤ}
-use Rattle.tables.specs.Order.{Ascending}
+use Rattle.sets.specs.Members.{SetOf}
 use Rattle.lists.specs.Limits.{componentLimit, componentWidth}
 use Rattle.lists.specs.Records.{componentCount, portCount}
-use Rattle.lists.specs.Ids.{IdTable, memberOf, firstRepeated, firstEndMissing}
+use Rattle.lists.specs.Ids.{memberOf, firstRepeated, firstEndMissing}
 use Rattle.lists.specs.Order.{firstNotAscending, componentOrder}
 use Rattle.lists.specs.Within.{Components, PortConnections}
 use Rattle.lists.specs.declared.Checked.the-variants.{Accepted}
 use Rattle.lists.specs.declared.Found.the-variants.{Nothing}
 use Rattle.regions.specs.Search.{Zeros}
 use Rattle.signals.specs.Sources.{onFrontier, isDrive}
-use Rattle.signals.specs.Regions.{labels, regionCount, regionAt, regionsOf, hasDrive, isInferred}
+use Rattle.signals.specs.Regions.{labels, regionCount, regionAt, hasDrive, isInferred}
 use Rattle.signals.specs.Drive.{drive, potential}
-use Rattle.signals.specs.Flags.{Flags, Numbers, Indices, SetOf}
+use Rattle.signals.specs.Flags.{Flags, Numbers}
+use Rattle.signals.specs.Keys.{Settled}
 use Rattle.signals.specs.Stages.{Tables}
 use Rattle.liveness.specs.Sets.{SetWhere}
 use Rattle.liveness.specs.declared.Analysis.{Analysis}
@@ -32,8 +33,8 @@ pub record Scene (cs ps : List ℤ) : Type 0 where
   pub distinct : firstRepeated cs ≡ Nothing
 
 -- the tables of its signal edges; each member's region; each component's member and region, by list place
-pub record Prepared (cs ps : List ℤ) (sources sinks forward backward fed labelled members regionOf : List ℕ) : Type 0 where
-  pub tables : Tables cs ps sources sinks forward backward fed
+pub record Prepared (cs ps : List ℤ) (sources sinks forward backward labelled members regionOf : List ℕ) : Type 0 where
+  pub tables : Tables cs ps sources sinks forward backward
   pub sources-long : portCount ps ≤ length sources
   pub sinks-long : portCount ps ≤ length sinks
   pub labels-are : labelled ≡ labels cs ps
@@ -47,25 +48,33 @@ pub record Driven (cs ps fs : List ℤ) (frontier driven hasDriven : List Bool) 
   pub region-flags : Flags componentLimit (hasDrive cs ps fs) hasDriven
 
 -- the same, with the number of regions; the stack is zero again
-pub record Prepares (cs ps : List ℤ) (sources sinks forward backward fed labelled members regionOf stack : List ℕ) (r : ℕ) : Type 0 where
-  pub prepared : Prepared cs ps sources sinks forward backward fed labelled members regionOf
+pub record Prepares (cs ps : List ℤ) (sources sinks forward backward labelled members regionOf stack : List ℕ) (r : ℕ) : Type 0 where
+  pub prepared : Prepared cs ps sources sinks forward backward labelled members regionOf
   pub count : r ≡ regionCount cs ps
   pub stack-zeros : Zeros stack
 
--- what they reach
-pub record Alive (cs ps fs : List ℤ) (driven possible : List Bool) (stack : List ℕ) : Type 0 where
+-- the part of this that marks of regions are carried by: the ends of the connections, and the regions
+pub record SceneRegions (cs ps : List ℤ) (sources sinks labelled regionOf : List ℕ) : Type 0 where
+  pub scene : Scene cs ps
+  pub source-members : Settled cs ps 0 sources
+  pub sink-members : Settled cs ps 2 sinks
+  pub sources-long : portCount ps ≤ length sources
+  pub sinks-long : portCount ps ≤ length sinks
+  pub labels-are : labelled ≡ labels cs ps
+  pub regions-are : Numbers (componentCount cs) (regionAt cs ps) regionOf
+
+-- what the drive sources reach, and what these and the inferred inputs reach
+pub record Alive (cs ps fs : List ℤ) (driven possible : List Bool) : Type 0 where
   pub drive-is : driven ≡ drive cs ps fs
   pub potential-is : possible ≡ potential cs ps fs
-  pub stack-zeros : Zeros stack
 
 -- ---- room in the arrays that are lent
 
-pub record PreparedRoom (cs ps : List ℤ) (sources sinks forward backward fed labelled members regionOf stack : List ℕ) : Type 0 where
+pub record PreparedRoom (cs ps : List ℤ) (sources sinks forward backward labelled members regionOf stack : List ℕ) : Type 0 where
   pub sources-room : portCount ps ≤ length sources
   pub sinks-room : portCount ps ≤ length sinks
   pub forward-room : length forward ≡ portCount ps
   pub backward-room : length backward ≡ portCount ps
-  pub fed-room : length fed ≡ portCount ps
   pub labels-room : length labelled ≡ componentCount cs
   pub members-room : componentCount cs ≤ length members
   pub regions-room : componentCount cs ≤ length regionOf
@@ -75,34 +84,27 @@ pub record PreparedRoom (cs ps : List ℤ) (sources sinks forward backward fed l
 -- ---- the marks and the rows of a scene
 
 -- marks of components by list place, of members, and of regions
-pub record Marked (cs ps fs : List ℤ) (frontier inferred hasDriven driven possible : List Bool) (stack : List ℕ) : Type 0 where
+pub record Marked (cs ps fs : List ℤ) (frontier inferred hasDriven driven possible : List Bool) : Type 0 where
   pub frontier-flags : Flags (componentCount cs) (onFrontier cs fs) frontier
   pub inferred-flags : Flags (componentCount cs) (isInferred cs ps fs) inferred
   pub region-flags : Flags componentLimit (hasDrive cs ps fs) hasDriven
   pub drive-is : driven ≡ drive cs ps fs
   pub potential-is : possible ≡ potential cs ps fs
-  pub stack-zeros : Zeros stack
 
 -- room for them
-pub record MarkRoom (cs : List ℤ) (frontier inferred hasDriven driven possible : List Bool) (stack : List ℕ) : Type 0 where
+pub record MarkRoom (cs : List ℤ) (frontier inferred hasDriven driven possible : List Bool) : Type 0 where
   pub frontier-room : componentCount cs ≤ length frontier
   pub inferred-room : componentCount cs ≤ length inferred
   pub regions-room : length hasDriven ≡ componentLimit
   pub drive-room : length driven ≡ componentCount cs
   pub potential-room : length possible ≡ componentCount cs
-  pub stack-room : 2 * componentCount cs ≤ length stack
-  pub stack-zeros : Zeros stack
 
--- what a walk from flagged components asks
-pub record ReachRoom (forward members : List ℕ) (driven inferred reached possible : List Bool) (stack : List ℕ) : Type 0 where
-  pub keys-rise : Ascending forward
-  pub few : length reached ≤ componentLimit
-  pub possible-room : length possible ≡ length reached
-  pub members-below : Indices (length reached) (length reached) members
-  pub driven-room : length reached ≤ length driven
-  pub inferred-room : length reached ≤ length inferred
-  pub stack-room : 2 * length reached ≤ length stack
-  pub stack-zeros : Zeros stack
+-- room for what n nodes reach, and their marks
+pub record AliveRoom (n : ℕ) (hasDriven inferred driven possible : List Bool) : Type 0 where
+  pub regions-room : length hasDriven ≡ componentLimit
+  pub inferred-room : n ≤ length inferred
+  pub drive-room : length driven ≡ n
+  pub potential-room : length possible ≡ n
 
 -- room for the rows
 pub record RowsRoom (cs : List ℤ) (regions sources inputs stack : List ℕ) : Type 0 where

@@ -1,35 +1,24 @@
 // Which wires are inferred inputs: the regions fed from outside, then a test for each component.
 use lists::COMPONENT;
 use lists::COMPONENTS;
-use lists::CONNECTIONS;
-use lists::PORT;
 use signals::flags::gather;
+use signals::inferred::flag_outside;
 use signals::inferred::is_inferred;
-use signals::inferred::outside_flags;
 use signals::inferred::passive_flags;
-use signals::inferred::sink_regions;
+use tables::SECOND_BITS;
 use tables::rows::hint_rows;
 ghost use mathlib.Core.Path.{_≡_};
-ghost use mathlib.Core.Bool.{Bool, true, not, _&&_, _||_};
-ghost use Prim.Native.Nat.{ℕ, _≤_, _<_};
-ghost use lib.Dec.{eqb, leb};
-ghost use lib.ListN.{length, getD};
-ghost use Rattle.sets.specs.Members.{countBelow};
+ghost use Prim.Native.Nat.{ℕ, _≤_};
+ghost use lib.ListN.{length};
 ghost use Rattle.lists.specs.Limits.{componentLimit};
-ghost use Rattle.lists.specs.Records.{component, componentCount, portCount};
-ghost use Rattle.lists.specs.Within.{Components, PortConnections};
-ghost use Rattle.lists.specs.First.{some};
-ghost use Rattle.regions.specs.Graph.{marked};
-ghost use Rattle.regions.specs.Keys.{edges};
+ghost use Rattle.lists.specs.Records.{componentCount};
+ghost use Rattle.lists.specs.Within.{Components};
 ghost use mathlib.Core.List.{List};
-ghost use Rattle.signals.specs.Regions.{wire, fedFromOutside};
+ghost use Rattle.signals.specs.Regions.{fedFromOutside};
 ghost use Rattle.liveness.specs.Scene.{Scene, Prepared};
 ghost use Rattle.signals.specs.Flags.{Flags, Indices};
-ghost use Rattle.signals.specs.Seen.{Rows, SignalEnds};
+ghost use Rattle.signals.specs.Seen.{Rows};
 ghost use Rattle.signals.specs.Stages.{inferredBy};
-
-// Where a pair's first number begins in a key.
-const FIRST: u64 = 12;
 
 // Flags the inferred inputs, by list place, given which regions have a drive source and which are fed from outside.
 pub(crate) fn infer(
@@ -53,8 +42,8 @@ pub(crate) fn infer(
     let count = components.len() / COMPONENT;
     let mut forward_rows = [0usize; COMPONENTS];
     let mut backward_rows = [0usize; COMPONENTS];
-    hint_rows(forward, FIRST, &mut forward_rows);
-    hint_rows(backward, FIRST, &mut backward_rows);
+    hint_rows(forward, SECOND_BITS, &mut forward_rows);
+    hint_rows(backward, SECOND_BITS, &mut backward_rows);
     let mut p: usize = 0;
     while p < count {
         let region = region_at[p];
@@ -85,18 +74,14 @@ pub(crate) fn outside_regions(
     fed: &mut [bool],
 )
     requires { ⌜ Scene (now components) (now ports) ⌝ }
-    requires { ⌜ ((forward backward keys regionOf : List ℕ) × Prepared (now components) (now ports) (now sources) (now sinks) forward backward keys (now labels) (now members) regionOf) ⌝ }
+    requires { ⌜ ((forward backward regionOf : List ℕ) × Prepared (now components) (now ports) (now sources) (now sinks) forward backward (now labels) (now members) regionOf) ⌝ }
     requires { ⌜ length (now fed) ≡ componentLimit ⌝ }
     ensures { λ _. ⌜ Flags componentLimit (fedFromOutside (now (components .entry)) (now (ports .entry))) (now (fed .exit)) ⌝ }
 {
     let n = labels.len();
     let mut passive_at = [false; COMPONENTS];
     let mut passive = [false; COMPONENTS];
-    let mut outside = [false; CONNECTIONS];
-    let mut sink_at = [0usize; CONNECTIONS];
     passive_flags(components, &mut passive_at);
     gather(n, members, &passive_at, &mut passive[..n]);
-    outside_flags(ports, sources, sinks, labels, &passive, &mut outside);
-    sink_regions(ports, sinks, labels, &mut sink_at);
-    gather(ports.len() / PORT, &sink_at, &outside, fed);
+    flag_outside(ports, sources, sinks, labels, &passive, fed);
 }

@@ -1,4 +1,5 @@
 // Regions, sources, drive and verdicts of a scene.
+mod alive;
 pub mod asked;
 mod infer;
 mod query;

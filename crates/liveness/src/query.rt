@@ -1,8 +1,8 @@
 // The input query: the immediate sources of a port, and the inferred inputs among these and all upstream of them.
 use super::InputSources;
-use super::asked::make_ready;
 use super::steps::flag_drive;
 use super::steps::flag_inferred;
+use super::steps::prepare;
 use lists::COMPONENT;
 use lists::COMPONENTS;
 use lists::CONNECTIONS;
@@ -17,7 +17,7 @@ use sets::ComponentSet;
 use signals::edges::PORTS;
 use signals::flags::and_flags;
 use signals::flags::gather;
-use signals::flags::set_of;
+use signals::stages::build_fed;
 use signals::verdicts::first_required;
 use signals::verdicts::required_count;
 use signals::verdicts::slot_fed;
@@ -31,7 +31,7 @@ ghost use lib.ListN.{length};
 ghost use lib.IntN.{ℤ};
 ghost use Rattle.tables.specs.Order.{Ascending, member};
 ghost use Rattle.tables.specs.Pairs.{pair, span};
-ghost use Rattle.lists.specs.Records.{componentCount};
+ghost use Rattle.lists.specs.Records.{componentCount, portCount};
 ghost use Rattle.lists.specs.Within.{Components};
 ghost use Rattle.lists.specs.First.{isFound};
 ghost use Rattle.lists.specs.Ids.{IdTable};
@@ -47,7 +47,7 @@ ghost use Rattle.liveness.specs.Query.{withRow, rowPlace, InputsBy};
 ghost use Rattle.signals.specs.Flags.{Flags};
 ghost use Rattle.signals.specs.Rows.{firstRequired, requiredCount, slotFed, SlotWithin};
 ghost use Rattle.liveness.specs.Scene.{Scene, Prepared};
-ghost use Rattle.liveness.specs.Inputs.{PortOf, UpstreamRoom, UpstreamSet};
+ghost use Rattle.liveness.specs.Inputs.{Inputs, InputsRoom, SlotOf, Walkable, UpstreamRoom, UpstreamSet};
 
 // ---- one port
 
@@ -92,7 +92,7 @@ fn upstream_inputs(
         stack,
     );
     and_flags(n, &upstream[..n], inferred, &mut both);
-    set_of(n, &both)
+    sets::of_flags(n, &both)
 }
 
 // The answer where the port asked for has no verdict row, or none feeds it: empty sets.
@@ -123,9 +123,9 @@ pub(crate) fn row_sources(
     inferred: &[bool],
     stack: &mut [usize],
 ) -> InputSources
-    requires { ⌜ ((cs ps fs : List ℤ) × (p port : ℕ) × PortOf cs ps fs p port (now fed) (now backward) slot (now inferred)) ⌝ }
+    requires { ⌜ ((cs ps fs : List ℤ) × (p port : ℕ) × (Walkable cs ps fs (now fed) (now backward) (now inferred) × SlotOf cs ps p port (now fed) slot)) ⌝ }
     requires { ⌜ (2 * length (now inferred) ≤ length (now stack)) × Zeros (now stack) ⌝ }
-    ensures { λ r. ⌜ ((cs ps fs : List ℤ) (p port : ℕ) → PortOf cs ps fs p port (now (fed .entry)) (now (backward .entry)) slot (now (inferred .entry)) →
+    ensures { λ r. ⌜ ((cs ps fs : List ℤ) (p port : ℕ) → Walkable cs ps fs (now (fed .entry)) (now (backward .entry)) (now (inferred .entry)) → SlotOf cs ps p port (now (fed .entry)) slot →
         InputsBy Accepted cs ps fs (At p) port (now (stack .entry)) (now (stack .exit)) r) ⌝ }
 {
     if !is_fed(fed, slot) {
@@ -136,7 +136,7 @@ pub(crate) fn row_sources(
     immediate_flags(fed, slot, &mut immediate[..n]);
     InputSources {
         checked: Checked::Accepted,
-        immediate: set_of(n, &immediate[..n]),
+        immediate: sets::of_flags(n, &immediate[..n]),
         inferred: upstream_inputs(backward, &immediate[..n], inferred, stack),
     }
 }
@@ -198,7 +198,7 @@ pub(crate) fn inferred_members(
     inferred: &mut [bool],
 )
     requires { ⌜ Scene (now components) (now ports) ⌝ }
-    requires { ⌜ ((fed : List ℕ) × Prepared (now components) (now ports) (now «source_at») (now «sink_at») (now forward) (now backward) fed (now labels) (now members) (now «region_at»)) ⌝ }
+    requires { ⌜ Prepared (now components) (now ports) (now «source_at») (now «sink_at») (now forward) (now backward) (now labels) (now members) (now «region_at») ⌝ }
     requires { ⌜ length (now inferred) ≡ componentCount (now components) ⌝ }
     ensures { λ _. ⌜ now (inferred .exit) ≡ membersWhere (now (components .entry)) (isInferred (now (components .entry)) (now (ports .entry)) (now (frontiers .entry))) ⌝ }
 {
@@ -235,6 +235,91 @@ pub(crate) fn inferred_members(
     );
 }
 
+// Prepares an accepted scene, given its table of ids, and flags its inferred inputs by member. Leaves the stack zero.
+pub(crate) fn find_inputs(
+    keys: &[u64],
+    components: &[i64],
+    ports: &[i64],
+    frontiers: &[i64],
+    source_at: &mut [usize],
+    sink_at: &mut [usize],
+    forward: &mut [u64],
+    backward: &mut [u64],
+    labels: &mut [usize],
+    inferred: &mut [bool],
+    stack: &mut [usize],
+)
+    requires { ⌜ Scene (now components) (now ports) × IdTable (now components) (now keys) ⌝ }
+    requires { ⌜ InputsRoom (now components) (now ports) (now «source_at») (now «sink_at») (now forward) (now backward) (now labels) (now inferred) (now stack) ⌝ }
+    ensures { λ _. ⌜ Inputs (now (components .entry)) (now (ports .entry)) (now (frontiers .entry)) (now («source_at» .exit)) (now («sink_at» .exit)) (now (backward .exit)) (now (labels .exit)) (now (inferred .exit)) (now (stack .exit)) ⌝ }
+{
+    let mut members = [0usize; COMPONENTS];
+    let mut region_at = [0usize; COMPONENTS];
+    regions::clear(stack);
+    prepare(
+        keys,
+        components,
+        ports,
+        source_at,
+        sink_at,
+        forward,
+        backward,
+        labels,
+        &mut members,
+        &mut region_at,
+        stack,
+    );
+    inferred_members(
+        components,
+        ports,
+        frontiers,
+        source_at,
+        sink_at,
+        forward,
+        backward,
+        labels,
+        &members,
+        &region_at,
+        inferred,
+    );
+}
+
+// Fills what one port of an accepted scene is asked by: its edges by the port that they feed, its edges backward, and the inferred inputs by
+// member. Leaves the stack zero. The edges forward stand where those by port are sorted after them.
+fn walk_tables(
+    keys: &[u64],
+    components: &[i64],
+    ports: &[i64],
+    frontiers: &[i64],
+    fed: &mut [u64],
+    backward: &mut [u64],
+    inferred: &mut [bool],
+    stack: &mut [usize],
+)
+    requires { ⌜ Scene (now components) (now ports) × IdTable (now components) (now keys) ⌝ }
+    requires { ⌜ (length (now fed) ≡ portCount (now ports)) × ((length (now backward) ≡ portCount (now ports)) × ((length (now inferred) ≡ componentCount (now components)) × (2 * componentCount (now components) ≤ length (now stack)))) ⌝ }
+    ensures { λ _. ⌜ Walkable (now (components .entry)) (now (ports .entry)) (now (frontiers .entry)) (now (fed .exit)) (now (backward .exit)) (now (inferred .exit)) × Zeros (now (stack .exit)) ⌝ }
+{
+    let n = keys.len();
+    let mut source_at = [0usize; CONNECTIONS];
+    let mut sink_at = [0usize; CONNECTIONS];
+    let mut labels = [0usize; COMPONENTS];
+    find_inputs(
+        keys,
+        components,
+        ports,
+        frontiers,
+        &mut source_at,
+        &mut sink_at,
+        fed,
+        backward,
+        &mut labels[..n],
+        inferred,
+        stack,
+    );
+    build_fed(ports, &source_at, &sink_at, fed);
+}
+
 // The sets of a port of the component at p, of an accepted scene, given its table of ids.
 fn input_sources(
     keys: &[u64],
@@ -254,7 +339,7 @@ fn input_sources(
     let mut fed = [0u64; CONNECTIONS];
     let mut backward = [0u64; CONNECTIONS];
     let mut inferred = [false; COMPONENTS];
-    make_ready(
+    walk_tables(
         keys,
         components,
         ports,

@@ -1,5 +1,6 @@
 // The analysis of an accepted scene, stage by stage: tables and regions, marks, rows, sets.
 use super::Analysis;
+use super::alive::flag_alive;
 use super::infer::infer;
 use super::infer::outside_regions;
 use lists::COMPONENT;
@@ -8,40 +9,34 @@ use lists::CONNECTIONS;
 use lists::Checked;
 use lists::PORT;
 use signals::flags::gather;
-use signals::flags::or_flags;
-use signals::flags::set_of;
+use signals::slots::write_verdicts;
 use signals::sources::drive_flags;
 use signals::sources::frontier_flags;
 use signals::stages::build_tables;
 use signals::stages::find_cyclic;
-use signals::stages::find_reach;
 use signals::stages::find_regions;
 use signals::stages::place_labels;
 use signals::stages::place_members;
 use signals::verdicts::put_sources;
-use signals::verdicts::put_verdicts;
 ghost use mathlib.Core.Path.{_≡_};
 ghost use mathlib.Core.List.{List};
-ghost use Prim.Native.Nat.{ℕ, _*_, _≤_, _<_};
+ghost use Prim.Native.Nat.{ℕ, _≤_};
 ghost use lib.ListN.{length, getD};
 ghost use lib.IntN.{ℤ};
 ghost use Rattle.lists.specs.Limits.{componentLimit};
 ghost use Rattle.lists.specs.Records.{componentCount, portCount};
-ghost use Rattle.lists.specs.Ids.{IdTable, memberOf};
+ghost use Rattle.lists.specs.Ids.{IdTable};
 ghost use Rattle.lists.specs.Within.{PortConnections};
 ghost use Rattle.lists.specs.First.{tabulate};
 ghost use Rattle.lists.specs.Slices.{laid};
 ghost use Rattle.lists.specs.declared.Checked.the-variants.{Accepted};
 ghost use Rattle.regions.specs.Search.{Zeros};
-ghost use Rattle.regions.specs.Keys.{edges};
 ghost use Rattle.signals.specs.Regions.{regionCount, regionAt, hasDrive, isInferred};
-ghost use Rattle.signals.specs.Signals.{signals};
-ghost use Rattle.signals.specs.Sources.{isDrive};
 ghost use Rattle.signals.specs.Flags.{Flags, Numbers, Indices};
 ghost use Rattle.liveness.specs.Entry.{AnalyzedBy};
 ghost use Rattle.signals.specs.Seen.{SignalEnds};
 ghost use Rattle.signals.specs.Stages.{cyclicAt};
-ghost use Rattle.liveness.specs.Scene.{Scene, Prepared, PreparedRoom, Prepares, Driven, Alive, Marked, MarkRoom, ReachRoom, RowsRoom, AnswerBy};
+ghost use Rattle.liveness.specs.Scene.{Scene, Prepared, PreparedRoom, Prepares, Driven, Marked, MarkRoom, RowsRoom, AnswerBy};
 
 // How many source rows and verdict rows were written.
 pub(crate) struct RowCounts {
@@ -58,17 +53,16 @@ pub(crate) fn prepare(
     sinks: &mut [usize],
     forward: &mut [u64],
     backward: &mut [u64],
-    fed: &mut [u64],
     labels: &mut [usize],
     members: &mut [usize],
     region_at: &mut [usize],
     stack: &mut [usize],
 ) -> usize
     requires { ⌜ Scene (now components) (now ports) × IdTable (now components) (now keys) ⌝ }
-    requires { ⌜ PreparedRoom (now components) (now ports) (now sources) (now sinks) (now forward) (now backward) (now fed) (now labels) (now members) (now «region_at») (now stack) ⌝ }
-    ensures { λ r. ⌜ Prepares (now (components .entry)) (now (ports .entry)) (now (sources .exit)) (now (sinks .exit)) (now (forward .exit)) (now (backward .exit)) (now (fed .exit)) (now (labels .exit)) (now (members .exit)) (now («region_at» .exit)) (now (stack .exit)) r ⌝ }
+    requires { ⌜ PreparedRoom (now components) (now ports) (now sources) (now sinks) (now forward) (now backward) (now labels) (now members) (now «region_at») (now stack) ⌝ }
+    ensures { λ r. ⌜ Prepares (now (components .entry)) (now (ports .entry)) (now (sources .exit)) (now (sinks .exit)) (now (forward .exit)) (now (backward .exit)) (now (labels .exit)) (now (members .exit)) (now («region_at» .exit)) (now (stack .exit)) r ⌝ }
 {
-    build_tables(keys, ports, sources, sinks, forward, backward, fed);
+    build_tables(keys, ports, sources, sinks, forward, backward);
     let count = find_regions(forward, backward, labels, stack);
     place_members(keys, members);
     place_labels(labels.len(), members, labels, region_at);
@@ -109,7 +103,7 @@ pub(crate) fn flag_inferred(
     inferred: &mut [bool],
 )
     requires { ⌜ Scene (now components) (now ports) ⌝ }
-    requires { ⌜ ((fed : List ℕ) × Prepared (now components) (now ports) (now sources) (now sinks) (now forward) (now backward) fed (now labels) (now members) (now «region_at»)) ⌝ }
+    requires { ⌜ Prepared (now components) (now ports) (now sources) (now sinks) (now forward) (now backward) (now labels) (now members) (now «region_at») ⌝ }
     requires { ⌜ (length (now «has_drive») ≡ componentLimit) × (componentCount (now components) ≤ length (now inferred)) ⌝ }
     ensures { λ _. ⌜ ((fs : List ℤ) → Flags componentLimit (hasDrive (now (components .entry)) (now (ports .entry)) fs) (now («has_drive» .entry)) →
         Flags (componentCount (now (components .entry))) (isInferred (now (components .entry)) (now (ports .entry)) fs) (now (inferred .exit))) ⌝ }
@@ -129,29 +123,6 @@ pub(crate) fn flag_inferred(
     );
 }
 
-// Marks what the drive sources reach, and what these and the inferred inputs reach.
-fn flag_alive(
-    forward: &[u64],
-    members: &[usize],
-    drive_at: &[bool],
-    inferred: &[bool],
-    drive: &mut [bool],
-    potential: &mut [bool],
-    stack: &mut [usize],
-)
-    requires { ⌜ ReachRoom (now forward) (now members) (now «drive_at») (now inferred) (now drive) (now potential) (now stack) ⌝ }
-    ensures { λ _. ⌜ ((cs ps fs : List ℤ) → edges (componentCount cs) (now (forward .entry)) ≡ signals cs ps → length (now (drive .entry)) ≡ componentCount cs →
-        Numbers (componentCount cs) (memberOf cs) (now (members .entry)) →
-        Flags (componentCount cs) (isDrive cs fs) (now («drive_at» .entry)) → Flags (componentCount cs) (isInferred cs ps fs) (now (inferred .entry)) →
-        Alive cs ps fs (now (drive .exit)) (now (potential .exit)) (now (stack .exit))) ⌝ }
-{
-    let n = drive.len();
-    let mut either = [false; COMPONENTS];
-    find_reach(forward, members, drive_at, drive, stack);
-    or_flags(n, drive_at, inferred, &mut either);
-    find_reach(forward, members, &either, potential, stack);
-}
-
 // All marks of a scene.
 fn mark(
     components: &[i64],
@@ -169,12 +140,11 @@ fn mark(
     has_drive: &mut [bool],
     drive: &mut [bool],
     potential: &mut [bool],
-    stack: &mut [usize],
 )
     requires { ⌜ Scene (now components) (now ports) ⌝ }
-    requires { ⌜ ((fed : List ℕ) × Prepared (now components) (now ports) (now sources) (now sinks) (now forward) (now backward) fed (now labels) (now members) (now «region_at»)) ⌝ }
-    requires { ⌜ MarkRoom (now components) (now «on_frontier») (now inferred) (now «has_drive») (now drive) (now potential) (now stack) ⌝ }
-    ensures { λ _. ⌜ Marked (now (components .entry)) (now (ports .entry)) (now (frontiers .entry)) (now («on_frontier» .exit)) (now (inferred .exit)) (now («has_drive» .exit)) (now (drive .exit)) (now (potential .exit)) (now (stack .exit)) ⌝ }
+    requires { ⌜ Prepared (now components) (now ports) (now sources) (now sinks) (now forward) (now backward) (now labels) (now members) (now «region_at») ⌝ }
+    requires { ⌜ MarkRoom (now components) (now «on_frontier») (now inferred) (now «has_drive») (now drive) (now potential) ⌝ }
+    ensures { λ _. ⌜ Marked (now (components .entry)) (now (ports .entry)) (now (frontiers .entry)) (now («on_frontier» .exit)) (now (inferred .exit)) (now («has_drive» .exit)) (now (drive .exit)) (now (potential .exit)) ⌝ }
 {
     let mut drive_at = [false; COMPONENTS];
     flag_drive(
@@ -199,13 +169,15 @@ fn mark(
         inferred,
     );
     flag_alive(
-        forward,
-        members,
-        &drive_at,
+        ports,
+        sources,
+        sinks,
+        labels,
+        region_at,
+        has_drive,
         inferred,
         drive,
         potential,
-        stack,
     );
 }
 
@@ -247,14 +219,14 @@ fn answer(
         regions: count,
         sources: counts.sources,
         inputs: counts.inputs,
-        drive: set_of(n, drive),
-        potential: set_of(n, potential),
-        cyclic: set_of(count, &cyclic),
-        has_drive: set_of(count, has_drive),
+        drive: sets::of_flags(n, drive),
+        potential: sets::of_flags(n, potential),
+        cyclic: sets::of_flags(count, &cyclic),
+        has_drive: sets::of_flags(count, has_drive),
     }
 }
 
-// Marks a prepared scene, writes its rows and answers.
+// Marks a prepared scene, writes its rows and answers. The stack is zero already, as it is to be left.
 fn report(
     components: &[i64],
     ports: &[i64],
@@ -263,7 +235,6 @@ fn report(
     sink_at: &[usize],
     forward: &[u64],
     backward: &[u64],
-    fed: &[u64],
     labels: &[usize],
     members: &[usize],
     region_at: &[usize],
@@ -274,7 +245,7 @@ fn report(
     stack: &mut [usize],
 ) -> Analysis
     requires { ⌜ Scene (now components) (now ports) ⌝ }
-    requires { ⌜ Prepared (now components) (now ports) (now «source_at») (now «sink_at») (now forward) (now backward) (now fed) (now labels) (now members) (now «region_at») ⌝ }
+    requires { ⌜ Prepared (now components) (now ports) (now «source_at») (now «sink_at») (now forward) (now backward) (now labels) (now members) (now «region_at») ⌝ }
     requires { ⌜ (count ≡ regionCount (now components) (now ports)) × (RowsRoom (now components) (now regions) (now sources) (now inputs) (now stack) × Zeros (now stack)) ⌝ }
     ensures { λ r. ⌜ AnalyzedBy Accepted (now (components .entry)) (now (ports .entry)) (now (frontiers .entry)) (now (regions .entry)) (now (regions .exit)) (now (sources .entry)) (now (sources .exit)) (now (inputs .entry)) (now (inputs .exit)) (now (stack .entry)) (now (stack .exit)) r ⌝ }
 {
@@ -300,15 +271,16 @@ fn report(
         &mut has_drive,
         &mut drive[..n],
         &mut potential[..n],
-        stack,
     );
     put_regions(n, region_at, regions);
     let counts = RowCounts {
         sources: put_sources(components, &on_frontier, &inferred, sources),
-        inputs: put_verdicts(
+        inputs: write_verdicts(
             components,
             members,
-            fed,
+            ports,
+            source_at,
+            sink_at,
             &drive[..n],
             &potential[..n],
             inputs,
@@ -348,7 +320,6 @@ pub fn analyze(
     let mut sink_at = [0usize; CONNECTIONS];
     let mut forward = [0u64; CONNECTIONS];
     let mut backward = [0u64; CONNECTIONS];
-    let mut fed = [0u64; CONNECTIONS];
     let mut labels = [0usize; COMPONENTS];
     let mut members = [0usize; COMPONENTS];
     let mut region_at = [0usize; COMPONENTS];
@@ -361,7 +332,6 @@ pub fn analyze(
         &mut sink_at,
         &mut forward[..m],
         &mut backward[..m],
-        &mut fed[..m],
         &mut labels[..n],
         &mut members,
         &mut region_at,
@@ -375,7 +345,6 @@ pub fn analyze(
         &sink_at,
         &forward[..m],
         &backward[..m],
-        &fed[..m],
         &labels[..n],
         &members,
         &region_at,

@@ -1,6 +1,6 @@
 // Reads a sheet from standard input, and writes its report or its refusal to standard output.
+use blocks::answer::put_refusal;
 use report::Printed;
-use report::answer::put_refusal;
 use report::program::BYTES;
 use report::program::LINES;
 use report::program::READ;

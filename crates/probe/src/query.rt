@@ -4,7 +4,7 @@ use liveness::required_input;
 use sets::ComponentSet;
 use sets::WORDS;
 ghost use mathlib.Core.Path.{_≡_};
-ghost use Prim.Native.Nat.{_<_};
+ghost use Prim.Native.Nat.{_≤_, _<_};
 ghost use lib.ListN.{length, getD};
 ghost use Rattle.sets.specs.Members.{wordCount};
 ghost use Rattle.lists.specs.Refusals.{packed};
@@ -37,7 +37,7 @@ fn word(set: ComponentSet, k: usize) -> u64
     set.words[k]
 }
 
-// Word k of the set of immediate sources.
+// Word k of the set of immediate sources, 0 past the last.
 #[no_mangle]
 pub extern "C" fn probe_immediate_word(
     components: &[i64],
@@ -50,6 +50,9 @@ pub extern "C" fn probe_immediate_word(
 ) -> u64
     ensures { λ r. ⌜ (k < wordCount → WordOf (now (components .entry)) (now (ports .entry)) (now (frontiers .entry)) id port (length (now (stack .entry)))
         (λ p a. isImmediate (now (components .entry)) (now (ports .entry)) p port a) k r) ⌝ }
+    ensures { λ r. ⌜ (wordCount ≤ k → r ≡ 0) ⌝ }
+    ensures { λ _. ⌜ (k < wordCount → now (stack .exit) ≡ workOf (inputRefusal (now (components .entry)) (now (ports .entry)) (now (frontiers .entry)) id port (length (now (stack .entry)))) (now (stack .entry)))
+        × (wordCount ≤ k → now (stack .exit) ≡ now (stack .entry)) ⌝ }
 {
     if WORDS <= k {
         return 0;
@@ -58,7 +61,7 @@ pub extern "C" fn probe_immediate_word(
     word(found.immediate, k)
 }
 
-// Word k of the set of inferred inputs.
+// Word k of the set of inferred inputs, 0 past the last.
 #[no_mangle]
 pub extern "C" fn probe_inferred_word(
     components: &[i64],
@@ -71,6 +74,9 @@ pub extern "C" fn probe_inferred_word(
 ) -> u64
     ensures { λ r. ⌜ (k < wordCount → WordOf (now (components .entry)) (now (ports .entry)) (now (frontiers .entry)) id port (length (now (stack .entry)))
         (λ p a. isInferredFor (now (components .entry)) (now (ports .entry)) (now (frontiers .entry)) p port a) k r) ⌝ }
+    ensures { λ r. ⌜ (wordCount ≤ k → r ≡ 0) ⌝ }
+    ensures { λ _. ⌜ (k < wordCount → now (stack .exit) ≡ workOf (inputRefusal (now (components .entry)) (now (ports .entry)) (now (frontiers .entry)) id port (length (now (stack .entry)))) (now (stack .entry)))
+        × (wordCount ≤ k → now (stack .exit) ≡ now (stack .entry)) ⌝ }
 {
     if WORDS <= k {
         return 0;

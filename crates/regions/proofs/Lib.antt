@@ -9,6 +9,7 @@
 --     Stack     visit_from
 --     Order     finish_order, reach_from
 --     Label     paint, label_from, label_all, regions
+--     Carried   what specs/Carry.antt states
 pub mod Laws
 pub mod Theorems
 pub mod Examples
@@ -19,3 +20,4 @@ pub mod Frames
 pub mod Stack
 pub mod Order
 pub mod Label
+pub mod Carried

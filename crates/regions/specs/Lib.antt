@@ -2,5 +2,6 @@
 pub mod Graph
 pub mod Kosaraju
 pub mod Theorems
+pub mod Carry
 pub mod Keys
 pub mod Search

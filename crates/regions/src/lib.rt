@@ -1,5 +1,8 @@
 // Walks over a graph: its regions, by the two walks of Kosaraju and Sharir, and what a set of nodes reaches. The calls of the recursive
 // definition are a stack that the caller lends.
+pub mod carry;
+
+use tables::SECOND_BITS;
 use tables::rows::hint_rows;
 use tables::rows::lower_bound_in;
 ghost use mathlib.Core.Path.{_≡_};
@@ -15,9 +18,6 @@ ghost use Rattle.regions.specs.Search.{fresh, Room, Entered, Searched, O
 
 // The nodes whose row of keys has a hint of where it begins. Others are searched for.
 const HINTED: usize = 1024;
-
-// Where a pair's second number begins in a key.
-const SECOND: u64 = 12;
 
 // Sets every flag to false.
 pub fn clear_flags(flags: &mut [bool])
@@ -130,7 +130,7 @@ fn finish_order(
 {
     clear_flags(visited);
     let mut rows = [0usize; HINTED];
-    hint_rows(keys, SECOND, &mut rows);
+    hint_rows(keys, SECOND_BITS, &mut rows);
     let mut count = 0;
     let mut start = 0;
     while start < n {
@@ -193,7 +193,7 @@ fn label_all(
     clear_flags(visited);
     clear(labels);
     let mut rows = [0usize; HINTED];
-    hint_rows(backward, SECOND, &mut rows);
+    hint_rows(backward, SECOND_BITS, &mut rows);
     let mut count = 0;
     let mut i = n;
     while 0 < i {
@@ -246,7 +246,7 @@ pub fn reach_from(
 {
     clear_flags(visited);
     let mut rows = [0usize; HINTED];
-    hint_rows(keys, SECOND, &mut rows);
+    hint_rows(keys, SECOND_BITS, &mut rows);
     let mut count = 0;
     let mut start = 0;
     while start < n {

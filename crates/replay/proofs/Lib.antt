@@ -3,6 +3,5 @@ mod Counting
 mod Reading
 mod Listing
 mod Numbers
-mod Counts
 mod Lists
 mod Comparing

@@ -10,14 +10,14 @@ use mathlib.Core.List.{List, _++_}
 use lib.IntN.{ℤ}
 use lib.ListN.{length, take, drop}
 use lib.Seq.{length-take-le}
-use Rattle.lines.specs.Line.{Taken, taken, refused, readNumber, readLine, numberIn}
+use Rattle.lines.specs.Line.{Taken, taken, refused, readNumber, readLine, natural, numberIn}
 use Rattle.lines.specs.declared.read.Number.the-variants.{Is, Not}
 use Rattle.lines.specs.declared.read.Skip.{Skip}
 use Rattle.lines.specs.declared.read.Skip.the-variants.{To, No}
+use Rattle.lines.proofs.Counting.{count-rest}
 use Rattle.lines.proofs.Placed.{number-refused}
-use Rattle.replay.specs.Recorded.{before, andThen, readNumbers, natural, numbersOf, readList, Filled, ReadFrom}
+use Rattle.replay.specs.Recorded.{before, andThen, readNumbers, numbersOf, readList, Filled, ReadFrom}
 use Rattle.replay.specs.declared.input.Listed.the-variants.{Of, Bad}
-use Rattle.replay.proofs.Counts.{count-rest}
 
 abbrev Long : ℕ → Taken (List ℤ) → Type 0
 Long n (taken zs s) = length zs ≡ n

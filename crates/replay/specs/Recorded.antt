@@ -3,10 +3,10 @@
 use Prim.Native.Nat.{ℕ, zero, suc, _-_, _<_}
 use mathlib.Core.Path.{_≡_}
 use mathlib.Core.List.{List, [], _∷_}
-use lib.IntN.{ℤ, pos, negsuc}
+use lib.IntN.{ℤ}
 use lib.ListN.{length}
 use Rattle.lists.specs.Slices.{laid}
-use Rattle.lines.specs.Line.{Taken, taken, refused, readNumber, readLine}
+use Rattle.lines.specs.Line.{Taken, taken, refused, readNumber, readLine, natural}
 use Rattle.lines.specs.declared.read.Skip.{Skip}
 use Rattle.lines.specs.declared.read.Skip.the-variants.{To, No}
 use Rattle.replay.specs.declared.input.Listed.{Listed}
@@ -25,12 +25,6 @@ andThen refused more = refused
 unfoldable pub readNumbers : ℕ → List ℕ → Taken (List ℤ)
 readNumbers zero s = taken [] s
 readNumbers (suc n) s = andThen (readNumber s) (readNumbers n)
-
--- a count has no minus
-abbrev pub natural : Taken ℤ → Taken ℕ
-natural (taken (pos n) s) = taken n s
-natural (taken (negsuc n) s) = refused
-natural refused = refused
 
 abbrev pub numbersOf : Taken ℕ → Taken (List ℤ)
 numbersOf (taken n s) = readNumbers n s

@@ -2,14 +2,11 @@
 use lines::read::Line;
 use lines::read::Number;
 use lines::read::Skip;
-use lines::read::read_magnitude;
+use lines::read::read_count;
 use lines::read::read_number;
-use lines::read::skip_key;
-ghost use mathlib.Core.Path.{_≡_};
 ghost use Prim.Native.Nat.{_≤_};
 ghost use lib.ListN.{length, drop};
-ghost use Rattle.lines.specs.Line.{readLine, numberIn};
-ghost use Rattle.replay.specs.Recorded.{natural, readNumbers, readList, Filled, ReadFrom};
+ghost use Rattle.replay.specs.Recorded.{readNumbers, readList, Filled, ReadFrom};
 ghost use Rattle.replay.specs.Bounds.{AtMost};
 
 // A list: how many numbers it has, and the position after it.
@@ -46,20 +43,6 @@ pub(crate) fn refill(text: &mut [u8], at: usize) {
     let left = text.len() - at;
     shift(text, at);
     io::read_full(0, &mut text[left..]);
-}
-
-// The count of a list, at the line of its word.
-fn read_count(text: &[u8], at: usize, word: &[u8]) -> Number
-    ensures { λ r. ⌜ r ≡ numberIn (length (now (text .entry))) (natural (readLine (now (word .entry)) (drop at (now (text .entry))))) ⌝ }
-{
-    if text.len() < at {
-        return Number::Not;
-    }
-    let s = skip_key(text, at, word);
-    match s {
-        Skip::To(p) => read_magnitude(text, p),
-        Skip::No => Number::Not,
-    }
 }
 
 // Fills `out` with the numbers at `at`, and answers where they end.

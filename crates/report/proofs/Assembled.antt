@@ -18,9 +18,9 @@ use Rattle.scene.specs.Kept.{keptRows}
 use Rattle.signals.specs.Regions.{regionCount}
 use Rattle.signals.specs.Verdicts.{sourceRows, inputRows}
 use Rattle.liveness.specs.declared.Analysis.{Analysis}
+use Rattle.blocks.specs.Blocks.{blockText}
 use Rattle.report.specs.Report.{allRows, keptList, componentRows, regionRows, inputBlock, reportOf}
-use Rattle.report.specs.Blocks.{blockText, componentRowBy, regionRowBy}
-use Rattle.report.specs.Printing.{inputsText, wholeText, Gathered, Analyzed}
+use Rattle.report.specs.Printing.{componentRowBy, regionRowBy, inputsText, wholeText, Gathered, Analyzed}
 use Rattle.report.proofs.Shown.{component-rows, region-rows}
 use Rattle.report.proofs.VerdictText.{rows-lines}
 

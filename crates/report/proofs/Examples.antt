@@ -24,7 +24,8 @@ use Rattle.signals.specs.Regions.{isCyclic, hasDrive, fedFromOutside, neighbour
 use Rattle.signals.specs.Drive.{membersWhere, drive, potential}
 use Rattle.signals.specs.Verdicts.{fedBy, statusOf, portRows, verdictRows, sourcesAt, sourceRowsBelow}
 use Rattle.liveness.specs.Query.{isImmediate, upstream, isInferredFor}
-use Rattle.report.specs.Report.{allRows, spaced, memberId, idsBelow, portLines, verdictLines, reportOf}
+use Rattle.blocks.specs.Lines.{spaced}
+use Rattle.report.specs.Report.{allRows, memberId, idsBelow, portLines, verdictLines, reportOf}
 
 abbrev leverAndRepeater : List ℤ
 leverAndRepeater =

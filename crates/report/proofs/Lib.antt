@@ -1,7 +1,4 @@
 -- Laws of the definitions, for the proofs of this crate and of those above it.
-pub mod Going
-pub mod FieldText
-pub mod IdText
 pub mod RowText
 pub mod Shown
 pub mod VerdictText

@@ -101,7 +101,7 @@ module _ (x y z : ℕ) (text : List ℕ) {a a′ b b′ c c′ : List ℤ} {r : 
       let p = parse x y z text in
       let no = by-refused (sheetChecked p (length a) (length b) (length c)) (countsOf p) q (sym (s .answer) ∙ e) in
       record {
-        printed = record { answer = rw no; left = rw no };
+        printed = record { answer = rw no; numbers = rw no; left = rw no };
         components-left = rw no (rw no at (s .components-left));
         connections-left = rw no (rw no at (s .connections-left));
         frontiers-left = rw no (rw no at (s .frontiers-left));
@@ -127,7 +127,7 @@ pub reported : (p : Parsed) {a a′ b b′ c c′ cs ps fs : List ℤ} {i j k : 
 reported p good e f g q i u j v k w =
     let same = same-printed e f g q in
     record {
-      printed = record { answer = rw good (same .answer); left = rw good (same .left) };
+      printed = record { answer = rw good (same .answer); numbers = rw good (same .numbers); left = rw good (same .left) };
       components-left = rw good (rw i at u);
       connections-left = rw good (rw j at v);
       frontiers-left = rw good (rw k at w);

@@ -9,7 +9,7 @@ use Prim.Native.Nat.{ℕ, _+_, _*_, min}
 use lib.Dec.{eqb, leb}
 use lib.IntN.{ℤ}
 use lib.ListN.{length}
-use Rattle.lines.specs.Line.{Taken, taken, refused, readLine}
+use Rattle.lines.specs.Line.{Taken, taken, refused, readLine, natural}
 use Rattle.lists.specs.Limits.{componentLimit, connectionLimit, frontierLimit, componentWidth, connectionWidth, frontierWidth}
 use Rattle.lists.specs.Ranges.{firstOutOfRange, componentLow, componentHigh, connectionLow, connectionHigh, frontierLow, frontierHigh}
 use Rattle.lists.specs.Order.{firstNotAscending, componentOrder, connectionOrder}
@@ -20,7 +20,7 @@ use Rattle.lists.specs.declared.Checked.the-variants.{Accepted, Refused}
 use Rattle.lists.specs.declared.Found.{Found}
 use Rattle.lists.specs.declared.Found.the-variants.{At, Nothing}
 use Rattle.lists.specs.declared.Refusal.{Refusal}
-use Rattle.sheet.specs.Sheet.{Fields, got, stop, Part, part, fault, Parsed, Lists, Faulty, _then_, fieldsFrom, natural, counted, readFields, readList, ended, parse}
+use Rattle.sheet.specs.Sheet.{Fields, got, stop, Part, part, fault, Parsed, Lists, Faulty, _then_, fieldsFrom, counted, readFields, readList, ended, parse}
 use Rattle.sheet.specs.Keys.{countKey, keysOf}
 use Rattle.sheet.specs.Entry.{componentsOf, connectionsOf, frontiersOf, enoughRoom, sheetChecked}
 use Rattle.signals.specs.Regions.{regionCount, regionsOf}

@@ -21,7 +21,8 @@ use Rattle.lines.specs.Text.{ascii}
 use Rattle.lines.specs.Decimal.{digitsThen, digits, lineOf}
 use Rattle.lines.proofs.Writing.{line-size}
 use Rattle.sheet.specs.Entry.{componentsOf, connectionsOf, frontiersOf, sheetChecked}
-use Rattle.report.specs.Report.{reportOf, refusalLines}
+use Rattle.blocks.specs.Lines.{refusalLines}
+use Rattle.report.specs.Report.{reportOf}
 use Rattle.report.specs.Entry.{fits, listsChecked, reportChecked, answerBy, PrintedBy}
 use Rattle.report.specs.Program.{sheetBytes, parsedBy, tooLong, programChecked, ProgramPrinted}
 use Rattle.report.specs.declared.Printed.{Printed}
@@ -53,7 +54,7 @@ refusal-room r =
 -- ---- the first stage
 
 pub long-sheet : (text out : List ℕ) → sheetBytes < length text → ProgramPrinted text out out (Refused (record { number = 1; list = 3; item = sheetBytes }))
-long-sheet text out h = let e = lt-leb (length text) sheetBytes h in record { by = record { answer = rw e; left = rw e } }
+long-sheet text out h = let e = lt-leb (length text) sheetBytes h in record { by = record { answer = rw e; numbers = rw e; left = rw e } }
 
 pub short-sheet : (text : List ℕ) {later : Checked} → length text ≤ sheetBytes → refuse 1 3 (tooLong text) or-else later ≡ later
 short-sheet text h = let e = le-leb (length text) sheetBytes h in rw e

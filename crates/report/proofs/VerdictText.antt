@@ -4,30 +4,30 @@
 --     asked-text                the lines of a port, by the sets that were asked for
 -- Assumes nothing.
 use mathlib.Core.Path.{_≡_, refl, sym, ap, _∙_}
-use mathlib.Core.Bool.{Bool, true, false, cond, _&&_}
+use mathlib.Core.Bool.{Bool, true, false, cond}
 use mathlib.Core.List.{List, [], _∷_, _++_, append-assoc, append-nil}
 use Prim.Native.Nat.{ℕ, zero, suc, _+_, _*_, _≤_, _<_}
 use native.Mathlib.Omega.{arith}
-use lib.Dec.{eqb, ltb}
+use lib.Dec.{eqb}
 use lib.IntN.{ℤ}
 use lib.ListN.{length, getD, drop, length-append, length-drop}
 use lib.Seq.{drop-cons}
-use borrow.Author.Tests.{eqb-true, eq-eqb, ne-eqb, lt-ltb}
+use borrow.Author.Tests.{eq-eqb, ne-eqb, lt-ltb}
 use Rattle.lists.specs.Records.{component, componentCount}
 use Rattle.lists.specs.Ids.{IdTable, placeBelow, placeOf, firstRepeated}
-use Rattle.lists.specs.declared.Checked.the-variants.{Accepted}
-use Rattle.lists.specs.declared.Found.{Found}
 use Rattle.lists.specs.declared.Found.the-variants.{At, Nothing}
 use Rattle.lists.proofs.Search.{first-is}
 use Rattle.lists.proofs.Members.{ids-distinct}
 use Rattle.scene.specs.Ports.{portsOf}
 use Rattle.signals.specs.Verdicts.{statusOf, isRequired, portRows, verdictRows, inputRows}
-use Rattle.liveness.specs.Query.{rowPlace, withRow, atPlace, isImmediate, isInferredFor, InputsBy}
+use Rattle.liveness.specs.Query.{rowPlace}
+use Rattle.liveness.specs.Inputs.{PortSets}
 use Rattle.liveness.specs.declared.InputSources.{InputSources}
-use Rattle.report.specs.Report.{idsWhere, inputText, inputLines, portLines, verdictLines}
-use Rattle.report.specs.Blocks.{idsIn}
+use Rattle.blocks.specs.Lines.{inputText}
+use Rattle.blocks.specs.Blocks.{idsIn}
+use Rattle.report.specs.Report.{inputLines, portLines, verdictLines}
 use Rattle.report.specs.Printing.{askedText, rowLines}
-use Rattle.report.proofs.IdText.{ids-are}
+use Rattle.report.proofs.Shown.{ids-are}
 
 -- ---- rows of three numbers
 
@@ -141,8 +141,8 @@ module _ (cs kept fs : List ℤ) (once : firstRepeated cs ≡ Nothing) where
 
 -- ---- a port asked for
 
-pub asked-text : {cs ps fs : List ℤ} {keys stack stack′ : List ℕ} {r : InputSources} (id port status : ℕ) → IdTable cs keys → firstRepeated cs ≡ Nothing
-    → InputsBy Accepted cs ps fs (rowPlace cs id port) port stack stack′ r
+pub asked-text : {cs ps fs : List ℤ} {keys : List ℕ} {r : InputSources} (id port status : ℕ) → IdTable cs keys → firstRepeated cs ≡ Nothing
+    → PortSets cs ps fs (rowPlace cs id port) port r
     → inputText id port status (idsIn keys (r .immediate .words)) (idsIn keys (r .inferred .words)) ≡ askedText cs ps fs id port status
 unfolding askedText
 asked-text id port status t once a = rw (ids-are t once (a .immediate-set), ids-are t once (a .inferred-set))

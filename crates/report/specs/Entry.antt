@@ -6,11 +6,11 @@
 -- Assumes nothing: these are definitions.
 use Prim.Native.Nat.{ℕ}
 use mathlib.Core.Path.{_≡_}
-use mathlib.Core.List.{List}
+use mathlib.Core.List.{List, [], _∷_}
 use lib.Dec.{leb}
 use lib.ListN.{length, replicate}
 use lib.IntN.{ℤ, pos}
-use Rattle.lists.specs.Refusals.{refuse, tooShort, sheetRefusal, _or-else_}
+use Rattle.lists.specs.Refusals.{refuse, tooShort, sheetRefusal, _or-else_, refusalNumbers, numbersBy}
 use Rattle.lists.specs.Slices.{leftOf}
 use Rattle.lists.specs.declared.Checked.{Checked}
 use Rattle.lists.specs.declared.Checked.the-variants as checked
@@ -41,9 +41,15 @@ abbrev pub answerBy : Checked → List ℕ → Printed
 answerBy checked.Accepted text = Written (length text)
 answerBy (checked.Refused r) text = Refused r
 
+-- the paper's numbers of each case: 0 and how many bytes, or those of the refusal
+abbrev pub numbersOf : Printed → List ℕ
+numbersOf (Written count) = 0 ∷ count ∷ []
+numbersOf (Refused r) = refusalNumbers r
+
 -- a text printed into a buffer
 pub record PrintedBy (checks : Checked) (text old new : List ℕ) (r : Printed) : Type 0 where
   pub answer : r ≡ answerBy checks text
+  pub numbers : numbersOf r ≡ numbersBy checks (length text ∷ [])
   pub left : new ≡ leftOf checks text old
 
 -- a work list: all zero once the sheet was read into it, or what it held

@@ -1,6 +1,5 @@
 -- What the contracts cite. To be read in this order.
 pub mod Report
-pub mod Blocks
 pub mod Entry
 pub mod Program
 pub mod Printing

@@ -1,14 +1,17 @@
 -- What the functions that print a scene hand on to each other. No line of the report rests on these.
+--     componentRowBy, regionRowBy         rows by what the entries wrote and answered
 --     askedText, rowLines, inputsText     the verdict rows, each asked for by the id of its device and by its port
 --     blocksText, wholeText               the blocks before them, and the report by its rows
 --     Accepts, Gathered, Analyzed         the lists of an accepted sheet; what grouping, port selection and the analysis left
 -- Assumes nothing: these are definitions.
 use Prim.Native.Nat.{ℕ, _/_}
 use mathlib.Core.Path.{_≡_}
-use mathlib.Core.List.{List, [], _∷_, _++_}
-use lib.ListN.{length}
+use mathlib.Core.List.{List, [], _∷_, _++_, map}
+use lib.ListN.{length, getD}
 use lib.IntN.{ℤ, pos}
+use Rattle.sets.specs.Members.{asNat, memberOf}
 use Rattle.lists.specs.Refusals.{sheetRefusal}
+use Rattle.lists.specs.Ids as ids
 use Rattle.lists.specs.Ids.{IdTable}
 use Rattle.lists.specs.Slices.{laid}
 use Rattle.lists.specs.declared.Checked.the-variants.{Accepted}
@@ -22,9 +25,26 @@ use Rattle.signals.specs.Drive.{drive, potential}
 use Rattle.signals.specs.Verdicts.{sourceRows, inputRows}
 use Rattle.liveness.specs.Sets.{SetWhere}
 use Rattle.liveness.specs.declared.Analysis.{Analysis}
-use Rattle.lists.specs.Records.{componentCount}
-use Rattle.report.specs.Report.{keptList, idsWhere, inputText}
-use Rattle.report.specs.Blocks.{blockText}
+use Rattle.lists.specs.Records.{component, componentCount}
+use Rattle.blocks.specs.Lines.{inputText}
+use Rattle.blocks.specs.Blocks.{blockText}
+use Rattle.report.specs.Report.{keptList, idsWhere}
+
+-- ---- rows
+
+-- of the component at p
+abbrev pub componentRowBy : List ℤ → List ℕ → List ℕ → List ℕ → List ℕ → List ℕ → ℕ → List ℕ
+componentRowBy cs nets fragments regions drive potential p =
+    component cs p .id ∷ getD nets p 0 ∷ getD fragments p 0 ∷ getD regions p 0
+    ∷ asNat (memberOf drive (ids.memberOf cs p)) ∷ asNat (memberOf potential (ids.memberOf cs p)) ∷ []
+
+-- of region r
+abbrev pub regionRowBy : List ℕ → List ℕ → ℕ → List ℕ
+regionRowBy cyclic drive r = asNat (memberOf cyclic r) ∷ asNat (memberOf drive r) ∷ []
+
+-- a list of numbers with no sign
+abbrev pub AllNatural : List ℤ → Type 0
+AllNatural list = (ns : List ℕ) × (list ≡ map pos ns)
 
 -- ---- verdict rows
 

@@ -1,27 +1,25 @@
 -- The report of a sheet (document 01, "The sheet and the program", its worked example): what is printed of a scene, one definition to a block,
 -- in the order in which the blocks are printed. The connections are those kept, and the analysis is that of the liveness entry on them.
+-- The keys, and the lines of given numbers, are in crate `blocks` (Lines.antt).
 --     componentRows, regionRows        the numbers of two blocks; those of the others are keptRows, sourceRows, inputRows
---     block                            a count, and a line for each number of its rows
 --     inputBlock                       the verdict rows, each with its immediate sources and inferred inputs
 --     reportOf                         the whole
---     refusalLines                     what is printed of a refusal
 -- Assumes nothing: these are definitions.
 use Prim.Native.Nat.{ℕ, zero, suc, _/_}
-use mathlib.Core.Bool.{Bool, cond, _&&_}
+use mathlib.Core.Bool.{Bool, cond}
 use mathlib.Core.List.{List, [], _∷_, _++_, map}
 use lib.Dec.{eqb}
 use lib.ListN.{length, getD}
 use lib.IntN.{ℤ, pos}
 use Rattle.sets.specs.Members.{asNat}
-use Rattle.lists.specs.Records.{Component, component, componentCount}
+use Rattle.lists.specs.Records.{component, componentCount}
 use Rattle.lists.specs.First.{firstFrom}
 use Rattle.lists.specs.Ids.{memberOf}
 use Rattle.lists.specs.declared.Found.{Found}
 use Rattle.lists.specs.declared.Found.the-variants.{At, Nothing}
-use Rattle.lists.specs.declared.Refusal.{Refusal}
 use Rattle.lines.specs.Text.{ascii}
-use Rattle.lines.specs.Decimal.{digits, lineOf}
-use Rattle.sheet.specs.Writing.{fieldLines}
+use Rattle.lines.specs.Decimal.{lineOf}
+use Rattle.blocks.specs.Lines.{componentKeys, connectionKeys, regionKeys, sourceKeys, block, inputText}
 use Rattle.circuit.specs.Topology.{netsOf, fragmentsOf}
 use Rattle.scene.specs.Ports.{portsOf}
 use Rattle.scene.specs.Kept.{keptRows}
@@ -60,21 +58,6 @@ regionRow cs ps fs r = asNat (isCyclic cs (keptList cs ps) r) ∷ asNat (hasDriv
 abbrev pub regionRows : List ℤ → List ℤ → List ℤ → ℕ → List ℕ
 regionRows cs ps fs n = allRows (regionRow cs ps fs) n
 
--- ---- lines
-
--- the count of the rows, and then a line for each of their numbers
-abbrev pub block : List ℕ → List (List ℕ) → List ℕ → List ℕ
-block name keys rows = lineOf name (pos (length rows / length keys)) ++ fieldLines keys 0 (map pos rows)
-
--- numbers with one blank (32) between
-unfoldable pub spaced : List ℕ → List ℕ
-spaced [] = []
-spaced (n ∷ []) = digits n []
-spaced (n ∷ m ∷ ns) = digits n (32 ∷ spaced (m ∷ ns))
-
-abbrev pub setLine : List ℕ → List ℕ → List ℕ
-setLine key ids = key ++ 61 ∷ (spaced ids ++ 10 ∷ [])
-
 -- ---- the components that members stand for
 
 abbrev pub idAt : List ℤ → Found → ℕ
@@ -95,16 +78,7 @@ idsWhere cs test = idsBelow cs test (componentCount cs)
 
 -- ---- verdict rows
 
-abbrev pub inputKeys : List (List ℕ)
-inputKeys = ascii "device" ∷ ascii "port" ∷ ascii "status" ∷ []
-
--- a row, its immediate sources and its inferred inputs
-abbrev pub inputText : ℕ → ℕ → ℕ → List ℕ → List ℕ → List ℕ
-inputText device port status immediate inferred =
-    fieldLines inputKeys 0 (pos device ∷ pos port ∷ pos status ∷ [])
-    ++ (setLine (ascii "immediate") immediate ++ setLine (ascii "inferred") inferred)
-
--- of a port of the component at p
+-- the lines of a port of the component at p
 abbrev pub inputLines : List ℤ → List ℤ → List ℤ → ℕ → ℕ → List ℕ
 inputLines cs kept fs p port =
     inputText (component cs p .id) port (statusOf cs kept fs p port) (idsWhere cs (isImmediate cs kept p port))
@@ -125,18 +99,6 @@ inputBlock cs kept fs = lineOf (ascii "inputs") (pos (length (inputRows cs kept 
 
 -- ---- the whole
 
-abbrev pub componentKeys : List (List ℕ)
-componentKeys = ascii "id" ∷ ascii "net" ∷ ascii "fragment" ∷ ascii "region" ∷ ascii "drive" ∷ ascii "potential" ∷ []
-
-abbrev pub connectionKeys : List (List ℕ)
-connectionKeys = ascii "source" ∷ ascii "source_port" ∷ ascii "sink" ∷ ascii "sink_port" ∷ ascii "transfer" ∷ []
-
-abbrev pub regionKeys : List (List ℕ)
-regionKeys = ascii "cyclic" ∷ ascii "has_drive" ∷ []
-
-abbrev pub sourceKeys : List (List ℕ)
-sourceKeys = ascii "id" ∷ ascii "kind" ∷ []
-
 unfoldable pub reportOf : List ℤ → List ℤ → List ℤ → List ℕ
 reportOf cs ps fs =
     lineOf (ascii "answer") (pos 0)
@@ -145,9 +107,3 @@ reportOf cs ps fs =
     ++ (block (ascii "regions") regionKeys (regionRows cs ps fs (regionCount cs (keptList cs ps)))
     ++ (block (ascii "sources") sourceKeys (sourceRows cs (keptList cs ps) fs)
     ++ inputBlock cs (keptList cs ps) fs))))
-
--- ---- a refusal
-
-unfoldable pub refusalLines : Refusal → List ℕ
-refusalLines r =
-    lineOf (ascii "answer") (pos (r .number)) ++ (lineOf (ascii "list") (pos (r .list)) ++ lineOf (ascii "item") (pos (r .item)))

@@ -16,7 +16,7 @@ ghost use Rattle.lists.specs.Within.{Components};
 ghost use Rattle.lists.specs.Slices.{laid};
 ghost use Rattle.signals.specs.Rows.{Put};
 ghost use Rattle.report.specs.Report.{allRows};
-ghost use Rattle.report.specs.Blocks.{componentRowBy, regionRowBy, AllNatural};
+ghost use Rattle.report.specs.Printing.{componentRowBy, regionRowBy, AllNatural};
 
 // How many numbers the row of a component has: id, net, fragment, region, drive, potential.
 const ROW: usize = 6;

@@ -1,15 +1,9 @@
 // The report of a sheet: the sheet is read into lent work lists, its lists are checked and analyzed, and the report is written into a lent
-// buffer where it fits. The modules below `print` have the text, block by block.
-pub mod answer;
-pub mod blocks;
+// buffer where it fits. Crate `blocks` has the text, block by block.
 pub mod fill;
-pub mod ids;
-pub mod inputs;
-pub mod keys;
 mod print;
 pub mod program;
 pub mod rows;
-mod writers;
 
 use lists::COMPONENT;
 use lists::CONNECTION;

@@ -1,15 +1,15 @@
 // Prints the lists of a sheet: the checks, groups and ports, the analysis, the rows, and last the text, whose length is known before its
 // first byte is written. Each stage has its arrays only while it runs.
 use super::Printed;
-use super::answer::put_accepted;
-use super::blocks::left_after;
-use super::blocks::left_after_block;
-use super::blocks::put_block;
 use super::fill::fill_components;
 use super::fill::fill_connections;
 use super::fill::fill_regions;
 use super::rows::left_after_rows;
 use super::rows::put_rows;
+use blocks::answer::put_accepted;
+use blocks::left_after;
+use blocks::left_after_block;
+use blocks::put_block;
 use circuit::settle::group;
 use lists::COMPONENT;
 use lists::COMPONENTS;
@@ -23,6 +23,7 @@ use liveness::Analysis;
 use liveness::asked::make_ready;
 use liveness::steps::analyze;
 use scene::connections::keep_all;
+use signals::upstream::TABLE;
 ghost use mathlib.Core.Path.{_≡_};
 ghost use mathlib.Core.List.{List};
 ghost use Prim.Native.Nat.{_+_, _*_, _≤_};
@@ -30,12 +31,10 @@ ghost use lib.ListN.{length};
 ghost use lib.IntN.{ℤ};
 ghost use Rattle.lists.specs.Ids.{IdTable};
 ghost use Rattle.lists.specs.Records.{componentCount};
-ghost use Rattle.regions.specs.Search.{Zeros};
 ghost use Rattle.lines.specs.Wrote.{Put};
-ghost use Rattle.liveness.specs.Scene.{Scene};
 ghost use Rattle.liveness.specs.Inputs.{Ready};
+ghost use Rattle.blocks.specs.Blocks.{leftAfter};
 ghost use Rattle.report.specs.Report.{reportOf};
-ghost use Rattle.report.specs.Blocks.{leftAfter};
 ghost use Rattle.report.specs.Entry.{fits, listsChecked, PrintedBy};
 ghost use Rattle.report.specs.Printing.{blocksText, wholeText, Accepts, Gathered, Analyzed};
 
@@ -97,26 +96,24 @@ fn print_rows(
     keys: &[u64],
     scene: &[i64],
     fed: &[u64],
-    backward: &[u64],
-    inferred: &[bool],
+    labels: &[usize],
+    upstream: &[u64],
     components: &[u64],
     kept: &[u64],
     regions: &[u64],
     sources: &[u64],
     inputs: &[u64],
-    stack: &mut [usize],
     out: &mut [u8],
 ) -> Printed
     requires { ⌜ IdTable (now scene) (now keys) ⌝ }
-    requires { ⌜ ((ps fs : List ℤ) × Ready (now scene) ps fs (now fed) (now backward) (now inferred)) ⌝ }
-    requires { ⌜ (2 * componentCount (now scene) ≤ length (now stack)) × Zeros (now stack) ⌝ }
-    ensures { λ r. ⌜ ((ps fs : List ℤ) → Ready (now (scene .entry)) ps fs (now (fed .entry)) (now (backward .entry)) (now (inferred .entry)) →
+    requires { ⌜ ((ps fs : List ℤ) × Ready (now scene) ps fs (now fed) (now labels) (now upstream)) ⌝ }
+    ensures { λ r. ⌜ ((ps fs : List ℤ) → Ready (now (scene .entry)) ps fs (now (fed .entry)) (now (labels .entry)) (now (upstream .entry)) →
         PrintedBy (fits (wholeText (now (scene .entry)) ps fs (now (components .entry)) (now (kept .entry)) (now (regions .entry)) (now (sources .entry)) (now (inputs .entry))) (length (now (out .entry))))
         (wholeText (now (scene .entry)) ps fs (now (components .entry)) (now (kept .entry)) (now (regions .entry)) (now (sources .entry)) (now (inputs .entry)))
         (now (out .entry)) (now (out .exit)) r) ⌝ }
 {
     let a = left_after_blocks(Found::At(out.len()), components, kept, regions, sources);
-    let rest = left_after_rows(a, keys, scene, fed, backward, inferred, inputs, stack);
+    let rest = left_after_rows(a, keys, scene, fed, labels, upstream, inputs);
     if let Found::Nothing = rest {
         return Printed::Refused(Refusal {
             number: 2,
@@ -125,83 +122,34 @@ fn print_rows(
         });
     }
     let at = put_blocks(out, components, kept, regions, sources);
-    Printed::Written(put_rows(out, at, keys, scene, fed, backward, inferred, inputs, stack))
+    Printed::Written(put_rows(out, at, keys, scene, fed, labels, upstream, inputs))
 }
 
 // ---- the rows of a scene
-
-// Prints the rows of a scene of port connections.
-fn print_ready(
-    keys: &[u64],
-    scene: &[i64],
-    ports: &[i64],
-    frontiers: &[i64],
-    components: &[u64],
-    kept: &[u64],
-    regions: &[u64],
-    sources: &[u64],
-    inputs: &[u64],
-    stack: &mut [usize],
-    out: &mut [u8],
-) -> Printed
-    requires { ⌜ Scene (now scene) (now ports) × IdTable (now scene) (now keys) ⌝ }
-    requires { ⌜ 2 * componentCount (now scene) ≤ length (now stack) ⌝ }
-    ensures { λ r. ⌜ PrintedBy (fits (wholeText (now (scene .entry)) (now (ports .entry)) (now (frontiers .entry)) (now (components .entry)) (now (kept .entry)) (now (regions .entry)) (now (sources .entry)) (now (inputs .entry))) (length (now (out .entry))))
-        (wholeText (now (scene .entry)) (now (ports .entry)) (now (frontiers .entry)) (now (components .entry)) (now (kept .entry)) (now (regions .entry)) (now (sources .entry)) (now (inputs .entry)))
-        (now (out .entry)) (now (out .exit)) r ⌝ }
-{
-    let n = keys.len();
-    let m = ports.len() / PORT;
-    let mut fed = [0u64; CONNECTIONS];
-    let mut backward = [0u64; CONNECTIONS];
-    let mut inferred = [false; COMPONENTS];
-    make_ready(
-        keys,
-        scene,
-        ports,
-        frontiers,
-        &mut fed[..m],
-        &mut backward[..m],
-        &mut inferred[..n],
-        stack,
-    );
-    print_rows(
-        keys,
-        scene,
-        &fed[..m],
-        &backward[..m],
-        &inferred[..n],
-        components,
-        kept,
-        regions,
-        sources,
-        inputs,
-        stack,
-        out,
-    )
-}
 
 // Prints what the analysis of the kept connections gave: `regions`, `sources` and `inputs` are its rows.
 fn print_analysis(
     keys: &[u64],
     scene: &[i64],
     ports: &[i64],
-    frontiers: &[i64],
     nets: &[u64],
     fragments: &[u64],
+    fed: &[u64],
+    labels: &[usize],
+    upstream: &[u64],
     regions: &[u64],
     sources: &[u64],
     inputs: &[u64],
     found: Analysis,
-    stack: &mut [usize],
     out: &mut [u8],
 ) -> Printed
-    requires { ⌜ ((ps : List ℤ) × (Accepts (now scene) ps (now frontiers) (now keys) × Gathered (now scene) ps (now ports) (now nets) (now fragments))) ⌝ }
-    requires { ⌜ Analyzed (now scene) (now ports) (now frontiers) (now regions) (now sources) (now inputs) found ⌝ }
-    requires { ⌜ 2 * componentCount (now scene) ≤ length (now stack) ⌝ }
-    ensures { λ r. ⌜ ((ps : List ℤ) → Accepts (now (scene .entry)) ps (now (frontiers .entry)) (now (keys .entry)) →
+    requires { ⌜ ((ps fs : List ℤ) × (Accepts (now scene) ps fs (now keys) × (Gathered (now scene) ps (now ports) (now nets) (now fragments) ×
+        (Analyzed (now scene) (now ports) fs (now regions) (now sources) (now inputs) found × Ready (now scene) (now ports) fs (now fed) (now labels) (now upstream))))) ⌝ }
+    ensures { λ r. ⌜ ((ps fs : List ℤ) → Accepts (now (scene .entry)) ps fs (now (keys .entry)) →
         Gathered (now (scene .entry)) ps (now (ports .entry)) (now (nets .entry)) (now (fragments .entry)) →
-        PrintedBy (fits (reportOf (now (scene .entry)) ps (now (frontiers .entry))) (length (now (out .entry)))) (reportOf (now (scene .entry)) ps (now (frontiers .entry))) (now (out .entry)) (now (out .exit)) r) ⌝ }
+        Analyzed (now (scene .entry)) (now (ports .entry)) fs (now (regions .entry)) (now (sources .entry)) (now (inputs .entry)) found →
+        Ready (now (scene .entry)) (now (ports .entry)) fs (now (fed .entry)) (now (labels .entry)) (now (upstream .entry)) →
+        PrintedBy (fits (reportOf (now (scene .entry)) ps fs) (length (now (out .entry)))) (reportOf (now (scene .entry)) ps fs) (now (out .entry)) (now (out .exit)) r) ⌝ }
 {
     let n = keys.len();
     let count = found.regions;
@@ -224,17 +172,72 @@ fn print_analysis(
     );
     fill_connections(ports, &mut kept);
     fill_regions(count, cyclic, has_drive, &mut marks);
-    print_ready(
+    print_rows(
         keys,
         scene,
-        ports,
-        frontiers,
+        fed,
+        labels,
+        upstream,
         &components[..6 * n],
         &kept[..ports.len()],
         &marks[..2 * count],
         sources,
         inputs,
+        out,
+    )
+}
+
+// Makes the scene of the kept connections ready to be asked, and prints what their analysis gave. The rows of the report are filled only
+// after that, so that the two have no arrays at the same time.
+fn print_ready(
+    keys: &[u64],
+    scene: &[i64],
+    ports: &[i64],
+    frontiers: &[i64],
+    nets: &[u64],
+    fragments: &[u64],
+    regions: &[u64],
+    sources: &[u64],
+    inputs: &[u64],
+    found: Analysis,
+    stack: &mut [usize],
+    out: &mut [u8],
+) -> Printed
+    requires { ⌜ ((ps : List ℤ) × (Accepts (now scene) ps (now frontiers) (now keys) × Gathered (now scene) ps (now ports) (now nets) (now fragments))) ⌝ }
+    requires { ⌜ Analyzed (now scene) (now ports) (now frontiers) (now regions) (now sources) (now inputs) found ⌝ }
+    requires { ⌜ 2 * componentCount (now scene) ≤ length (now stack) ⌝ }
+    ensures { λ r. ⌜ ((ps : List ℤ) → Accepts (now (scene .entry)) ps (now (frontiers .entry)) (now (keys .entry)) →
+        Gathered (now (scene .entry)) ps (now (ports .entry)) (now (nets .entry)) (now (fragments .entry)) →
+        PrintedBy (fits (reportOf (now (scene .entry)) ps (now (frontiers .entry))) (length (now (out .entry)))) (reportOf (now (scene .entry)) ps (now (frontiers .entry))) (now (out .entry)) (now (out .exit)) r) ⌝ }
+{
+    let n = keys.len();
+    let m = ports.len() / PORT;
+    let mut fed = [0u64; CONNECTIONS];
+    let mut labels = [0usize; COMPONENTS];
+    let mut upstream = [0u64; TABLE];
+    make_ready(
+        keys,
+        scene,
+        ports,
+        frontiers,
+        &mut fed[..m],
+        &mut labels[..n],
+        &mut upstream,
         stack,
+    );
+    print_analysis(
+        keys,
+        scene,
+        ports,
+        nets,
+        fragments,
+        &fed[..m],
+        &labels[..n],
+        &upstream,
+        regions,
+        sources,
+        inputs,
+        found,
         out,
     )
 }
@@ -270,7 +273,7 @@ fn print_kept(
     );
     let source_count = found.sources;
     let input_count = found.inputs;
-    print_analysis(
+    print_ready(
         keys,
         scene,
         ports,

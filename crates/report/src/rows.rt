@@ -1,23 +1,21 @@
 // The block of the verdict rows: each row is asked for its sets when it is measured, and again when it is written, since all sets of a
 // scene together have no bound but the square of its components.
-use super::blocks::left_after;
-use super::inputs::left_after_input;
-use super::inputs::put_input;
-use super::keys::count_length;
-use super::keys::put_count;
+use blocks::inputs::left_after_input;
+use blocks::inputs::put_input;
+use blocks::keys::count_length;
+use blocks::keys::put_count;
+use blocks::left_after;
 use lists::Found;
 use liveness::asked::asked_sources;
 ghost use mathlib.Core.Path.{_≡_};
 ghost use mathlib.Core.List.{List};
-ghost use Prim.Native.Nat.{_+_, _*_, _≤_};
+ghost use Prim.Native.Nat.{_+_, _≤_};
 ghost use lib.ListN.{length};
 ghost use lib.IntN.{ℤ};
 ghost use Rattle.lists.specs.Ids.{IdTable};
-ghost use Rattle.lists.specs.Records.{componentCount};
-ghost use Rattle.regions.specs.Search.{Zeros};
 ghost use Rattle.lines.specs.Wrote.{Put};
 ghost use Rattle.liveness.specs.Inputs.{Ready};
-ghost use Rattle.report.specs.Blocks.{leftAfter};
+ghost use Rattle.blocks.specs.Blocks.{leftAfter};
 ghost use Rattle.report.specs.Printing.{askedText, rowLines, inputsText};
 
 // The number of this block.
@@ -30,32 +28,21 @@ fn put_asked(
     keys: &[u64],
     components: &[i64],
     fed: &[u64],
-    backward: &[u64],
-    inferred: &[bool],
+    labels: &[usize],
+    upstream: &[u64],
     device: u64,
     port: u64,
     status: u64,
-    stack: &mut [usize],
 ) -> usize
     requires { ⌜ IdTable (now components) (now keys) ⌝ }
-    requires { ⌜ ((ps fs : List ℤ) × (Ready (now components) ps fs (now fed) (now backward) (now inferred) × (at + length (askedText (now components) ps fs device port status) ≤ length (now out)))) ⌝ }
-    requires { ⌜ (2 * componentCount (now components) ≤ length (now stack)) × Zeros (now stack) ⌝ }
-    ensures { λ r. ⌜ ((ps fs : List ℤ) → Ready (now (components .entry)) ps fs (now (fed .entry)) (now (backward .entry)) (now (inferred .entry)) →
-        Put at (askedText (now (components .entry)) ps fs device port status) (now (out .entry)) (now (out .exit)) r) × Zeros (now (stack .exit)) ⌝ }
+    requires { ⌜ ((ps fs : List ℤ) × (Ready (now components) ps fs (now fed) (now labels) (now upstream) × (at + length (askedText (now components) ps fs device port status) ≤ length (now out)))) ⌝ }
+    ensures { λ r. ⌜ ((ps fs : List ℤ) → Ready (now (components .entry)) ps fs (now (fed .entry)) (now (labels .entry)) (now (upstream .entry)) →
+        Put at (askedText (now (components .entry)) ps fs device port status) (now (out .entry)) (now (out .exit)) r) ⌝ }
 {
-    let found = asked_sources(
-        keys,
-        components,
-        fed,
-        backward,
-        inferred,
-        device,
-        port,
-        stack,
-    );
+    let found = asked_sources(keys, components, fed, labels, upstream, device, port);
     let immediate = found.immediate;
-    let upstream = found.inferred;
-    put_input(out, at, device, port, status, immediate, upstream, keys)
+    let inferred = found.inferred;
+    put_input(out, at, device, port, status, immediate, inferred, keys)
 }
 
 // How many bytes are left after these lines.
@@ -64,32 +51,21 @@ fn left_after_asked(
     keys: &[u64],
     components: &[i64],
     fed: &[u64],
-    backward: &[u64],
-    inferred: &[bool],
+    labels: &[usize],
+    upstream: &[u64],
     device: u64,
     port: u64,
     status: u64,
-    stack: &mut [usize],
 ) -> Found
     requires { ⌜ IdTable (now components) (now keys) ⌝ }
-    requires { ⌜ ((ps fs : List ℤ) × Ready (now components) ps fs (now fed) (now backward) (now inferred)) ⌝ }
-    requires { ⌜ (2 * componentCount (now components) ≤ length (now stack)) × Zeros (now stack) ⌝ }
-    ensures { λ r. ⌜ ((ps fs : List ℤ) → Ready (now (components .entry)) ps fs (now (fed .entry)) (now (backward .entry)) (now (inferred .entry)) →
-        r ≡ leftAfter left (length (askedText (now (components .entry)) ps fs device port status))) × Zeros (now (stack .exit)) ⌝ }
+    requires { ⌜ ((ps fs : List ℤ) × Ready (now components) ps fs (now fed) (now labels) (now upstream)) ⌝ }
+    ensures { λ r. ⌜ ((ps fs : List ℤ) → Ready (now (components .entry)) ps fs (now (fed .entry)) (now (labels .entry)) (now (upstream .entry)) →
+        r ≡ leftAfter left (length (askedText (now (components .entry)) ps fs device port status))) ⌝ }
 {
-    let found = asked_sources(
-        keys,
-        components,
-        fed,
-        backward,
-        inferred,
-        device,
-        port,
-        stack,
-    );
+    let found = asked_sources(keys, components, fed, labels, upstream, device, port);
     let immediate = found.immediate;
-    let upstream = found.inferred;
-    left_after_input(left, device, port, status, immediate, upstream, keys)
+    let inferred = found.inferred;
+    left_after_input(left, device, port, status, immediate, inferred, keys)
 }
 
 // Writes the block into the rest of `out` from `at` on, and answers where it ends.
@@ -99,17 +75,15 @@ pub fn put_rows(
     keys: &[u64],
     components: &[i64],
     fed: &[u64],
-    backward: &[u64],
-    inferred: &[bool],
+    labels: &[usize],
+    upstream: &[u64],
     rows: &[u64],
-    stack: &mut [usize],
 ) -> usize
     requires { ⌜ IdTable (now components) (now keys) ⌝ }
-    requires { ⌜ ((ps fs : List ℤ) × (Ready (now components) ps fs (now fed) (now backward) (now inferred) × (at + length (inputsText (now components) ps fs (now rows)) ≤ length (now out)))) ⌝ }
-    requires { ⌜ (2 * componentCount (now components) ≤ length (now stack)) × Zeros (now stack) ⌝ }
-    ensures { λ r. ⌜ ((ps fs : List ℤ) → Ready (now (components .entry)) ps fs (now (fed .entry)) (now (backward .entry)) (now (inferred .entry)) →
+    requires { ⌜ ((ps fs : List ℤ) × (Ready (now components) ps fs (now fed) (now labels) (now upstream) × (at + length (inputsText (now components) ps fs (now rows)) ≤ length (now out)))) ⌝ }
+    ensures { λ r. ⌜ ((ps fs : List ℤ) → Ready (now (components .entry)) ps fs (now (fed .entry)) (now (labels .entry)) (now (upstream .entry)) →
         at + length (inputsText (now (components .entry)) ps fs (now (rows .entry))) ≤ length (now (out .entry)) →
-        Put at (inputsText (now (components .entry)) ps fs (now (rows .entry))) (now (out .entry)) (now (out .exit)) r) × Zeros (now (stack .exit)) ⌝ }
+        Put at (inputsText (now (components .entry)) ps fs (now (rows .entry))) (now (out .entry)) (now (out .exit)) r) ⌝ }
 {
     let mut p = put_count(out, at, INPUTS, (rows.len() / 3) as u64);
     let mut k: usize = 0;
@@ -120,12 +94,11 @@ pub fn put_rows(
             keys,
             components,
             fed,
-            backward,
-            inferred,
+            labels,
+            upstream,
             rows[k],
             rows[k + 1],
             rows[k + 2],
-            stack,
         );
         k += 3;
     }
@@ -138,16 +111,14 @@ pub fn left_after_rows(
     keys: &[u64],
     components: &[i64],
     fed: &[u64],
-    backward: &[u64],
-    inferred: &[bool],
+    labels: &[usize],
+    upstream: &[u64],
     rows: &[u64],
-    stack: &mut [usize],
 ) -> Found
     requires { ⌜ IdTable (now components) (now keys) ⌝ }
-    requires { ⌜ ((ps fs : List ℤ) × Ready (now components) ps fs (now fed) (now backward) (now inferred)) ⌝ }
-    requires { ⌜ (2 * componentCount (now components) ≤ length (now stack)) × Zeros (now stack) ⌝ }
-    ensures { λ r. ⌜ ((ps fs : List ℤ) → Ready (now (components .entry)) ps fs (now (fed .entry)) (now (backward .entry)) (now (inferred .entry)) →
-        r ≡ leftAfter left (length (inputsText (now (components .entry)) ps fs (now (rows .entry))))) × Zeros (now (stack .exit)) ⌝ }
+    requires { ⌜ ((ps fs : List ℤ) × Ready (now components) ps fs (now fed) (now labels) (now upstream)) ⌝ }
+    ensures { λ r. ⌜ ((ps fs : List ℤ) → Ready (now (components .entry)) ps fs (now (fed .entry)) (now (labels .entry)) (now (upstream .entry)) →
+        r ≡ leftAfter left (length (inputsText (now (components .entry)) ps fs (now (rows .entry))))) ⌝ }
 {
     let mut rest = left_after(left, count_length(INPUTS, (rows.len() / 3) as u64));
     let mut k: usize = 0;
@@ -157,12 +128,11 @@ pub fn left_after_rows(
             keys,
             components,
             fed,
-            backward,
-            inferred,
+            labels,
+            upstream,
             rows[k],
             rows[k + 1],
             rows[k + 2],
-            stack,
         );
         k += 3;
     }

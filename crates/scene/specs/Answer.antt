@@ -7,10 +7,8 @@ use mathlib.Core.List.{List, [], _∷_, _++_, map}
 use lib.ListN.{length, take, drop}
 use lib.IntN.{ℤ, pos}
 use Rattle.lists.specs.Limits.{portWidth}
-use Rattle.lists.specs.Refusals.{portsRefusal}
+use Rattle.lists.specs.Refusals.{portsRefusal, refusalNumbers, numbersBy}
 use Rattle.lists.specs.Slices.{laid, leftOf}
-use Rattle.lists.specs.declared.Refusal.{Refusal}
-use Rattle.lists.specs.declared.Checked.{Checked}
 use Rattle.lists.specs.declared.Checked.the-variants as checked
 use Rattle.scene.specs.Kept.{keptRows, keptCount}
 use Rattle.scene.specs.declared.connections.Selected.{Selected}
@@ -34,22 +32,14 @@ pub record AllKept (cs ps out out′ : List ℤ) (r : ℕ) : Type 0 where
 
 -- ---- what the entry answers
 
--- number, list, item
-abbrev pub refusalNumbers : Refusal → List ℕ
-refusalNumbers r = r .number ∷ r .list ∷ r .item ∷ []
-
 -- the numbers of each case: 0 and the count, or those of the refusal
 abbrev pub answerOf : Selected → List ℕ
 answerOf (Kept count) = 0 ∷ count ∷ []
 answerOf (Refused r) = refusalNumbers r
 
-abbrev pub answerBy : Checked → ℕ → List ℕ
-answerBy checked.Accepted count = 0 ∷ count ∷ []
-answerBy (checked.Refused r) count = refusalNumbers r
-
 -- the answer for these lists and a lent slice of n numbers
 abbrev pub portsAnswer : List ℤ → List ℤ → ℕ → List ℕ
-portsAnswer cs ps n = answerBy (portsRefusal cs ps n) (keptCount cs ps)
+portsAnswer cs ps n = numbersBy (portsRefusal cs ps n) (keptCount cs ps ∷ [])
 
 pub record Answered (cs ps out out′ : List ℤ) (r : Selected) : Type 0 where
   pub answer : answerOf r ≡ portsAnswer cs ps (length out)

@@ -20,17 +20,18 @@ use Rattle.sheet.specs.declared.Reading.the-variants.{Read, Refused}
 
 module _ (p : Parsed) (a b c : List ℤ) where
   pub faulty : {r : Refusal} → p ≡ Faulty r → SheetRead p a a b b c c (Refused r)
-  faulty e = record { answer = rw e; components-left = rw e; connections-left = rw e; frontiers-left = rw e }
+  faulty e = record { answer = rw e; numbers = rw e; components-left = rw e; connections-left = rw e; frontiers-left = rw e }
 
   module _ {cs ps fs : List ℤ} (e : p ≡ Lists cs ps fs) where
     pub short : enoughRoom cs ps fs (length a) (length b) (length c) ≡ false → SheetRead p a a b b c c (Refused (record { number = 2; list = 3; item = 0 }))
-    short h = record { answer = rw (e, h); components-left = rw (e, h); connections-left = rw (e, h); frontiers-left = rw (e, h) }
+    short h = record { answer = rw (e, h); numbers = rw (e, h); components-left = rw (e, h); connections-left = rw (e, h); frontiers-left = rw (e, h) }
 
     pub read : {a′ b′ c′ : List ℤ} {x y z : ℕ} → enoughRoom cs ps fs (length a) (length b) (length c) ≡ true → AllLaid cs ps fs a a′ b b′ c c′
         → x ≡ componentCount cs → y ≡ connectionCount ps → z ≡ frontierCount fs
         → SheetRead p a a′ b b′ c c′ (Read (record { components = x; connections = y; frontiers = z }))
     read h l k m n = record {
       answer = rw (e, h, k, m, n);
+      numbers = rw (e, h, k, m, n);
       components-left = rw (e, h) (l .of-components);
       connections-left = rw (e, h) (l .of-connections);
       frontiers-left = rw (e, h) (l .of-frontiers);

@@ -7,6 +7,7 @@ use lib.IntN.{ℤ, pos, negsuc}
 use Rattle.lines.specs.Text.{ascii}
 use Rattle.lines.specs.Decimal.{digitsThen}
 use Rattle.lines.specs.Line.{readDigits, readEnd, readMagnitude, readNumber, readLine}
+use Rattle.lists.specs.Limits.{componentLimit}
 use Rattle.sheet.specs.Sheet.{readFields, readList, Parsed, Lists, Faulty, badLine, overLimit, parse}
 use Rattle.sheet.specs.Writing.{fieldLines, sheetOf}
 
@@ -101,6 +102,6 @@ unfolding parse readList readFields readLine readNumber readMagnitude readDigits
 fault-before = refl
 
 -- limits above those of a scene are cut
-cut : parse 4096 65536 65536 (ascii "components=1025\n") ≡ Faulty (overLimit 0 1024)
+cut : parse 4294967295 65536 65536 (ascii "components=4294967295\n") ≡ Faulty (overLimit 0 componentLimit)
 unfolding parse readList readLine readNumber readMagnitude readDigits
 cut = refl

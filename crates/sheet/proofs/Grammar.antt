@@ -15,13 +15,14 @@ use lib.IntN.{ℤ, pos}
 use lib.ListN.{length}
 use borrow.Author.Tests.{leb-true}
 use Rattle.lines.specs.Decimal.{limit as largest, lineOf}
-use Rattle.lines.specs.Line.{Taken, taken, refused, readLine}
+use Rattle.lines.specs.Line.{Taken, taken, refused, readLine, natural}
+use Rattle.lines.proofs.Counting.{natural-taken}
 use Rattle.lines.proofs.Grammar.{read-write, write-read}
 use Rattle.lists.specs.Limits.{componentLimit, connectionLimit, frontierLimit}
 use Rattle.sheet.specs.Keys.{componentKeys, connectionKeys, frontierKeys, fieldKey, countKey, keysOf}
-use Rattle.sheet.specs.Sheet.{Fields, got, stop, after, onward, readFields, Part, part, fault, fieldsFrom, natural, counted, readList, Parsed, Lists, _then_, ended, parse}
+use Rattle.sheet.specs.Sheet.{Fields, got, stop, after, onward, readFields, Part, part, fault, fieldsFrom, counted, readList, Parsed, Lists, _then_, ended, parse}
 use Rattle.sheet.specs.Writing.{fieldLines, listLines, sheetOf, AllInRange, Writable, WithinLimits}
-use Rattle.sheet.proofs.Counting.{natural-taken, list-fields}
+use Rattle.sheet.proofs.Counting.{list-fields}
 use Rattle.sheet.proofs.Chain.{all-lists}
 
 -- ---- a run of lines

@@ -4,12 +4,12 @@
 use Prim.Native.Nat.{ℕ}
 use mathlib.Core.Path.{_≡_}
 use mathlib.Core.Bool.{Bool, _&&_}
-use mathlib.Core.List.{List, []}
+use mathlib.Core.List.{List, [], _∷_}
 use lib.IntN.{ℤ}
 use lib.ListN.{length}
 use Rattle.lists.specs.Limits.{componentWidth, connectionWidth, frontierWidth}
 use Rattle.lists.specs.Records.{componentCount, connectionCount, frontierCount}
-use Rattle.lists.specs.Refusals.{refuse, tooShort, roomFor}
+use Rattle.lists.specs.Refusals.{refuse, tooShort, roomFor, refusalNumbers, numbersBy}
 use Rattle.lists.specs.Slices.{leftOf}
 use Rattle.lists.specs.declared.Checked.{Checked}
 use Rattle.lists.specs.declared.Checked.the-variants as checked
@@ -57,9 +57,16 @@ abbrev pub readingOf : Checked → Counts → Reading
 readingOf checked.Accepted counts = Read counts
 readingOf (checked.Refused r) counts = Refused r
 
+-- the paper's numbers of each case: 0 and how many records each list has, or those of the refusal
+abbrev pub numbersOf : Reading → List ℕ
+numbersOf (Read counts) = 0 ∷ counts .components ∷ counts .connections ∷ counts .frontiers ∷ []
+numbersOf (Refused r) = refusalNumbers r
+
 -- from a parsed text and three lent work lists
 pub record SheetRead (p : Parsed) (components components′ connections connections′ frontiers frontiers′ : List ℤ) (r : Reading) : Type 0 where
   pub answer : r ≡ readingOf (sheetChecked p (length components) (length connections) (length frontiers)) (countsOf p)
+  pub numbers : numbersOf r ≡ numbersBy (sheetChecked p (length components) (length connections) (length frontiers))
+      (componentCount (componentsOf p) ∷ connectionCount (connectionsOf p) ∷ frontierCount (frontiersOf p) ∷ [])
   pub components-left : components′ ≡ leftOf (sheetChecked p (length components) (length connections) (length frontiers)) (componentsOf p) components
   pub connections-left : connections′ ≡ leftOf (sheetChecked p (length components) (length connections) (length frontiers)) (connectionsOf p) connections
   pub frontiers-left : frontiers′ ≡ leftOf (sheetChecked p (length components) (length connections) (length frontiers)) (frontiersOf p) frontiers

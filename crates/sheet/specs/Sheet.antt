@@ -9,9 +9,9 @@ use Prim.Native.Nat.{ℕ, zero, suc, _+_, _*_, min}
 use mathlib.Core.Bool.{cond}
 use mathlib.Core.List.{List, [], _∷_}
 use lib.Dec.{leb}
-use lib.IntN.{ℤ, pos, negsuc}
+use lib.IntN.{ℤ}
 use lib.ListN.{length}
-use Rattle.lines.specs.Line.{Taken, taken, refused, readLine}
+use Rattle.lines.specs.Line.{Taken, taken, refused, readLine, natural}
 use Rattle.lists.specs.Limits.{componentLimit, connectionLimit, frontierLimit}
 use Rattle.lists.specs.declared.Refusal.{Refusal}
 use Rattle.sheet.specs.Keys.{fieldKey, countKey, keysOf}
@@ -57,12 +57,6 @@ overLimit list limit = record { number = 1; list = list; item = limit }
 abbrev pub fieldsFrom : ℕ → Fields → Part
 fieldsFrom line (got zs s) = part zs s (line + length zs)
 fieldsFrom line (stop k) = fault (badLine (line + k))
-
--- a count is not negative
-abbrev pub natural : Taken ℤ → Taken ℕ
-natural (taken (pos n) s) = taken n s
-natural (taken (negsuc n) s) = refused
-natural refused = refused
 
 -- the list of a count that was read, or not, at a line of the sheet
 abbrev pub counted : ℕ → ℕ → ℕ → Taken ℕ → Part

@@ -3,7 +3,6 @@ use lines::known::known_number;
 use lines::read::Line;
 use lines::read::Number;
 use lines::read::Skip;
-use lines::read::read_magnitude;
 use lines::read::read_number;
 use lines::read::skip_key;
 use lists::COMPONENT;
@@ -13,8 +12,7 @@ ghost use mathlib.Core.Path.{_≡_};
 ghost use Prim.Native.Nat.{_≤_, _<_};
 ghost use lib.ListN.{length, getD, drop};
 ghost use mathlib.Core.List.{[]};
-ghost use Rattle.lines.specs.Line.{Accepted, readLine, numberIn, lineIn, Skipped};
-ghost use Rattle.sheet.specs.Sheet.{natural};
+ghost use Rattle.lines.specs.Line.{Accepted, readLine, natural, numberIn, lineIn, Skipped};
 ghost use Rattle.sheet.specs.Keys.{componentKeys, connectionKeys, frontierKeys, fieldKey, countKey, keysOf};
 
 // How many numbers a record has.
@@ -30,30 +28,17 @@ pub fn width(list: u64) -> usize
     FRONTIER
 }
 
-// The key of a list's count.
-fn skip_count(text: &[u8], at: usize, list: u64) -> Skip
-    requires { ⌜ at ≤ length (now text) ⌝ }
-    ensures { λ r. ⌜ Skipped (now (text .entry)) at (countKey list) r ⌝ }
-{
-    if list == 0 {
-        return skip_key(text, at, b"components");
-    }
-    if list == 1 {
-        return skip_key(text, at, b"connections");
-    }
-    skip_key(text, at, b"frontiers")
-}
-
-// The line of a list's count, which has no minus.
+// The line of a list's count.
 pub fn read_count(text: &[u8], at: usize, list: u64) -> Number
-    requires { ⌜ at ≤ length (now text) ⌝ }
     ensures { λ r. ⌜ r ≡ numberIn (length (now (text .entry))) (natural (readLine (countKey list) (drop at (now (text .entry))))) ⌝ }
 {
-    let s = skip_count(text, at, list);
-    match s {
-        Skip::To(p) => read_magnitude(text, p),
-        Skip::No => Number::Not,
+    if list == 0 {
+        return lines::read::read_count(text, at, b"components");
     }
+    if list == 1 {
+        return lines::read::read_count(text, at, b"connections");
+    }
+    lines::read::read_count(text, at, b"frontiers")
 }
 
 // The key of field j of a component.

@@ -17,7 +17,7 @@ use Rattle.lists.specs.declared.Found.the-variants.{At, Nothing}
 use Rattle.lists.proofs.Search.{never}
 use Rattle.signals.specs.Sources.{sourceKind}
 use Rattle.signals.specs.Verdicts.{rowIf, kindRow}
-use Rattle.signals.specs.Rows.{Put, Scanned, deviceRows, kindRows, firstRequired, requiredCount, sourcesOf}
+use Rattle.signals.specs.Rows.{Put, Scanned, deviceRows, firstRequired, requiredCount, rowsOf, sourcesOf}
 use Rattle.signals.proofs.Written.{put-nothing, put-more}
 
 -- ---- the ports of a device
@@ -107,9 +107,9 @@ row-none test id kind e = rw e
 
 -- ---- numbers read from the list
 
-pub rows-read : (id id′ kind kind′ member : ℕ) (fed : List ℕ) (drive potential : List Bool) → id ≡ id′ → kind ≡ kind′
-    → {at r : ℕ} {old new : List ℕ} → Put (kindRows id kind member fed drive potential) at old new r → Put (kindRows id′ kind′ member fed drive potential) at old new r
-rows-read id id′ kind kind′ member fed drive potential e f p = rw (← e, ← f) p
+pub rows-read : (id id′ kind kind′ : ℕ) (status : ℕ → ℕ) → id ≡ id′ → kind ≡ kind′
+    → {at r : ℕ} {old new : List ℕ} → Put (rowsOf id kind status) at old new r → Put (rowsOf id′ kind′ status) at old new r
+rows-read id id′ kind kind′ status e f p = rw (← e, ← f) p
 
 pub sources-read : (id id′ kind kind′ : ℕ) (frontier inferred : Bool) → id ≡ id′ → kind ≡ kind′
     → {at r : ℕ} {old new : List ℕ} → Put (sourcesOf id (sourceKind kind) frontier inferred) at old new r → Put (sourcesOf id′ (sourceKind kind′) frontier inferred) at old new r

@@ -1,9 +1,7 @@
 -- The keys of a slot in a rising table, and the ports that have a verdict row.
---     some-at, some-none                            what holds at a place holds at some; what holds nowhere does not
+--     some-at, some-found, some-none                what holds at a place holds at some, and the other way; what holds nowhere does not
 --     here, outside                                 a key of a slot, and where those of a slot stand
 --     fed-here, fed-past                            slotFed, by the first key that is not below the slot's
---     fed-by-here, fed-by-past                      slotFedBy, by the keys passed so far
---     status-..                                     the status of a slot by these tests
 --     first-none, first-low, first-past, count-..   the ports of a kind by ranges
 -- Assumes nothing.
 use mathlib.Core.Path.{_≡_, refl, sym, ap, _∙_}
@@ -19,9 +17,8 @@ use Rattle.tables.specs.Pairs.{span, pair}
 use Rattle.lists.specs.First.{firstFrom, isFound, some}
 use Rattle.lists.specs.declared.Found.{Found}
 use Rattle.lists.specs.declared.Found.the-variants.{At, Nothing}
-use Rattle.lists.proofs.Search.{never, none-found, first-nothing}
-use Rattle.regions.specs.Graph.{marked}
-use Rattle.signals.specs.Rows.{firstRequired, requiredCount, slotFed, slotFedBy, slotStatus}
+use Rattle.lists.proofs.Search.{never, none-found, first-nothing, found-at}
+use Rattle.signals.specs.Rows.{firstRequired, requiredCount, slotFed}
 
 -- ---- at some place
 
@@ -36,6 +33,13 @@ module _ (test : ℕ → Bool) (n : ℕ) where
   pub some-none : ((p : ℕ) → p < n → test p ≡ false) → some test n ≡ false
   some-none none = ap isFound (first-nothing test 0 n (λ p a b. none p (omega arith)))
 
+  pub some-found : some test n ≡ true → (p : ℕ) × (p < n) × (test p ≡ true)
+  some-found e = go (firstFrom test 0 n) refl e
+    where
+      go : (x : Found) → firstFrom test 0 n ≡ x → isFound x ≡ true → (p : ℕ) × (p < n) × (test p ≡ true)
+      go (At p) q t = let f = found-at test 0 n p q in (p, omega (arith, f .below), f .passes)
+      go Nothing q t = never t
+
 -- ---- the keys of a slot
 
 pub and-true : (a b : Bool) → a ≡ true → b ≡ true → (a && b) ≡ true
@@ -49,12 +53,6 @@ module _ (keys : List ℕ) (slot : ℕ) where
   pub fed-here : (k : ℕ) → k < length keys → getD keys k 0 / span ≡ slot → slotFed keys slot ≡ true
   unfolding slotFed
   fed-here k h e = some-at (λ a. member (pair slot a) keys) span (getD keys k 0 % span) (omega arith) (here k h e)
-
-  pub fed-by-here : (flags : List Bool) (k : ℕ) → k < length keys → getD keys k 0 / span ≡ slot → marked flags (getD keys k 0 % span) ≡ true → slotFedBy keys slot flags ≡ true
-  unfolding slotFedBy
-  fed-by-here flags k h e m =
-      some-at (λ a. member (pair slot a) keys && marked flags a) span (getD keys k 0 % span) (omega arith)
-      (and-true (member (pair slot (getD keys k 0 % span)) keys) (marked flags (getD keys k 0 % span)) (here k h e) m)
 
   module _ (rising : Ascending keys) {first : ℕ} (low : LowerBound keys (slot * span) first) where
     -- no key of the slot stands before the first place, nor from a place on whose key is of another slot
@@ -76,45 +74,6 @@ module _ (keys : List ℕ) (slot : ℕ) where
     fed-past past =
         some-none (λ a. member (pair slot a) keys) span
         (λ a l. member-none (pair slot a) keys (λ k h e. let o = outside first (omega arith) past k h (omega arith) in omega (arith, o .0, o .1)))
-
-    pub fed-by-past : (flags : List Bool) (at : ℕ) → first ≤ at → (at < length keys → getD keys at 0 / span ≡ slot → ⊥)
-        → ((k : ℕ) → first ≤ k → k < at → marked flags (getD keys k 0 % span) ≡ false) → slotFedBy keys slot flags ≡ false
-    unfolding slotFedBy
-    fed-by-past flags at le past dark = some-none (λ a. member (pair slot a) keys && marked flags a) span (λ a l. go a l (marked flags a) refl)
-      where
-        and-false : (t : Bool) → (t && false) ≡ false
-        and-false true = refl
-        and-false false = refl
-
-        go : (a : ℕ) → a < span → (t : Bool) → marked flags a ≡ t → (member (pair slot a) keys && t) ≡ false
-        go a l false m = and-false (member (pair slot a) keys)
-        go a l true m =
-            ap (λ (t : Bool). t && true)
-            (member-none (pair slot a) keys (λ k h e.
-            let o = outside at le past k h (omega arith) in
-            let same : getD keys k 0 % span ≡ a = omega arith in
-            never (sym (dark k (o .0) (o .1)) ∙ ap (marked flags) same ∙ m)))
-
--- ---- the status of a slot
-
-module _ (keys : List ℕ) (slot : ℕ) (drive potential : List Bool) where
-  pub status-unfed : slotFed keys slot ≡ false → slotStatus keys slot drive potential ≡ 2
-  unfolding slotStatus
-  status-unfed e = rw e
-
-  module _ (fed : slotFed keys slot ≡ true) where
-    pub status-driven : slotFedBy keys slot drive ≡ true → slotStatus keys slot drive potential ≡ 0
-    unfolding slotStatus
-    status-driven e = rw (fed, e)
-
-    module _ (undriven : slotFedBy keys slot drive ≡ false) where
-      pub status-awaiting : slotFedBy keys slot potential ≡ true → slotStatus keys slot drive potential ≡ 1
-      unfolding slotStatus
-      status-awaiting e = rw (fed, undriven, e)
-
-      pub status-unknown : slotFedBy keys slot potential ≡ false → slotStatus keys slot drive potential ≡ 3
-      unfolding slotStatus
-      status-unknown e = rw (fed, undriven, e)
 
 -- ---- the ports of a kind that have a row
 

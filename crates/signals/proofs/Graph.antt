@@ -40,7 +40,7 @@ use Rattle.signals.proofs.Ends.{members-small, EndsWithin}
 -- ---- tests of pairs
 
 -- two numbers in a base are equal where their parts are
-parts-same : (base x y a b : ℕ) → (x * base + y ≡ a * base + b → (x ≡ a) × (y ≡ b)) → eqb (x * base + y) (a * base + b) ≡ (eqb x a && eqb y b)
+pub parts-same : (base x y a b : ℕ) → (x * base + y ≡ a * base + b → (x ≡ a) × (y ≡ b)) → eqb (x * base + y) (a * base + b) ≡ (eqb x a && eqb y b)
 parts-same base x y a b parts =
     ⊎-elim
     (λ (p : x ≡ a). ⊎-elim
@@ -62,7 +62,7 @@ key-same : (t : Bool) (x y nowhere a b : ℕ) → (t ≡ true → y < span) → 
 key-same true x y nowhere a b h n l = pair-same x y a b (h refl) l
 key-same false x y nowhere a b h n l = ne-eqb (pair nowhere 0) (pair a b) (λ e. omega arith)
 
-and-turn : (t a b : Bool) → (t && (a && b)) ≡ (t && (b && a))
+pub and-turn : (t a b : Bool) → (t && (a && b)) ≡ (t && (b && a))
 and-turn false a b = refl
 and-turn true true true = refl
 and-turn true true false = refl

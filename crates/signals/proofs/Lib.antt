@@ -3,9 +3,12 @@
 --     Positions                         where components that ascend part
 --     Marks, Frontiers, Stores, Lent    flags and numbers, stored place by place
 --     Neighbours                        the neighbours seen
---     Staged                            the stages give `labels`, `isCyclic`, `drive`, `potential`
+--     Staged                            the stages give `labels` and `isCyclic`
 --     Within                            the signals of a scene stay within its members
---     Fed, Statuses                     the keys of a slot, and its status
+--     Sinks                             flags by the region of a connection's sink
+--     Crossed, Reached                  the pairs of regions that signals lead from and to; marks carried along them give `drive`, `potential`
+--     Fed, Places, Statuses             the keys and the flags of a slot, and its status
+--     UpRows                            the rows of what is upstream of each region
 --     Written, Devices, Required, RowLaws   the rows written are those of the document
 pub mod Tabulated
 pub mod Ends
@@ -18,9 +21,14 @@ pub mod Stores
 pub mod Lent
 pub mod Staged
 pub mod Within
+pub mod Sinks
+pub mod UpRows
 pub mod Fed
+pub mod Places
 pub mod Written
 pub mod Devices
 pub mod Statuses
 pub mod Required
 pub mod RowLaws
+pub mod Crossed
+pub mod Reached

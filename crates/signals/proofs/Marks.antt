@@ -1,11 +1,11 @@
--- Arrays of flags and counts, and sets, a place at a time.
+-- Arrays of flags and counts, a place at a time.
 --     set-marked                                       a flag that is set
 --     flags-none, flags-more                           `Flags`: one flag written more
+--     by-none, by-or, by-more                          `GatheredBy`: one test more
 --     gathered-none, gathered-or                       `Gathered`: one test more
 --     counted-none, counted-more, counted-most         `Counted`: one index more
---     set-none, set-if                                 `SetOf`: one flag more
 -- Assumes nothing.
-use mathlib.Core.Path.{_≡_, refl, sym, ap, _∙_, subst}
+use mathlib.Core.Path.{_≡_, sym, ap, _∙_}
 use mathlib.Core.Bool.{Bool, true, false, _&&_, _||_}
 use mathlib.Core.List.{List}
 use mathlib.Core.Logic.{⊎-elim}
@@ -16,13 +16,13 @@ use lib.Dec.{eqb}
 use lib.ListN.{length, getD, set, replicate, length-set, length-replicate, getD-replicate}
 use lib.Seq.{getD-set-same, getD-set-other, set-getD}
 use borrow.Author.Tests.{eq-eqb, ne-eqb}
-use Rattle.sets.specs.Members.{memberOf, countBelow, Inserted, InsertedIf}
+use Rattle.sets.specs.Members.{countBelow}
 use Rattle.sets.proofs.Counts.{count-suc, count-le}
 use Rattle.tables.specs.Laws.{same?}
 use Rattle.lists.specs.First.{firstFrom}
 use Rattle.lists.proofs.Search.{or-true, or-false, some-more}
 use Rattle.regions.specs.Graph.{marked}
-use Rattle.signals.specs.Flags.{Flags, Gathered, Counted, SetOf}
+use Rattle.signals.specs.Flags.{Flags, Gathered, GatheredBy, Counted}
 
 pub set-marked : (l : List Bool) (i j : ℕ) → i < length l → marked (set l i true) j ≡ (marked l j || eqb i j)
 set-marked l i j h =
@@ -47,35 +47,36 @@ flags-more {P} {out} p f h v e = record {
 
 -- ---- flags by index
 
+-- a flag that is set where the value holds, without a branch on it
+or-marked : (l : List Bool) (i j : ℕ) (v : Bool) → i < length l → marked (set l i (marked l i || v)) j ≡ (marked l j || (v && eqb i j))
+or-marked l i j true h = rw (← or-true (marked l i)) (set-marked l i j h)
+or-marked l i j false h = rw (← or-false (marked l i), set-getD l i false) (or-false (marked l j))
+
+module _ (index : ℕ → ℕ) (test : ℕ → Bool) where
+  pub by-none : (n : ℕ) → GatheredBy 0 index test (replicate n false)
+  unfolding firstFrom
+  by-none n = record { at = λ j h. getD-replicate n j false false (rw length-replicate at h) }
+
+  pub by-or : (p : ℕ) {out : List Bool} → GatheredBy p index test out → index p < length out
+      → GatheredBy (p + 1) index test (set out (index p) (marked out (index p) || test p))
+  by-or p {out} g l = record {
+    at = λ j h.
+        or-marked out (index p) j (test p) l ∙ ap (λ (t : Bool). t || (test p && eqb (index p) j)) (g .at j (rw length-set at h))
+        ∙ sym (some-more (λ q. test q && eqb (index q) j) p);
+  }
+
+  -- the same of an index and a test that were computed
+  pub by-more : (p : ℕ) {out : List Bool} → GatheredBy p index test out → (i : ℕ) (v : Bool) → i ≡ index p → v ≡ test p → i < length out
+      → GatheredBy (p + 1) index test (set out i (marked out i || v))
+  by-more p {out} g i v e f l = rw (e, f) (by-or p g (rw e at l))
+
 module _ (index : List ℕ) (tests : List Bool) where
   pub gathered-none : (n : ℕ) → Gathered 0 index tests (replicate n false)
-  unfolding firstFrom
-  gathered-none n = record { at = λ j h. getD-replicate n j false false (rw length-replicate at h) }
+  gathered-none n = record { at = by-none (λ p. getD index p 0) (marked tests) n .at }
 
-  module _ (p : ℕ) {out : List Bool} (g : Gathered p index tests out) where
-    gathered-set : marked tests p ≡ true → getD index p 0 < length out → Gathered (p + 1) index tests (set out (getD index p 0) true)
-    gathered-set e l = record {
-      at = λ j h.
-          set-marked out (getD index p 0) j l ∙ ap (λ (t : Bool). t || eqb (getD index p 0) j) (g .at j (rw length-set at h))
-          ∙ sym (some-more (λ q. marked tests q && eqb (getD index q 0) j) p ∙ rw e);
-    }
-
-    gathered-skip : marked tests p ≡ false → Gathered (p + 1) index tests out
-    gathered-skip e = record {
-      at = λ j h. g .at j h ∙ sym (some-more (λ q. marked tests q && eqb (getD index q 0) j) p ∙ rw e (sym (or-false _)));
-    }
-
-    -- one test more, without a branch on it
-    pub gathered-or : getD index p 0 < length out
-        → Gathered (p + 1) index tests (set out (getD index p 0) (marked out (getD index p 0) || marked tests p))
-    gathered-or l = go (marked tests p) refl
-      where
-        go : (t : Bool) → marked tests p ≡ t → Gathered (p + 1) index tests (set out (getD index p 0) (marked out (getD index p 0) || t))
-        go true e = subst (λ (b : Bool). Gathered (p + 1) index tests (set out (getD index p 0) b)) (or-true (marked out (getD index p 0))) (gathered-set e l)
-        go false e =
-            subst (λ (o : List Bool). Gathered (p + 1) index tests o)
-            (sym (ap (set out (getD index p 0)) (sym (or-false (marked out (getD index p 0)))) ∙ set-getD out (getD index p 0) false))
-            (gathered-skip e)
+  pub gathered-or : (p : ℕ) {out : List Bool} → Gathered p index tests out → getD index p 0 < length out
+      → Gathered (p + 1) index tests (set out (getD index p 0) (marked out (getD index p 0) || marked tests p))
+  gathered-or p {out} g l = record { at = by-or (λ q. getD index q 0) (marked tests) p {out = out} (record { at = g .at }) l .at }
 
 -- ---- counts
 
@@ -100,35 +101,3 @@ module _ (index : List ℕ) where
           (λ (n : i ≡ j → ⊥). getD-set-other counts i j (getD counts i 0 + 1) 0 (λ e. n (sym e)) ∙ before ∙ sym (more ∙ rw (ne-eqb i j n) (add-zero _)))
           (same? i j);
     }
-
--- ---- sets
-
-pub set-none : (flags : List Bool) (words : List ℕ) → ((k : ℕ) → memberOf words k ≡ false) → SetOf 0 flags words
-set-none flags words e = record { member = λ k h. absurd (omega arith); past = λ k h. e k }
-
-module _ (k : ℕ) {flags : List Bool} {words : List ℕ} (s : SetOf k flags words) where
-  set-in : marked flags k ≡ true → (words′ : List ℕ) → Inserted words k words′ → SetOf (k + 1) flags words′
-  set-in e words′ i = record {
-    member = λ j h. ⊎-elim
-        (λ (same : j ≡ k). rw same (i .there ∙ sym e))
-        (λ (less : j < k). i .others j (λ q. omega arith) ∙ s .member j less)
-        (eq-or-lt-of-le (let m : j ≤ k = omega arith in m));
-    past = λ j h. i .others j (λ q. omega arith) ∙ s .past j (omega arith);
-  }
-
-  set-out : marked flags k ≡ false → SetOf (k + 1) flags words
-  set-out e = record {
-    member = λ j h. ⊎-elim
-        (λ (same : j ≡ k). rw same (s .past k (omega arith) ∙ sym e))
-        (λ (less : j < k). s .member j less)
-        (eq-or-lt-of-le (let m : j ≤ k = omega arith in m));
-    past = λ j h. s .past j (omega arith);
-  }
-
-  -- one flag more, without a branch on it
-  pub set-if : (words′ : List ℕ) → InsertedIf (marked flags k) words k words′ → SetOf (k + 1) flags words′
-  set-if words′ i = go (marked flags k) refl
-    where
-      go : (t : Bool) → marked flags k ≡ t → SetOf (k + 1) flags words′
-      go true e = set-in e words′ (i .put e)
-      go false e = subst (SetOf (k + 1) flags) (sym (i .kept e)) (set-out e)

@@ -34,14 +34,14 @@ or-false : (t : Bool) → (t || false) ≡ t
 or-false true = refl
 or-false false = refl
 
-or-left : {a : Bool} (b : Bool) → a ≡ true → (a || b) ≡ true
+pub or-left : {a : Bool} (b : Bool) → a ≡ true → (a || b) ≡ true
 or-left b e = ap (λ (t : Bool). t || b) e
 
-or-right : (a : Bool) {b : Bool} → b ≡ true → (a || b) ≡ true
+pub or-right : (a : Bool) {b : Bool} → b ≡ true → (a || b) ≡ true
 or-right true e = refl
 or-right false e = e
 
-either : (a b : Bool) → (a || b) ≡ true → (a ≡ true) ⊎ (b ≡ true)
+pub either : (a b : Bool) → (a || b) ≡ true → (a ≡ true) ⊎ (b ≡ true)
 either true b e = inl refl
 either false b e = inr e
 

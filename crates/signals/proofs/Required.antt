@@ -183,7 +183,7 @@ module _ (cs ps fs : List ℤ) (p : ℕ) where
 
 -- ---- the ports with a row, by their run
 
-and-none : (t : Bool) → (t && false) ≡ false
+pub and-none : (t : Bool) → (t && false) ≡ false
 and-none true = refl
 and-none false = refl
 

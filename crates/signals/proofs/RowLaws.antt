@@ -10,26 +10,25 @@ use mathlib.Core.List.{List, _++_}
 use Prim.Native.Nat.{ℕ, zero, suc, _+_, _≤_, _<_}
 use native.Mathlib.Omega.{arith}
 use lib.Dec.{eqb, leb}
+use lib.ListN.{getD}
 use lib.IntN.{ℤ}
 use borrow.Author.Tests.{eq-eqb, not-true}
 use Rattle.lists.specs.Limits.{componentLimit}
-use Rattle.lists.specs.Records.{component, componentCount}
+use Rattle.lists.specs.Records.{component, componentCount, portCount}
 use Rattle.lists.specs.Ids.{memberOf, firstEndMissing}
-use Rattle.lists.specs.Within.{PortConnections}
 use Rattle.lists.specs.declared.Found.the-variants.{Nothing}
 use Rattle.lists.specs.First.{isFound}
 use Rattle.lists.proofs.Members.{member-below}
 use Rattle.lists.proofs.Search.{never, both, or-true}
 use Rattle.regions.specs.Graph.{marked}
-use Rattle.signals.specs.Keys.{Settled, Slots, KeysOf, slot}
+use Rattle.signals.specs.Keys.{Settled}
 use Rattle.signals.specs.Flags.{Flags, Numbers, Indices}
 use Rattle.signals.specs.Sources.{sourceKind, onFrontier, isDrive}
 use Rattle.signals.specs.Regions.{wire, isInferred, hasDrive, regionAt, neighbours, fedFromOutside}
-use Rattle.signals.specs.Drive.{drive, potential}
-use Rattle.signals.specs.Verdicts.{statusOf, verdictRows, sourcesAt, sourceRowsBelow}
-use Rattle.signals.specs.Rows.{deviceRows, firstRequired, requiredCount, slotStatus, verdictsBelow, sourcesBelow, InferredAlone}
+use Rattle.signals.specs.Verdicts.{statusOf, verdictRows, inputRows, sourcesAt, sourceRowsBelow}
+use Rattle.signals.specs.Rows.{deviceRows, firstRequired, requiredCount, rowsBelow, sourcesBelow, InferredAlone}
+use Rattle.signals.specs.Places.{places, slotOf, SlotRoom, SlotFlags, LiveMarks, statusAt}
 use Rattle.signals.proofs.Fed.{some-at, and-true}
-use Rattle.signals.proofs.Graph.{noSlot}
 use Rattle.signals.proofs.Devices.{count-most, first-most}
 use Rattle.signals.proofs.Statuses.{status-is}
 use Rattle.signals.proofs.Required.{port-rows}
@@ -71,17 +70,23 @@ unfolding deviceRows
 rows-cong id first P Q zero h = refl
 rows-cong id first P Q (suc n) h = rw (rows-cong id first P Q n (λ j l. h j (omega arith)), h n (omega arith))
 
-module _ {cs ps : List ℤ} {sources sinks slots keys : List ℕ} (few : componentCount cs ≤ componentLimit) (w : PortConnections ps)
-    (s : Settled cs ps 0 sources) (t : Settled cs ps 2 sinks) (u : Slots ps sinks slots) (table : KeysOf ps slots sources noSlot keys)
-    (ends : firstEndMissing cs ps ≡ Nothing) (fs : List ℤ) {members : List ℕ} (numbers : Numbers (componentCount cs) (memberOf cs) members) where
-  pub verdicts-are : (n : ℕ) → n ≤ componentCount cs → verdictsBelow cs members keys (drive cs ps fs) (potential cs ps fs) n ≡ verdictRows cs ps fs n
-  unfolding verdictsBelow verdictRows
-  verdicts-are zero h = refl
-  verdicts-are (suc p) h =
-      let here : p < componentCount cs = omega arith in
+module _ (cs ps fs : List ℤ) (status : ℕ → ℕ → ℕ) (same : (p port : ℕ) → p < componentCount cs → port < places → status p port ≡ statusOf cs ps fs p port) where
+  by-status : (n : ℕ) → n ≤ componentCount cs → rowsBelow cs status n ≡ verdictRows cs ps fs n
+  unfolding rowsBelow verdictRows
+  by-status zero h = refl
+  by-status (suc p) h =
       let kind = component cs p .kind in
-      let status : ℕ → ℕ = λ port. slotStatus keys (slot (memberOf cs p) port) (drive cs ps fs) (potential cs ps fs) in
-      rw (verdicts-are p (omega arith), numbers .at p here, port-rows cs ps fs p)
+      rw (by-status p (omega arith), port-rows cs ps fs p)
       (ap (λ (r : List ℕ). verdictRows cs ps fs p ++ r)
-      (rows-cong (component cs p .id) (firstRequired kind) status (statusOf cs ps fs p) (requiredCount kind)
-      (λ j l. status-is few w s t u table ends p (firstRequired kind + j) here (omega (arith, count-most kind, first-most kind)) fs)))
+      (rows-cong (component cs p .id) (firstRequired kind) (status p) (statusOf cs ps fs p) (requiredCount kind)
+      (λ j l. same p (firstRequired kind + j) (omega arith) (omega (arith, count-most kind, first-most kind)))))
+
+module _ {cs ps : List ℤ} {sources sinks members : List ℕ} {drive potential fed driven possible : List Bool} (few : componentCount cs ≤ componentLimit)
+    (s : Settled cs ps 0 sources) (t : Settled cs ps 2 sinks) (ends : firstEndMissing cs ps ≡ Nothing) (numbers : Numbers (componentCount cs) (memberOf cs) members)
+    (f : SlotFlags (portCount ps) ps sources sinks drive potential fed driven possible) (room : SlotRoom fed driven possible) where
+  pub verdicts-are : (fs : List ℤ) → LiveMarks cs ps fs drive potential
+      → rowsBelow cs (λ p port. statusAt fed driven possible (slotOf (getD members p 0) port)) (componentCount cs) ≡ inputRows cs ps fs
+  verdicts-are fs live =
+      by-status cs ps fs (λ p port. statusAt fed driven possible (slotOf (getD members p 0) port))
+      (λ p port h l. ap (λ (m : ℕ). statusAt fed driven possible (slotOf m port)) (numbers .at p h) ∙ status-is few s t ends p port h l f room fs live)
+      (componentCount cs) (omega arith)

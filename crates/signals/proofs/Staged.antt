@@ -4,8 +4,7 @@
 --     source-ends, sink-ends           the settled ends of signal connections are nodes
 --     cyclic-is, cyclic-flags          the flags of the cyclic regions
 --     members-below, labels-placed     members and labels by list place
---     marks-are, reach-is              the gathered marks, and what they reach
---     drive-is, potential-is           reached from the drive sources, and from the inferred inputs too
+--     marks-are                        the gathered marks
 -- Assumes nothing.
 use mathlib.Core.Path.{_≡_, sym, ap, _∙_}
 use mathlib.Core.Bool.{Bool, false, _&&_, _||_}
@@ -25,17 +24,15 @@ use Rattle.lists.proofs.Members.{member-below}
 use Rattle.regions.specs.Graph.{Edges, at}
 use Rattle.regions.specs.Keys.{edges}
 use Rattle.regions.specs.Kosaraju as Kosaraju
-use Rattle.regions.specs.Kosaraju.{reached}
 use Rattle.regions.specs.Search.{Regions}
 use Rattle.regions.proofs.Theorems.{keys-regions}
 use Rattle.signals.specs.Signals.{isSignal, sourceMember, sinkMember, signals}
-use Rattle.signals.specs.Sources.{isDrive}
-use Rattle.signals.specs.Regions.{labels, regionCount, regionAt, isCyclic, isInferred}
-use Rattle.signals.specs.Drive.{membersWhere, drive, potential}
+use Rattle.signals.specs.Regions.{labels, regionCount, regionAt, isCyclic}
+use Rattle.signals.specs.Drive.{membersWhere}
 use Rattle.signals.specs.Keys.{Settled}
 use Rattle.signals.specs.Flags.{Flags, Numbers, Gathered, Indices}
 use Rattle.signals.specs.Seen.{SignalEnds}
-use Rattle.signals.specs.Stages.{ReachedBy, selfAt, cyclicAt}
+use Rattle.signals.specs.Stages.{selfAt, cyclicAt}
 use Rattle.signals.proofs.Tabulated.{first-cong, tabulated-length, tabulated-at}
 use Rattle.signals.proofs.Ends.{EndsWithin}
 use Rattle.signals.proofs.Graph.{source-at, sink-at, and-assoc}
@@ -97,7 +94,7 @@ module _ (cs ps : List ℤ) (keys : List ℕ) (graph : edges (componentCount cs)
         → Flags m (cyclicAt ps sources sinks numbers) flags → Flags m (isCyclic cs ps) flags
     cyclic-flags e f = record { long = f .long; at = λ r h. f .at r h ∙ ap (λ (l : List ℕ). cyclicAt ps sources sinks l r) e ∙ cyclic-is r }
 
--- ---- reach
+-- ---- by list place
 
 module _ (cs : List ℤ) {members : List ℕ} (numbers : Numbers (componentCount cs) (memberOf cs) members) where
   pub members-below : Indices (componentCount cs) (componentCount cs) members
@@ -117,22 +114,3 @@ module _ (cs : List ℤ) {members : List ℕ} (numbers : Numbers (componentCount
       g .at j h
       ∙ ap isFound (first-cong _ (test j) 0 n (λ p a b. rw (f .at p (omega arith), numbers .at p (omega arith))))
       ∙ sym (tabulated-at (λ m. some (test m) n) false n j (omega arith)))
-
-  module _ (ps : List ℤ) (keys : List ℕ) (graph : edges (componentCount cs) keys ≡ signals cs ps) where
-    pub reach-is : {P : ℕ → Bool} {flags visited : List Bool} {stack : List ℕ} → Flags (componentCount cs) P flags
-        → ReachedBy (componentCount cs) (edges (componentCount cs) keys) members flags visited stack
-        → visited ≡ reached (componentCount cs) (signals cs ps) (membersWhere cs P)
-    reach-is f r =
-        let n = componentCount cs in
-        r .visited-is ∙ ap (λ (g : Edges). reached n g (r .marks)) graph
-        ∙ ap (reached n (signals cs ps)) (marks-are f (r .marks-long) (r .gathered))
-
-    module _ (fs : List ℤ) {flags visited : List Bool} {stack : List ℕ}
-        (r : ReachedBy (componentCount cs) (edges (componentCount cs) keys) members flags visited stack) where
-      pub drive-is : Flags (componentCount cs) (isDrive cs fs) flags → visited ≡ drive cs ps fs
-      unfolding drive
-      drive-is f = reach-is f r
-
-      pub potential-is : Flags (componentCount cs) (λ p. isDrive cs fs p || isInferred cs ps fs p) flags → visited ≡ potential cs ps fs
-      unfolding potential
-      potential-is f = reach-is f r

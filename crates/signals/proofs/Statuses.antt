@@ -1,54 +1,49 @@
--- The status of a slot, found by the table of fed ports, is that of its port.
---     some-found, same-truth     what holds at some place holds at one; two truth values that imply each other
+-- Whether a port is fed, by the table of fed ports, and its status, by the flags of its slot.
+--     same-truth                 two truth values that imply each other
 --     fed-within                 what the table of fed ports names are members
---     fed-same, status-is        `slotFed`, `slotFedBy` and `slotStatus` by the connections
+--     fed-same                   `slotFed` by the connections
+--     slot-feeds, status-is      a port connection feeds a slot exactly where it feeds its port; so `statusAt` is `statusOf`
 -- Assumes nothing.
 use mathlib.Core.Path.{_≡_, refl, sym, ap, _∙_}
-use mathlib.Core.Bool.{Bool, true, false, _&&_}
+use mathlib.Core.Bool.{Bool, true, false, cond, _&&_}
 use mathlib.Core.List.{List}
+use mathlib.Core.Logic.{⊎-elim}
 use Prim.Native.Nat.{ℕ, _/_, _%_, _≤_, _<_}
 use native.Mathlib.Omega.{arith}
-use lib.Dec.{eqb}
-use lib.ListN.{getD}
+use lib.Dec.{eqb, ltb}
+use lib.ListN.{length, getD}
 use lib.IntN.{ℤ}
-use borrow.Author.Tests.{eqb-true, eq-eqb}
+use borrow.Author.Tests.{eqb-true, eq-eqb, ne-eqb, lt-ltb, le-ltb}
 use Rattle.tables.specs.Order.{member}
-use Rattle.tables.specs.Laws.{at-member}
+use Rattle.tables.specs.Laws.{order?, at-member}
 use Rattle.tables.specs.Pairs.{pair, span}
 use Rattle.lists.specs.Limits.{componentLimit}
 use Rattle.lists.specs.Records.{component, portConnection, componentCount, portCount}
-use Rattle.lists.specs.First.{firstFrom, isFound, some}
+use Rattle.lists.specs.First.{isFound, some}
 use Rattle.lists.specs.Ids.{memberOf, firstEndMissing}
 use Rattle.lists.specs.Within.{PortConnections}
-use Rattle.lists.specs.declared.Found.{Found}
-use Rattle.lists.specs.declared.Found.the-variants.{At, Nothing}
-use Rattle.lists.proofs.Search.{never, both, found-at}
+use Rattle.lists.specs.declared.Found.the-variants.{Nothing}
+use Rattle.lists.proofs.Search.{both}
+use Rattle.lists.proofs.Members.{member-below}
 use Rattle.regions.specs.Graph.{marked}
 use Rattle.signals.specs.Signals.{isSignal, sourceMember, sinkMember}
 use Rattle.signals.specs.Keys.{Settled, Slots, KeysOf, slot, ports}
-use Rattle.signals.specs.Drive.{drive, potential}
+use Rattle.signals.specs.Flags.{GatheredBy}
 use Rattle.signals.specs.Verdicts.{feedsPort, fedBy, statusOf}
-use Rattle.signals.specs.Rows.{slotFed, slotFedBy, slotStatus, FedWithin}
+use Rattle.signals.specs.Rows.{slotFed, FedWithin}
+use Rattle.signals.specs.Places.{places, slotOf, nobody, slotCount, slotAt, SlotRoom, SlotFlags, LiveMarks, statusAt}
 use Rattle.signals.proofs.Tabulated.{first-cong}
 use Rattle.signals.proofs.Ends.{ends-below, sink-is}
-use Rattle.signals.proofs.Graph.{feeds, noSlot, fed-at, hasPair, pairs-member, settled-small, source-at}
-use Rattle.signals.proofs.Fed.{some-at, and-true}
-
-pub some-found : (test : ℕ → Bool) (n : ℕ) → some test n ≡ true → (p : ℕ) × (p < n) × (test p ≡ true)
-some-found test n e = go (firstFrom test 0 n) refl e
-  where
-    go : (x : Found) → firstFrom test 0 n ≡ x → isFound x ≡ true → (p : ℕ) × (p < n) × (test p ≡ true)
-    go (At p) q t = let f = found-at test 0 n p q in (p, omega (arith, f .below), f .passes)
-    go Nothing q t = never t
+use Rattle.signals.proofs.Graph.{parts-same, and-turn, feeds, noSlot, fed-at, hasPair, pairs-member, settled-small, source-at, sink-at}
+use Rattle.signals.proofs.Fed.{some-found, some-at, and-true}
+use Rattle.signals.proofs.Required.{and-none}
 
 pub same-truth : (a b : Bool) → (a ≡ true → b ≡ true) → (b ≡ true → a ≡ true) → a ≡ b
 same-truth true b f g = sym (f refl)
 same-truth false true f g = g refl
 same-truth false false f g = refl
 
-and-unit : (t : Bool) → t ≡ (t && true)
-and-unit true = refl
-and-unit false = refl
+-- ---- the table of fed ports
 
 module _ {cs ps : List ℤ} {sources sinks slots keys : List ℕ} (few : componentCount cs ≤ componentLimit) (w : PortConnections ps)
     (s : Settled cs ps 0 sources) (t : Settled cs ps 2 sinks) (u : Slots ps sinks slots) (table : KeysOf ps slots sources noSlot keys)
@@ -83,54 +78,89 @@ module _ {cs ps : List ℤ} {sources sinks slots keys : List ℕ} (few : compone
       (and-true _ _ (sink-is cs ps ends k q (a .0) p h ∙ b .0)
       (and-true _ _ (b .1) (eq-eqb (sourceMember cs ps k) (sourceMember cs ps k) refl)))
 
-  to-port : (a k : ℕ) → k < portCount ps → feeds cs ps m port a k ≡ true → (feedsPort cs ps p port k ≡ true) × (sourceMember cs ps k ≡ a)
+  to-port : (a k : ℕ) → k < portCount ps → feeds cs ps m port a k ≡ true → feedsPort cs ps p port k ≡ true
   to-port a k q e =
       let b = both (isSignal ps k) _ e in
       let c = both (eqb (sinkMember cs ps k) m) _ (b .1) in
       let d = both (eqb (portConnection ps k .sinkPort) port) (eqb (sourceMember cs ps k) a) (c .1) in
-      (and-true _ _ (b .0) (and-true _ _ (sym (sink-is cs ps ends k q (b .0) p h) ∙ c .0) (d .0)), eqb-true (sourceMember cs ps k) a (d .1))
+      and-true _ _ (b .0) (and-true _ _ (sym (sink-is cs ps ends k q (b .0) p h) ∙ c .0) (d .0))
 
-  module _ (Q : ℕ → Bool) where
-    abbrev bySlot : ℕ → Bool
-    bySlot a = member (pair (slot m port) a) keys && Q a
+  abbrev bySlot : ℕ → Bool
+  bySlot a = member (pair (slot m port) a) keys
 
-    abbrev byPort : ℕ → Bool
-    byPort k = feedsPort cs ps p port k && Q (sourceMember cs ps k)
+  slot-port : some bySlot span ≡ true → some (feedsPort cs ps p port) (portCount ps) ≡ true
+  slot-port e =
+      let f = some-found bySlot span e in
+      let a = f .0 in
+      let g = some-found (feeds cs ps m port a) (portCount ps) (fed-at few w s t u table p port a h l (f .1) ∙ f .2) in
+      some-at (feedsPort cs ps p port) (portCount ps) (g .0) (g .1) (to-port a (g .0) (g .1) (g .2))
 
-    slot-port : some bySlot span ≡ true → some byPort (portCount ps) ≡ true
-    slot-port e =
-        let f = some-found bySlot span e in
-        let a = f .0 in
-        let b = both (member (pair (slot m port) a) keys) (Q a) (f .2) in
-        let g = some-found (feeds cs ps m port a) (portCount ps) (fed-at few w s t u table p port a h l (f .1) ∙ b .0) in
-        let c = to-port a (g .0) (g .1) (g .2) in
-        some-at byPort (portCount ps) (g .0) (g .1) (and-true _ _ (c .0) (ap Q (c .1) ∙ b .1))
-
-    port-slot : some byPort (portCount ps) ≡ true → some bySlot span ≡ true
-    port-slot e =
-        let f = some-found byPort (portCount ps) e in
-        let k = f .0 in
-        let b = both (feedsPort cs ps p port k) (Q (sourceMember cs ps k)) (f .2) in
-        let signal = both (isSignal ps k) _ (b .0) .0 in
-        let a = sourceMember cs ps k in
-        let small : a < span = omega (arith, ends-below cs ps ends k (f .1) signal .source-below) in
-        let fed = some-at (feeds cs ps m port a) (portCount ps) k (f .1) (to-slot k (f .1) (b .0)) in
-        some-at bySlot span a small (and-true _ _ (sym (fed-at few w s t u table p port a h l small) ∙ fed) (b .1))
-
-    both-same : some bySlot span ≡ some byPort (portCount ps)
-    both-same = same-truth (some bySlot span) (some byPort (portCount ps)) slot-port port-slot
-
-  pub fed-by-same : (flags : List Bool) → slotFedBy keys (slot m port) flags ≡ fedBy cs ps p port flags
-  unfolding slotFedBy fedBy
-  fed-by-same flags = both-same (marked flags)
+  port-slot : some (feedsPort cs ps p port) (portCount ps) ≡ true → some bySlot span ≡ true
+  port-slot e =
+      let f = some-found (feedsPort cs ps p port) (portCount ps) e in
+      let k = f .0 in
+      let signal = both (isSignal ps k) _ (f .2) .0 in
+      let a = sourceMember cs ps k in
+      let small : a < span = omega (arith, ends-below cs ps ends k (f .1) signal .source-below) in
+      let fed = some-at (feeds cs ps m port a) (portCount ps) k (f .1) (to-slot k (f .1) (f .2)) in
+      some-at bySlot span a small (sym (fed-at few w s t u table p port a h l small) ∙ fed)
 
   pub fed-same : slotFed keys (slot m port) ≡ some (feedsPort cs ps p port) (portCount ps)
   unfolding slotFed
-  fed-same =
-      ap isFound (first-cong (λ a. member (pair (slot m port) a) keys) (bySlot (λ a. true)) 0 span (λ a x y. and-unit (member (pair (slot m port) a) keys)))
-      ∙ both-same (λ a. true)
-      ∙ ap isFound (first-cong (byPort (λ a. true)) (feedsPort cs ps p port) 0 (portCount ps) (λ k x y. sym (and-unit (feedsPort cs ps p port k))))
+  fed-same = same-truth (some bySlot span) (some (feedsPort cs ps p port) (portCount ps)) slot-port port-slot
 
-  pub status-is : (fs : List ℤ) → slotStatus keys (slot m port) (drive cs ps fs) (potential cs ps fs) ≡ statusOf cs ps fs p port
-  unfolding slotStatus statusOf
-  status-is fs = rw (fed-same, fed-by-same (drive cs ps fs), fed-by-same (potential cs ps fs))
+-- ---- flags of slots
+
+module _ {cs ps : List ℤ} {sources sinks : List ℕ} (few : componentCount cs ≤ componentLimit) (s : Settled cs ps 0 sources) (t : Settled cs ps 2 sinks)
+    (ends : firstEndMissing cs ps ≡ Nothing) (p port : ℕ) (h : p < componentCount cs) (l : port < places) where
+  abbrev j : ℕ
+  j = slotOf (memberOf cs p) port
+
+  slot-below : j < nobody
+  slot-below = omega (arith, member-below cs p h)
+
+  other : eqb nobody j ≡ false
+  other = ne-eqb nobody j (λ e. omega (arith, slot-below))
+
+  module _ (k : ℕ) (q : k < portCount ps) where
+    abbrev fedPort : ℕ
+    fedPort = portConnection ps k .sinkPort
+
+    abbrev sinksHere : Bool
+    sinksHere = eqb (portConnection ps k .sink) (component cs p .id)
+
+    by-signal : (signal : Bool) → isSignal ps k ≡ signal
+        → eqb (cond (signal && ltb fedPort places) (slotOf (getD sinks k 0) fedPort) nobody) j ≡ (signal && (sinksHere && eqb fedPort port))
+    by-signal false e = other
+    by-signal true e =
+        ⊎-elim
+        (λ (past : places ≤ fedPort). rw (le-ltb fedPort places past, ne-eqb fedPort port (λ x. omega arith)) (other ∙ sym (and-none sinksHere)))
+        (λ (here : fedPort < places).
+        rw (lt-ltb fedPort places here, sink-at few s t k q)
+        (parts-same places (sinkMember cs ps k) fedPort (memberOf cs p) port (λ x. (omega arith, omega arith)) ∙ ap (λ (b : Bool). b && eqb fedPort port) (sink-is cs ps ends k q e p h)))
+        (order? places fedPort)
+
+    slot-feeds : eqb (slotAt ps k (getD sinks k 0)) j ≡ feedsPort cs ps p port k
+    unfolding slotAt
+    slot-feeds = by-signal (isSignal ps k) refl
+
+  flag-is : (marks : List Bool) {flags : List Bool} → GatheredBy (portCount ps) (λ k. slotAt ps k (getD sinks k 0)) (λ k. marked marks (getD sources k 0)) flags
+      → length flags ≡ slotCount → marked flags j ≡ fedBy cs ps p port marks
+  unfolding fedBy
+  flag-is marks {flags} g long =
+      g .at j (omega (arith, slot-below))
+      ∙ ap isFound (first-cong (λ k. marked marks (getD sources k 0) && eqb (slotAt ps k (getD sinks k 0)) j) (λ k. feedsPort cs ps p port k && marked marks (sourceMember cs ps k)) 0 (portCount ps) (λ k a b.
+      let here : k < portCount ps = omega arith in
+      rw (slot-feeds k here, source-at few s t k here) (and-turn true (marked marks (sourceMember cs ps k)) (feedsPort cs ps p port k))))
+
+  module _ {drive potential fed driven possible : List Bool} (f : SlotFlags (portCount ps) ps sources sinks drive potential fed driven possible)
+      (room : SlotRoom fed driven possible) where
+    fed-is : marked fed j ≡ some (feedsPort cs ps p port) (portCount ps)
+    fed-is =
+        f .fed-flags .at j (omega (arith, slot-below, room .fed-room))
+        ∙ ap isFound (first-cong (λ k. eqb (slotAt ps k (getD sinks k 0)) j) (feedsPort cs ps p port) 0 (portCount ps) (λ k a b. slot-feeds k (omega arith)))
+
+    pub status-is : (fs : List ℤ) → LiveMarks cs ps fs drive potential → statusAt fed driven possible j ≡ statusOf cs ps fs p port
+    unfolding statusAt statusOf
+    status-is fs live =
+        rw (fed-is, flag-is drive (f .driven-flags) (room .driven-room), flag-is potential (f .possible-flags) (room .possible-room), live .drive-is, live .potential-is)

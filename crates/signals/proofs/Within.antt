@@ -1,26 +1,24 @@
 -- The signals of an accepted scene lead from member to member, so the laws of the regions hold of them.
---     sinks-below                         the regions of the sinks are below a bound of the labels
+--     signal-at, at-signal                an edge is a signal connection
 --     signals-within                      the ends of a signal are members
 --     scene-regions                       the laws of its regions
 --     labels-count, label-under           a label for each member, below their number
 --     labels-under                        all of them
 --     places-under                        the regions of the components, by list place
 -- Assumes nothing.
-use mathlib.Core.Path.{_≡_, refl}
-use mathlib.Core.Bool.{Bool, true, false, _&&_}
+use mathlib.Core.Path.{_≡_}
+use mathlib.Core.Bool.{true, _&&_}
 use mathlib.Core.List.{List}
 use Prim.Native.Nat.{ℕ, _≤_, _<_}
 use native.Mathlib.Omega.{arith}
 use lib.Dec.{eqb}
-use lib.ListN.{length, getD}
+use lib.ListN.{length}
 use lib.IntN.{ℤ}
-use borrow.Author.Tests.{eqb-true}
+use borrow.Author.Tests.{eqb-true, eq-eqb}
 use Rattle.lists.specs.Records.{componentCount, portCount}
-use Rattle.lists.specs.First.{firstFrom, isFound}
 use Rattle.lists.specs.Ids.{firstEndMissing}
-use Rattle.lists.specs.declared.Found.{Found}
-use Rattle.lists.specs.declared.Found.the-variants.{At, Nothing}
-use Rattle.lists.proofs.Search.{never, both, found-at}
+use Rattle.lists.specs.declared.Found.the-variants.{Nothing}
+use Rattle.lists.proofs.Search.{both}
 use Rattle.lists.proofs.Members.{member-below}
 use Rattle.regions.specs.Graph.{Within, at}
 use Rattle.regions.specs.Theorems.{RegionLaws}
@@ -28,34 +26,33 @@ use Rattle.regions.proofs.Theorems.{region-laws}
 use Rattle.signals.specs.Signals.{isSignal, sourceMember, sinkMember, signals}
 use Rattle.signals.specs.Regions.{labels, regionAt}
 use Rattle.signals.specs.Flags.{Numbers, Indices}
-use Rattle.signals.specs.Seen.{SignalEnds, SinkRegions}
 use Rattle.signals.proofs.Ends.{ends-within}
+use Rattle.signals.proofs.Fed.{some-at, some-found}
 
--- the number of a support is 0
-pub sinks-below : {ps : List ℤ} {sinks labelled ends : List ℕ} {m : ℕ} → SignalEnds (length labelled) ps sinks → Indices (length labelled) m labelled → 0 < m
-    → SinkRegions ps sinks labelled ends → (k : ℕ) → k < portCount ps → getD ends k 0 < m
-sinks-below {ps} {sinks} {labelled} {ends} {m} s i pos e k h = go (isSignal ps k) refl
-  where
-    go : (t : Bool) → isSignal ps k ≡ t → getD ends k 0 < m
-    go true q = omega (arith, e .at k h q, i .below (getD sinks k 0) (s .below k h q))
-    go false q = omega (arith, e .support k h q)
+-- ---- an edge is a signal connection
+
+module _ (cs ps : List ℤ) where
+  pub signal-at : (a b : ℕ) → signals cs ps a b ≡ true
+      → (k : ℕ) × (k < portCount ps) × (isSignal ps k ≡ true) × (sourceMember cs ps k ≡ a) × (sinkMember cs ps k ≡ b)
+  unfolding signals
+  signal-at a b found =
+      let (k, h, t) = some-found (λ j. isSignal ps j && (eqb (sourceMember cs ps j) a && eqb (sinkMember cs ps j) b)) (portCount ps) found in
+      let e = both (isSignal ps k) (eqb (sourceMember cs ps k) a && eqb (sinkMember cs ps k) b) t in
+      let g = both (eqb (sourceMember cs ps k) a) (eqb (sinkMember cs ps k) b) (e .1) in
+      (k, h, e .0, eqb-true (sourceMember cs ps k) a (g .0), eqb-true (sinkMember cs ps k) b (g .1))
+
+  pub at-signal : {a b : ℕ} (k : ℕ) → k < portCount ps → isSignal ps k ≡ true → sourceMember cs ps k ≡ a → sinkMember cs ps k ≡ b → signals cs ps a b ≡ true
+  unfolding signals
+  at-signal {a} {b} k h e p q =
+      some-at (λ j. isSignal ps j && (eqb (sourceMember cs ps j) a && eqb (sinkMember cs ps j) b)) (portCount ps) k h
+      (rw (e, eq-eqb (sourceMember cs ps k) a p, eq-eqb (sinkMember cs ps k) b q))
 
 module _ (cs ps : List ℤ) (ends : firstEndMissing cs ps ≡ Nothing) where
   pub signals-within : Within (componentCount cs) (signals cs ps)
-  unfolding signals
-  signals-within a b = go (firstFrom test 0 (portCount ps)) refl
-    where
-      test : ℕ → Bool
-      test k = isSignal ps k && (eqb (sourceMember cs ps k) a && eqb (sinkMember cs ps k) b)
-
-      go : (x : Found) → firstFrom test 0 (portCount ps) ≡ x → isFound x ≡ true → (a < componentCount cs) × (b < componentCount cs)
-      go (At k) q t =
-          let f = found-at test 0 (portCount ps) k q in
-          let e = both (isSignal ps k) (eqb (sourceMember cs ps k) a && eqb (sinkMember cs ps k) b) (f .passes) in
-          let g = both (eqb (sourceMember cs ps k) a) (eqb (sinkMember cs ps k) b) (e .1) in
-          let w = ends-within cs ps ends k (omega (arith, f .below)) (e .0) in
-          (omega (arith, w .0, eqb-true (sourceMember cs ps k) a (g .0)), omega (arith, w .1, eqb-true (sinkMember cs ps k) b (g .1)))
-      go Nothing q t = never t
+  signals-within a b e =
+      let (k, h, signal, p, q) = signal-at cs ps a b e in
+      let w = ends-within cs ps ends k h signal in
+      (omega (arith, w .0), omega (arith, w .1))
 
   pub scene-regions : RegionLaws (componentCount cs) (signals cs ps)
   scene-regions = region-laws (componentCount cs) (signals cs ps) signals-within

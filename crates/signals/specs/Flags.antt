@@ -2,11 +2,11 @@
 -- Assumes nothing: these are definitions.
 use Prim.Native.Nat.{ℕ, _≤_, _<_}
 use mathlib.Core.Path.{_≡_}
-use mathlib.Core.Bool.{Bool, true, false, _&&_}
+use mathlib.Core.Bool.{Bool, true, _&&_}
 use mathlib.Core.List.{List}
 use lib.Dec.{eqb}
 use lib.ListN.{length, getD, set}
-use Rattle.sets.specs.Members.{memberOf, countBelow}
+use Rattle.sets.specs.Members.{countBelow}
 use Rattle.lists.specs.First.{some}
 use Rattle.lists.specs.declared.Found.{Found}
 use Rattle.lists.specs.declared.Found.the-variants.{At, Nothing}
@@ -26,14 +26,13 @@ pub record Numbers (n : ℕ) (f : ℕ → ℕ) (numbers : List ℕ) : Type 0 whe
 pub record Gathered (n : ℕ) (index : List ℕ) (tests out : List Bool) : Type 0 where
   pub at : (j : ℕ) → j < length out → marked out j ≡ some (λ p. marked tests p && eqb (getD index p 0) j) n
 
+-- the same of tests and indices that are no lists
+pub record GatheredBy (n : ℕ) (index : ℕ → ℕ) (test : ℕ → Bool) (out : List Bool) : Type 0 where
+  pub at : (j : ℕ) → j < length out → marked out j ≡ some (λ p. test p && eqb (index p) j) n
+
 -- number j is how many of the first n indices are j
 pub record Counted (n : ℕ) (index counts : List ℕ) : Type 0 where
   pub at : (j : ℕ) → j < length counts → getD counts j 0 ≡ countBelow (λ p. eqb (getD index p 0) j) n
-
--- the words of a set have the first n flags, and no other member
-pub record SetOf (n : ℕ) (flags : List Bool) (words : List ℕ) : Type 0 where
-  pub member : (k : ℕ) → k < n → memberOf words k ≡ marked flags k
-  pub past : (k : ℕ) → n ≤ k → memberOf words k ≡ false
 
 -- each of the first n indices is below m
 pub record Indices (n m : ℕ) (index : List ℕ) : Type 0 where

@@ -8,4 +8,7 @@ pub mod Keys
 pub mod Flags
 pub mod Seen
 pub mod Rows
+pub mod Places
 pub mod Stages
+pub mod Crossings
+pub mod Upstream

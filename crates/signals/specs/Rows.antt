@@ -1,10 +1,10 @@
 -- How the rows of an answer are written one after the other, and the ports that have a verdict row, by kind.
---     deviceRows, verdictsBelow    the verdict rows of a device, and of the first n components
+--     deviceRows, rowsBelow        the verdict rows of a device, and of the first n components, by statuses
 --     sourcesOf, sourcesBelow      their source rows, by flags
 -- Assumes nothing: these are definitions.
 use Prim.Native.Nat.{ℕ, zero, suc, _+_, _*_, _/_, _%_, _≤_, _<_}
 use mathlib.Core.Path.{_≡_}
-use mathlib.Core.Bool.{Bool, true, false, not, cond, _&&_}
+use mathlib.Core.Bool.{Bool, true, false}
 use mathlib.Core.List.{List, [], _∷_, _++_}
 use lib.Dec.{eqb}
 use lib.ListN.{length, getD, take, drop}
@@ -33,18 +33,9 @@ firstRequired kind = getD (0 ∷ 1 ∷ 1 ∷ 4 ∷ []) kind 0
 unfoldable pub requiredCount : ℕ → ℕ
 requiredCount kind = getD (0 ∷ 1 ∷ 1 ∷ 1 ∷ 0 ∷ 0 ∷ 0 ∷ 0 ∷ 4 ∷ []) kind 0
 
--- some key of the slot has a marked second number
-unfoldable pub slotFedBy : List ℕ → ℕ → List Bool → Bool
-slotFedBy keys slot flags = some (λ a. member (pair slot a) keys && marked flags a) span
-
 -- some key of the slot
 unfoldable pub slotFed : List ℕ → ℕ → Bool
 slotFed keys slot = some (λ a. member (pair slot a) keys) span
-
--- the status of a slot
-unfoldable pub slotStatus : List ℕ → ℕ → List Bool → List Bool → ℕ
-slotStatus keys slot drive potential =
-    cond (not (slotFed keys slot)) 2 (cond (slotFedBy keys slot drive) 0 (cond (slotFedBy keys slot potential) 1 3))
 
 -- the second numbers of the slot's keys are below m
 pub record SlotWithin (keys : List ℕ) (slot m : ℕ) : Type 0 where
@@ -66,17 +57,14 @@ unfoldable pub deviceRows : ℕ → ℕ → (ℕ → ℕ) → ℕ → List ℕ
 deviceRows id first status zero = []
 deviceRows id first status (suc k) = deviceRows id first status k ++ (id ∷ (first + k) ∷ status (first + k) ∷ [])
 
--- those of the required ports of a kind, for a member
-abbrev pub kindRows : ℕ → ℕ → ℕ → List ℕ → List Bool → List Bool → List ℕ
-kindRows id kind member fed drive potential =
-    deviceRows id (firstRequired kind) (λ port. slotStatus fed (slot member port) drive potential) (requiredCount kind)
+-- the rows of the required ports of a kind, by the status of each port
+abbrev pub rowsOf : ℕ → ℕ → (ℕ → ℕ) → List ℕ
+rowsOf id kind status = deviceRows id (firstRequired kind) status (requiredCount kind)
 
--- those of the first n components
-unfoldable pub verdictsBelow : List ℤ → List ℕ → List ℕ → List Bool → List Bool → ℕ → List ℕ
-verdictsBelow cs members fed drive potential zero = []
-verdictsBelow cs members fed drive potential (suc p) =
-    verdictsBelow cs members fed drive potential p
-    ++ kindRows (component cs p .id) (component cs p .kind) (getD members p 0) fed drive potential
+-- those of the first n components, by the status of each port of the component at a list place
+unfoldable pub rowsBelow : List ℤ → (ℕ → ℕ → ℕ) → ℕ → List ℕ
+rowsBelow cs status zero = []
+rowsBelow cs status (suc p) = rowsBelow cs status p ++ rowsOf (component cs p .id) (component cs p .kind) (status p)
 
 -- ---- source rows
 

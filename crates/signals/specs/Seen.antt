@@ -32,13 +32,9 @@ pub record SignalEnds (n : ℕ) (ps : List ℤ) (members : List ℕ) : Type 0 wh
   pub long : portCount ps ≤ length members
   pub below : (k : ℕ) → k < portCount ps → isSignal ps k ≡ true → getD members k 0 < n
 
--- the label of a node, or 0 for a support connection
-pub record SinkRegions (ps : List ℤ) (sinks labels regions : List ℕ) : Type 0 where
-  pub at : (k : ℕ) → k < portCount ps → isSignal ps k ≡ true → getD regions k 0 ≡ getD labels (getD sinks k 0) 0
-  pub support : (k : ℕ) → k < portCount ps → isSignal ps k ≡ false → getD regions k 0 ≡ 0
-
--- connection k leads from another region's node that is not passive
-abbrev pub outsideAt : List ℤ → List ℕ → List ℕ → List ℕ → List Bool → ℕ → Bool
-outsideAt ps sources sinks labels passive k =
-    isSignal ps k
-    && (not (eqb (getD labels (getD sources k 0) 0) (getD labels (getD sinks k 0) 0)) && not (marked passive (getD sources k 0)))
+-- connection k leads into region r, from another region's node that is not passive
+abbrev pub outsideAt : List ℤ → List ℕ → List ℕ → List ℕ → List Bool → ℕ → ℕ → Bool
+outsideAt ps sources sinks labels passive r k =
+    (isSignal ps k
+    && (not (eqb (getD labels (getD sources k 0) 0) (getD labels (getD sinks k 0) 0)) && not (marked passive (getD sources k 0))))
+    && eqb (getD labels (getD sinks k 0) 0) r

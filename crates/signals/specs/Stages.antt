@@ -1,7 +1,6 @@
 -- The stages of the analysis, and what each leaves in its arrays.
 -- Assumes nothing: these are definitions.
 use Prim.Native.Nat.{ℕ, _*_}
-use mathlib.Core.Path.{_≡_}
 use mathlib.Core.Bool.{Bool, not, _&&_, _||_}
 use mathlib.Core.List.{List}
 use lib.Dec.{eqb, leb}
@@ -11,32 +10,24 @@ use Rattle.sets.specs.Members.{countBelow}
 use Rattle.lists.specs.Limits.{componentLimit}
 use Rattle.lists.specs.Records.{component, portCount}
 use Rattle.lists.specs.First.{some}
-use Rattle.regions.specs.Graph.{Edges, marked}
-use Rattle.regions.specs.Kosaraju.{reached}
+use Rattle.regions.specs.Graph.{marked}
 use Rattle.regions.specs.Keys.{edges}
-use Rattle.regions.specs.Search.{Zeros}
 use Rattle.signals.specs.Regions.{wire}
 use Rattle.signals.specs.Signals.{isSignal}
 use Rattle.signals.specs.Keys.{Settled, Slots, KeysOf, ports}
-use Rattle.signals.specs.Flags.{Gathered}
 
--- the members at the ends of each port connection, and the sorted tables of the signal edges: forward, backward, and by the port that they feed
-pub record Tables (cs ps : List ℤ) (sources sinks forward backward fed : List ℕ) : Type 0 where
+-- the members at the ends of each port connection, and the sorted tables of the signal edges, forward and backward
+pub record Tables (cs ps : List ℤ) (sources sinks forward backward : List ℕ) : Type 0 where
   pub source-members : Settled cs ps 0 sources
   pub sink-members : Settled cs ps 2 sinks
   pub forward-keys : KeysOf ps sources sinks componentLimit forward
   pub backward-keys : KeysOf ps sinks sources componentLimit backward
+
+-- the sorted table of the signal edges by the port that they feed
+pub record FedTable (ps : List ℤ) (sources sinks fed : List ℕ) : Type 0 where
   pub slots : List ℕ
   pub slots-are : Slots ps sinks slots
   pub fed-keys : KeysOf ps slots sources (componentLimit * ports) fed
-
--- what the marked components reach: `marks` are those of their members
-pub record ReachedBy (n : ℕ) (edge : Edges) (members : List ℕ) (flags visited : List Bool) (stack : List ℕ) : Type 0 where
-  pub marks : List Bool
-  pub marks-long : length marks ≡ n
-  pub gathered : Gathered n members flags marks
-  pub visited-is : visited ≡ reached n edge marks
-  pub stack-zeros : Zeros stack
 
 -- the component at p is a wire with few neighbours in a quiet region, by the arrays of the analysis
 abbrev pub inferredBy : List ℤ → List ℕ → List ℕ → List Bool → List Bool → List ℕ → List ℕ → List ℕ → ℕ → Bool

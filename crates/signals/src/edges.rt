@@ -1,5 +1,4 @@
 // The signal edges of a scene as sorted tables of keys: forward, backward, and by the port that they feed.
-use lists::CONNECTIONS;
 use lists::PORT;
 use lists::hints::HINTS;
 use lists::hints::member_near;
@@ -66,17 +65,18 @@ fn signal_key(ports: &[i64], k: usize, first: usize, second: usize, nowhere: usi
     first as u64 * SPAN + second as u64
 }
 
-// The keys of the signal connections, sorted: pairs of firsts[k] and seconds[k].
+// The keys of the signal connections, sorted: pairs of firsts[k] and seconds[k]. The spare is for the sort.
 pub fn signal_keys(
     ports: &[i64],
     firsts: &[usize],
     seconds: &[usize],
     nowhere: usize,
     keys: &mut [u64],
+    spare: &mut [u64],
 )
     requires { ⌜ PortConnections (now ports) ⌝ }
     requires { ⌜ Sortable (portCount (now ports)) (now firsts) (now seconds) nowhere ⌝ }
-    requires { ⌜ length (now keys) ≡ portCount (now ports) ⌝ }
+    requires { ⌜ (length (now keys) ≡ portCount (now ports)) × (portCount (now ports) ≤ length (now spare)) ⌝ }
     ensures { λ _. ⌜ KeysOf (now (ports .entry)) (now (firsts .entry)) (now (seconds .entry)) nowhere (now (keys .exit)) ⌝ }
 {
     let mut k: usize = 0;
@@ -84,6 +84,5 @@ pub fn signal_keys(
         keys[k] = signal_key(ports, k, firsts[k], seconds[k], nowhere);
         k += 1;
     }
-    let mut spare = [0u64; CONNECTIONS];
-    tables::sort(keys, &mut spare);
+    tables::sort(keys, spare);
 }

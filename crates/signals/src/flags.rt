@@ -1,12 +1,10 @@
 // Arrays of flags and counts.
-use sets::ComponentSet;
 ghost use mathlib.Core.Path.{_≡_};
 ghost use mathlib.Core.Bool.{Bool, _&&_, _||_};
 ghost use Prim.Native.Nat.{ℕ, _≤_, _<_};
 ghost use lib.ListN.{length, getD};
-ghost use Rattle.lists.specs.Limits.{componentLimit};
 ghost use Rattle.regions.specs.Graph.{marked};
-ghost use Rattle.signals.specs.Flags.{Flags, Gathered, Counted, SetOf, Indices};
+ghost use Rattle.signals.specs.Flags.{Flags, Gathered, Counted, Indices};
 
 // Sets the flag of each index whose test holds, and clears the others. There is no branch on a test: they come in no order that a
 // processor could foresee.
@@ -60,16 +58,26 @@ pub fn and_flags(n: usize, a: &[bool], b: &[bool], out: &mut [bool])
     }
 }
 
-// The set of the first n flags.
-pub fn set_of(n: usize, flags: &[bool]) -> ComponentSet
-    requires { ⌜ (n ≤ length (now flags)) × (n ≤ componentLimit) ⌝ }
-    ensures { λ r. ⌜ SetOf n (now (flags .entry)) (r .words) ⌝ }
+// Copies the flags.
+pub fn copy_flags(flags: &[bool], out: &mut [bool])
+    requires { ⌜ length (now flags) ≤ length (now out) ⌝ }
+    ensures { λ _. ⌜ Flags (length (now (flags .entry))) (marked (now (flags .entry))) (now (out .exit)) ⌝ }
 {
-    let mut set = sets::empty();
-    let mut k: usize = 0;
-    while k < n {
-        set = sets::insert_if(set, k, flags[k]);
-        k += 1;
+    let mut p: usize = 0;
+    while p < flags.len() {
+        out[p] = flags[p];
+        p += 1;
     }
-    set
+}
+
+// The flag of each index.
+pub fn spread(index: &[usize], flags: &[bool], out: &mut [bool])
+    requires { ⌜ Indices (length (now index)) (length (now flags)) (now index) × (length (now index) ≤ length (now out)) ⌝ }
+    ensures { λ _. ⌜ Flags (length (now (index .entry))) (λ p. marked (now (flags .entry)) (getD (now (index .entry)) p 0)) (now (out .exit)) ⌝ }
+{
+    let mut p: usize = 0;
+    while p < index.len() {
+        out[p] = flags[index[p]];
+        p += 1;
+    }
 }

@@ -13,11 +13,12 @@ ghost use lib.ListN.{length, getD};
 ghost use Rattle.sets.specs.Members.{countBelow};
 ghost use Rattle.lists.specs.Records.{component, componentCount, portCount};
 ghost use Rattle.lists.specs.Within.{Components, PortConnections};
+ghost use Rattle.lists.specs.First.{some};
 ghost use Rattle.regions.specs.Graph.{marked};
 ghost use Rattle.regions.specs.Keys.{edges};
 ghost use Rattle.signals.specs.Regions.{wire, isPassive};
-ghost use Rattle.signals.specs.Flags.{Flags};
-ghost use Rattle.signals.specs.Seen.{SeenOf, Rows, SignalEnds, SinkRegions, outsideAt};
+ghost use Rattle.signals.specs.Flags.{Flags, Indices};
+ghost use Rattle.signals.specs.Seen.{SeenOf, Rows, SignalEnds, outsideAt};
 ghost use Rattle.signals.specs.Signals.{isSignal};
 ghost use mathlib.Core.Bool.{cond};
 
@@ -98,7 +99,7 @@ pub fn passive_flags(components: &[i64], flags: &mut [bool])
 }
 
 // The region of the sink of port connection k, 0 for a support.
-fn sink_region(ports: &[i64], k: usize, sink: usize, labels: &[usize]) -> usize
+pub(crate) fn sink_region(ports: &[i64], k: usize, sink: usize, labels: &[usize]) -> usize
     requires { ⌜ PortConnections (now ports) × (k < portCount (now ports)) ⌝ }
     requires { ⌜ (isSignal (now ports) k ≡ true → sink < length (now labels)) ⌝ }
     ensures { λ r. ⌜ r ≡ cond (isSignal (now (ports .entry)) k) (getD (now (labels .entry)) sink 0) 0 ⌝ }
@@ -107,20 +108,6 @@ fn sink_region(ports: &[i64], k: usize, sink: usize, labels: &[usize]) -> usize
         return 0;
     }
     labels[sink]
-}
-
-// The region that each signal connection leads to.
-pub fn sink_regions(ports: &[i64], sinks: &[usize], labels: &[usize], regions: &mut [usize])
-    requires { ⌜ PortConnections (now ports) ⌝ }
-    requires { ⌜ SignalEnds (length (now labels)) (now ports) (now sinks) × (portCount (now ports) ≤ length (now regions)) ⌝ }
-    ensures { λ _. ⌜ SinkRegions (now (ports .entry)) (now (sinks .entry)) (now (labels .entry)) (now (regions .exit)) ⌝ }
-{
-    let count = ports.len() / PORT;
-    let mut k: usize = 0;
-    while k < count {
-        regions[k] = sink_region(ports, k, sinks[k], labels);
-        k += 1;
-    }
 }
 
 // Whether port connection k leads from another region's node that is not passive.
@@ -143,41 +130,37 @@ fn is_outside(
     !(labels[source] == labels[sink]) & !passive[source]
 }
 
-// Flags the port connections that lead from another region's node that is not passive.
-pub fn outside_flags(
+// Flags the regions with a connection from another region's node that is not passive. There is no branch on a test.
+pub fn flag_outside(
     ports: &[i64],
     sources: &[usize],
     sinks: &[usize],
     labels: &[usize],
     passive: &[bool],
-    flags: &mut [bool],
+    fed: &mut [bool],
 )
     requires { ⌜ PortConnections (now ports) ⌝ }
     requires { ⌜ SignalEnds (length (now labels)) (now ports) (now sources) × SignalEnds (length (now labels)) (now ports) (now sinks) ⌝ }
-    requires { ⌜ (length (now labels) ≤ length (now passive)) × (portCount (now ports) ≤ length (now flags)) ⌝ }
-    ensures { λ _. ⌜ Flags (portCount (now (ports .entry))) (outsideAt (now (ports .entry)) (now (sources .entry)) (now (sinks .entry)) (now (labels .entry)) (now (passive .entry))) (now (flags .exit)) ⌝ }
+    requires { ⌜ (length (now labels) ≤ length (now passive)) × (Indices (length (now labels)) (length (now fed)) (now labels) × (0 < length (now fed))) ⌝ }
+    ensures { λ _. ⌜ Flags (length (now (fed .entry))) (λ r. some (outsideAt (now (ports .entry)) (now (sources .entry)) (now (sinks .entry)) (now (labels .entry)) (now (passive .entry)) r) (portCount (now (ports .entry)))) (now (fed .exit)) ⌝ }
 {
+    regions::clear_flags(fed);
     let count = ports.len() / PORT;
     let mut k: usize = 0;
     while k < count {
-        flags[k] = is_outside(ports, k, sources[k], sinks[k], labels, passive);
+        let r = sink_region(ports, k, sinks[k], labels);
+        fed[r] = fed[r] | is_outside(ports, k, sources[k], sinks[k], labels, passive);
         k += 1;
     }
 }
 
-// Flags the signal connections from a node to itself.
-pub fn self_flags(ports: &[i64], sources: &[usize], sinks: &[usize], flags: &mut [bool])
-    requires { ⌜ PortConnections (now ports) ⌝ }
-    requires { ⌜ (portCount (now ports) ≤ length (now sources)) × ((portCount (now ports) ≤ length (now sinks)) × (portCount (now ports) ≤ length (now flags))) ⌝ }
-    ensures { λ _. ⌜ Flags (portCount (now (ports .entry))) (λ k. isSignal (now (ports .entry)) k && eqb (getD (now (sources .entry)) k 0) (getD (now (sinks .entry)) k 0)) (now (flags .exit)) ⌝ }
+// Whether port connection k leads from a node to itself.
+pub(crate) fn is_self(ports: &[i64], k: usize, source: usize, sink: usize) -> bool
+    requires { ⌜ PortConnections (now ports) × (k < portCount (now ports)) ⌝ }
+    ensures { λ r. ⌜ r ≡ (isSignal (now (ports .entry)) k && eqb source sink) ⌝ }
 {
-    let count = ports.len() / PORT;
-    let mut k: usize = 0;
-    while k < count {
-        let transfer = natural_at(ports, k * PORT + 4);
-        flags[k] = !(transfer == SUPPORT) & (sources[k] == sinks[k]);
-        k += 1;
-    }
+    let transfer = natural_at(ports, k * PORT + 4);
+    !(transfer == SUPPORT) & (source == sink)
 }
 
 // Whether component p, member m, is an inferred input, given whether its region has a drive source or is fed from outside.

@@ -1,12 +1,11 @@
-// The stages of the analysis over local arrays: tables of edges, regions, reach.
+// The stages of the analysis over local arrays: tables of edges, regions.
 use super::edges::PORTS;
 use super::edges::settle;
 use super::edges::settle_slots;
 use super::edges::signal_keys;
 use super::flags::count_into;
-use super::flags::gather;
-use super::inferred::self_flags;
-use super::inferred::sink_regions;
+use super::inferred::is_self;
+use super::inferred::sink_region;
 use lists::COMPONENTS;
 use lists::CONNECTIONS;
 use lists::PORT;
@@ -32,9 +31,10 @@ ghost use Rattle.regions.specs.Graph.{marked};
 ghost use Rattle.regions.specs.Search.{Zeros, Regions};
 ghost use Rattle.signals.specs.Flags.{Flags, Numbers, Indices};
 ghost use Rattle.signals.specs.Seen.{SignalEnds};
-ghost use Rattle.signals.specs.Stages.{Tables, ReachedBy, selfAt, cyclicAt};
+ghost use Rattle.signals.specs.Keys.{Settled};
+ghost use Rattle.signals.specs.Stages.{Tables, FedTable, selfAt, cyclicAt};
 
-// Settles the ends of the port connections and sorts the signal edges into three tables.
+// Settles the ends of the port connections and sorts the signal edges into two tables, forward and backward.
 pub fn build_tables(
     keys: &[u64],
     ports: &[i64],
@@ -42,22 +42,31 @@ pub fn build_tables(
     sinks: &mut [usize],
     forward: &mut [u64],
     backward: &mut [u64],
-    fed: &mut [u64],
 )
     requires { ⌜ PortConnections (now ports) × IsIdTable (now keys) ⌝ }
     requires { ⌜ (length (now keys) ≤ componentLimit) × ((portCount (now ports) ≤ length (now sources)) × (portCount (now ports) ≤ length (now sinks))) ⌝ }
-    requires { ⌜ (length (now forward) ≡ portCount (now ports)) × ((length (now backward) ≡ portCount (now ports)) × (length (now fed) ≡ portCount (now ports))) ⌝ }
-    ensures { λ _. ⌜ ((cs : List ℤ) → IdTable cs (now (keys .entry)) → Tables cs (now (ports .entry)) (now (sources .exit)) (now (sinks .exit)) (now (forward .exit)) (now (backward .exit)) (now (fed .exit))) ⌝ }
+    requires { ⌜ (length (now forward) ≡ portCount (now ports)) × (length (now backward) ≡ portCount (now ports)) ⌝ }
+    ensures { λ _. ⌜ ((cs : List ℤ) → IdTable cs (now (keys .entry)) → Tables cs (now (ports .entry)) (now (sources .exit)) (now (sinks .exit)) (now (forward .exit)) (now (backward .exit))) ⌝ }
 {
-    let mut slots = [0usize; CONNECTIONS];
     let mut hints = [0u16; HINTS];
     hint_ids(keys, &mut hints);
     settle(keys, ports, 0, sources, &hints);
     settle(keys, ports, 2, sinks, &hints);
+    let mut spare = [0u64; CONNECTIONS];
+    signal_keys(ports, sources, sinks, COMPONENTS, forward, &mut spare);
+    signal_keys(ports, sinks, sources, COMPONENTS, backward, &mut spare);
+}
+
+// Sorts the signal edges by the port that they feed, given their settled ends.
+pub fn build_fed(ports: &[i64], sources: &[usize], sinks: &[usize], fed: &mut [u64])
+    requires { ⌜ PortConnections (now ports) × ((cs : List ℤ) × ((componentCount cs ≤ componentLimit) × (Settled cs (now ports) 0 (now sources) × Settled cs (now ports) 2 (now sinks)))) ⌝ }
+    requires { ⌜ (portCount (now ports) ≤ length (now sources)) × ((portCount (now ports) ≤ length (now sinks)) × (length (now fed) ≡ portCount (now ports))) ⌝ }
+    ensures { λ _. ⌜ FedTable (now (ports .entry)) (now (sources .entry)) (now (sinks .entry)) (now (fed .exit)) ⌝ }
+{
+    let mut slots = [0usize; CONNECTIONS];
+    let mut spare = [0u64; CONNECTIONS];
     settle_slots(ports, sinks, &mut slots);
-    signal_keys(ports, sources, sinks, COMPONENTS, forward);
-    signal_keys(ports, sinks, sources, COMPONENTS, backward);
-    signal_keys(ports, &slots, sources, COMPONENTS * PORTS, fed);
+    signal_keys(ports, &slots, sources, COMPONENTS * PORTS, fed, &mut spare);
 }
 
 // The regions of the nodes below labels.len(); answers how many there are.
@@ -85,26 +94,6 @@ pub fn find_regions(
         &mut members,
         stack,
     )
-}
-
-// Marks in `visited` what the flagged components reach; members[p] is the node of component p.
-pub fn find_reach(
-    keys: &[u64],
-    members: &[usize],
-    flags: &[bool],
-    visited: &mut [bool],
-    stack: &mut [usize],
-)
-    requires { ⌜ Ascending (now keys) × (length (now visited) ≤ componentLimit) ⌝ }
-    requires { ⌜ Indices (length (now visited)) (length (now visited)) (now members) × (length (now visited) ≤ length (now flags)) ⌝ }
-    requires { ⌜ (2 * length (now visited) ≤ length (now stack)) × Zeros (now stack) ⌝ }
-    ensures { λ _. ⌜ ReachedBy (length (now (visited .entry))) (edges (length (now (visited .entry))) (now (keys .entry))) (now (members .entry)) (now (flags .entry)) (now (visited .exit)) (now (stack .exit)) ⌝ }
-{
-    let n = visited.len();
-    let mut starts = [false; COMPONENTS];
-    let mut order = [0usize; COMPONENTS];
-    gather(n, members, flags, &mut starts[..n]);
-    regions::reach_from(keys, n, &starts[..n], visited, &mut order, stack);
 }
 
 // The member of each component, by list place.
@@ -145,7 +134,7 @@ fn flag_large(sizes: &[usize], flags: &mut [bool])
     }
 }
 
-// Flags the regions with a connection from a node to itself.
+// Flags the regions with a connection from a node to itself. There is no branch on a test.
 fn flag_selves(
     ports: &[i64],
     sources: &[usize],
@@ -158,11 +147,14 @@ fn flag_selves(
     requires { ⌜ Indices (length (now labels)) (length (now flags)) (now labels) × (0 < length (now flags)) ⌝ }
     ensures { λ _. ⌜ Flags (length (now (flags .entry))) (λ r. some (selfAt (now (ports .entry)) (now (sources .entry)) (now (sinks .entry)) (now (labels .entry)) r) (portCount (now (ports .entry)))) (now (flags .exit)) ⌝ }
 {
-    let mut itself = [false; CONNECTIONS];
-    let mut ends = [0usize; CONNECTIONS];
-    self_flags(ports, sources, sinks, &mut itself);
-    sink_regions(ports, sinks, labels, &mut ends);
-    gather(ports.len() / PORT, &ends, &itself, flags);
+    regions::clear_flags(flags);
+    let count = ports.len() / PORT;
+    let mut k: usize = 0;
+    while k < count {
+        let r = sink_region(ports, k, sinks[k], labels);
+        flags[r] = flags[r] | is_self(ports, k, sources[k], sinks[k]);
+        k += 1;
+    }
 }
 
 // Flags the cyclic regions: those of two nodes or more, or with a connection from a node to itself.

@@ -34,7 +34,8 @@ use Rattle.signals.specs.Regions.{isCyclic, hasDrive, fedFromOutside, neighbour
 use Rattle.signals.specs.Drive.{membersWhere, drive, potential}
 use Rattle.signals.specs.Verdicts.{fedBy, statusOf, portRows, verdictRows, sourcesAt, sourceRowsBelow}
 use Rattle.liveness.specs.Query.{isImmediate, upstream, isInferredFor}
-use Rattle.report.specs.Report.{allRows, spaced, memberId, idsBelow, portLines, verdictLines, reportOf}
+use Rattle.blocks.specs.Lines.{spaced}
+use Rattle.report.specs.Report.{allRows, memberId, idsBelow, portLines, verdictLines, reportOf}
 use Rattle.report.specs.Entry.{fits, answerBy, reportChecked, Reported}
 use Rattle.report.specs.declared.Printed.{Printed}
 use Rattle.report.specs.declared.Printed.the-variants.{Written}

@@ -11,7 +11,7 @@ use scenes::Scene;
 use scenes::sized::Shape;
 
 use measure::Times;
-use subjects::{Groups, Liveness, Ports, Subject, without_supports};
+use subjects::{Groups, Liveness, Ports, Subject, with_kept, without_supports};
 use tables::Row;
 use whole::Whole;
 
@@ -75,16 +75,18 @@ impl Chosen {
 
 const TABLES: [&str; 4] = ["groups", "ports", "liveness", "whole"];
 
-/// Times both sides on the scenes of every shape and size, changed first.
-fn measured<S: Subject>(chosen: &Chosen, change: impl Fn(Scene) -> Scene) -> Vec<Row> {
+/// Times both sides on scenes of every shape and size.
+fn measured<S: Subject>(chosen: &Chosen, make: impl Fn(Shape, usize, u64) -> Scene) -> Vec<Row> {
     let mut rows = Vec::new();
     for shape in chosen.shapes() {
         for size in chosen.sizes() {
-            let scenes = (0..SCENES).map(|seed| change(shape.scene(size, seed)));
+            let scenes: Vec<Scene> = (0..SCENES).map(|seed| make(shape, size, seed)).collect();
+            let connections = scenes.iter().map(S::connections).sum::<usize>() / scenes.len();
             rows.push(Row {
                 shape,
                 size,
-                medians: medians::<S>(scenes),
+                connections,
+                medians: medians::<S>(scenes.into_iter()),
             });
         }
     }
@@ -99,22 +101,26 @@ fn main() {
         words: std::env::args().skip(1).collect(),
     };
     if chosen.table("groups") {
-        let groups = measured::<Groups>(&chosen, |scene| scene);
+        let groups = measured::<Groups>(&chosen, Shape::scene);
         tables::print("Groups: `from_parts` and `dustroute_groups`", &groups);
     }
     if chosen.table("ports") {
-        let ports = measured::<Ports>(&chosen, |scene| scene);
+        let ports = measured::<Ports>(&chosen, Shape::scene);
         tables::print("Ports: scene builder and `port_connections`", &ports);
-        let ports = measured::<Ports>(&chosen, without_supports);
+        let bare = |shape: Shape, size, seed| without_supports(shape.scene(size, seed));
+        let ports = measured::<Ports>(&chosen, bare);
         tables::print("Ports, no component with a support", &ports);
     }
     if chosen.table("liveness") {
-        let liveness = measured::<Liveness>(&chosen, |scene| scene);
+        let kept = |shape: Shape, size, seed| with_kept(shape.scene(size, seed));
+        let liveness = measured::<Liveness>(&chosen, kept);
         let title = "Liveness: `analyze_signal_liveness` and `dustroute_liveness`";
         tables::print(title, &liveness);
+        let liveness = measured::<Liveness>(&chosen, Shape::fed_scene);
+        tables::print("Liveness, four port connections to a component", &liveness);
     }
     if chosen.table("whole") {
-        let whole = measured::<Whole>(&chosen, |scene| scene);
+        let whole = measured::<Whole>(&chosen, Shape::scene);
         let title = "Whole report: the Rust between a reader and a printer, and the entry";
         tables::print(title, &whole);
     }

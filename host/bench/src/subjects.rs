@@ -8,7 +8,7 @@ use dustroute_translate::analyze_signal_liveness;
 use oracle::lists;
 use probe::capi;
 use probe::ports::port_connections;
-use scenes::limits::COMPONENT;
+use scenes::limits::{COMPONENT, CONNECTION, PORT_CONNECTION};
 use scenes::{Lent, Scene, bytes};
 
 use crate::measure::Times;
@@ -16,6 +16,11 @@ use crate::measure::Times;
 /// A scene made ready for both sides.
 pub trait Subject {
     fn new(scene: Scene) -> Self;
+
+    /// How many connections of a scene are looked at.
+    fn connections(scene: &Scene) -> usize {
+        scene.connections.len() / CONNECTION
+    }
 
     /// One run of each side.
     fn run(&mut self, times: &mut Times);
@@ -89,7 +94,7 @@ impl Subject for Ports {
     }
 }
 
-/// Regions, sources and verdicts of the kept connections.
+/// Regions, sources and verdicts of the port connections.
 pub struct Liveness {
     given: PhysicalScene,
     lists: [Vec<u8>; 3],
@@ -101,8 +106,11 @@ pub struct Liveness {
 }
 
 impl Subject for Liveness {
-    fn new(mut scene: Scene) -> Self {
-        scene.ports = oracle::ports(&scene.components, &scene.connections).concat();
+    fn connections(scene: &Scene) -> usize {
+        scene.ports.len() / PORT_CONNECTION
+    }
+
+    fn new(scene: Scene) -> Self {
         let (components, ports, frontiers) = (&scene.components, &scene.ports, &scene.frontiers);
         let lent = Lent::enough(&scene);
         let zeros = |numbers: usize| vec![0; numbers * bytes::NUMBER];
@@ -132,6 +140,12 @@ impl Subject for Liveness {
             assert!(answer.is_ok());
         });
     }
+}
+
+/// With the port connections that the scene builder keeps.
+pub fn with_kept(mut scene: Scene) -> Scene {
+    scene.ports = oracle::ports(&scene.components, &scene.connections).concat();
+    scene
 }
 
 /// Index of a component's support in its record.

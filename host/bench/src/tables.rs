@@ -1,6 +1,6 @@
 //! The times as Markdown tables.
 
-use scenes::sized::{CONNECTIONS_EACH, Shape};
+use scenes::sized::Shape;
 
 use crate::measure::Medians;
 
@@ -8,6 +8,8 @@ use crate::measure::Medians;
 pub struct Row {
     pub shape: Shape,
     pub size: usize,
+    /// On the average of the scenes.
+    pub connections: usize,
     pub medians: Medians,
 }
 
@@ -19,8 +21,9 @@ connections are sorted into a set, and each fragment is compared with each net f
 lists (here a function of its own). The scene builder also makes evidence with a string for each
 connection, looks for each support among all components, copies blocks, nets and fragments, and
 lists the ports of every component; all that is left out of the port. Liveness also reads and writes
-bytes, and its connections are those that the scene builder keeps; the Rust also gives each verdict
-row its immediate sources and inferred inputs (here a query of its own), by a search upstream for each.
+bytes; in its first table the connections are those that the scene builder keeps, on the average of
+the scenes, in its second the list is given and as long as it may be. The Rust also gives each verdict row
+its immediate sources and inferred inputs (here a query of its own), by a search upstream for each.
 A whole report is a sheet's bytes turned into a report's: the Rust's side has the tests' own reader and
 printer around each of its functions, run once, and checks nothing but the lines.";
 
@@ -35,7 +38,7 @@ pub fn print(title: &str, rows: &[Row]) {
             "| {} | {} | {} | {rust:.1} | {proved:.1} | {:.1} |",
             row.shape.name(),
             row.size,
-            CONNECTIONS_EACH * row.size,
+            row.connections,
             rust / proved
         );
     }

@@ -4,7 +4,7 @@ use std::collections::BTreeMap;
 
 use crate::Scene;
 use crate::draft::{Block, Cell, Draft, ids};
-use crate::limits::{LAST_CONNECTION_KIND, LAST_KIND};
+use crate::limits::{LAST_CONNECTION_KIND, LAST_KIND, SUPPORT};
 use crate::random::Random;
 
 /// Connections to a component.
@@ -12,6 +12,9 @@ pub const CONNECTIONS_EACH: usize = 4;
 
 /// Cells to the side of a circuit.
 const CIRCUIT: i64 = 4;
+
+/// The last port that a block can have.
+const LAST_BLOCK_PORT: i64 = 6;
 
 /// How components lie and what connects them.
 #[derive(Clone, Copy, Debug, Eq, PartialEq)]
@@ -76,7 +79,41 @@ impl Shape {
     /// connections.
     #[must_use]
     pub fn scene(self, components: usize, seed: u64) -> Scene {
-        let random = &mut Random::new(seed ^ ((self as u64) << 48));
+        let random = &mut self.random(seed);
+        let (mut draft, ids, pairs) = self.placed(components, random);
+        if self == Self::Merges {
+            for &(source, sink) in &pairs {
+                draft.connect(ids[source], ids[sink], random.between(0, 4));
+            }
+        }
+        while draft.connection_count() < CONNECTIONS_EACH * components {
+            let (source, sink) = random.pick(&pairs);
+            draft.connect(ids[source], ids[sink], self.kind(random));
+        }
+        draft.finish()
+    }
+
+    /// The same components with four times as many port connections, all of
+    /// them signals, between the same pairs.
+    #[must_use]
+    pub fn fed_scene(self, components: usize, seed: u64) -> Scene {
+        let random = &mut self.random(seed);
+        let (mut draft, ids, pairs) = self.placed(components, random);
+        for _ in 0..CONNECTIONS_EACH * components {
+            let (source, sink) = random.pick(&pairs);
+            let [from, to] = [(); 2].map(|()| random.between(0, LAST_BLOCK_PORT));
+            let transfer = random.between(0, SUPPORT - 1);
+            draft.feed([ids[source], from, ids[sink], to, transfer]);
+        }
+        draft.finish()
+    }
+
+    const fn random(self, seed: u64) -> Random {
+        Random::new(seed ^ ((self as u64) << 48))
+    }
+
+    /// The components, their ids by place, and the pairs that may be connected.
+    fn placed(self, components: usize, random: &mut Random) -> (Draft, Vec<i64>, Vec<Pair>) {
         let mut cells = self.cells(components);
         let mut ids = ids(components, random);
         if self == Self::Merges {
@@ -88,16 +125,7 @@ impl Shape {
             draft.component(id, cell, self.block(random));
         }
         let pairs = self.pairs(&cells);
-        if self == Self::Merges {
-            for &(source, sink) in &pairs {
-                draft.connect(ids[source], ids[sink], random.between(0, 4));
-            }
-        }
-        while draft.connection_count() < CONNECTIONS_EACH * components {
-            let (source, sink) = random.pick(&pairs);
-            draft.connect(ids[source], ids[sink], self.kind(random));
-        }
-        draft.finish()
+        (draft, ids, pairs)
     }
 
     const fn is_plane(self) -> bool {

@@ -1,9 +1,9 @@
 -- `circuit::from_parts` meets its contract: the checks first, and where they accept the groups, by the table of ids that they left.
 -- Assumes nothing.
 use borrow.Author.Needs.{needs}
-use mathlib.Core.Path.{_≡_, sym, _∙_}
+use mathlib.Core.Path.{_≡_, sym, ap₂, _∙_}
 use mathlib.Core.Bool.{Bool, _&&_}
-use mathlib.Core.List.{[]}
+use mathlib.Core.List.{[], _∷_}
 use Prim.Native.Nat.{ℕ, _≤_}
 use native.Mathlib.Omega.{arith}
 use lib.ListN.{length, take}
@@ -81,7 +81,7 @@ returns : tie.Need-returns
 returns c =
     let checked = c .before .before .before .before in
     let e = sym (answer checked) ∙ c .before .checked .given .1 in
-    record { answer = rw e; nets-left = rw e; fragments-left = rw e }
+    record { answer = rw e; numbers = rw e; nets-left = rw e; fragments-left = rw e }
 
 same-length : tie.Need-same-length
 same-length c = c .before .before .before .before .group .kept .1 .1 .0
@@ -96,7 +96,12 @@ returns-2 c =
     let table = told .before .before .before .grouping-lists .ensures .table (told .enum-told .given .1) in
     let g = called .group .ensures (start told .args .components .now) table in
     let e = accepted told in
-    record { answer = rw e (same-counts (g .net-count) (g .fragment-count)); nets-left = rw e (g .nets-laid); fragments-left = rw e (g .fragments-laid) }
+    record {
+      answer = rw e (same-counts (g .net-count) (g .fragment-count));
+      numbers = rw e (ap₂ (λ (nets fragments : ℕ). 0 ∷ nets ∷ fragments ∷ []) (g .net-count) (g .fragment-count));
+      nets-left = rw e (g .nets-laid);
+      fragments-left = rw e (g .fragments-laid);
+    }
 
 pub from-parts-spec : {M : Type 1} → statement M
 from-parts-spec =

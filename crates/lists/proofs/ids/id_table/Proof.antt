@@ -1,6 +1,5 @@
 -- `lists::ids::id_table` meets its contract: the keys of all components, sorted.
 -- Assumes nothing.
-use borrow.Author.Needs.{needs}
 use mathlib.Core.Path.{_≡_, refl, _∙_}
 use Prim.Native.Nat.{ℕ, _-_, _≤_, _<_}
 use native.Mathlib.Nat.{eq-or-lt-of-le}
@@ -9,8 +8,9 @@ use mathlib.Core.Logic.{⊎-elim}
 use lib.ListN.{length, getD, length-set}
 use lib.Seq.{getD-set-same, getD-set-other}
 use Rattle.tables.specs.Pairs.{pair}
-use Rattle.lists.specs.Records.{component}
-use Rattle.lists.proofs.Table.{table-of}
+use Rattle.lists.specs.Records.{component, componentCount}
+use Rattle.lists.specs.Ids.{idKey}
+use Rattle.lists.proofs.Table.{keys-rise, keys-small, table-of}
 use Rattle.lists.proofs.ids.id_table.Statement.{statement}
 use Rattle.lists.proofs.ids.id_table.Tie as tie
 
@@ -44,28 +44,41 @@ loop-again c =
           (eq-or-lt-of-le (let m : j ≤ l .k = omega arith in m)),
     )
 
-sort-requires : tie.Need-sort-requires Inv-loop μ-loop
-sort-requires c κs =
-    let l = c .before .before .before in
-    omega (arith, l .loop .inv .1, l .before .before .before .pre .1 .1)
+-- where the loop ends there is a key for each component: the pair of its id and its place
+module _ (c : tie.After-loop Inv-loop μ-loop) where
+  abbrev start-of : tie.Start Inv-loop μ-loop
+  start-of = c .before .before .before .before
+
+  keys-long : length (c .before .loop .keys) ≡ componentCount (start-of .args .components .now)
+  keys-long = c .before .loop .inv .1 ∙ start-of .pre .1 .0
+
+  keys-each : (k : ℕ) → k < componentCount (start-of .args .components .now) → getD (c .before .loop .keys) k 0 ≡ idKey (start-of .args .components .now) k
+  keys-each k h = c .before .loop .inv .2 k (omega (arith, c .loop-test .left, c .before .loop .inv .0, keys-long))
+
+sort-pairs-requires : tie.Need-sort-pairs-requires Inv-loop μ-loop
+sort-pairs-requires c κs =
+    let left = c .before .before in
+    let s = start-of left in
+    let cs = s .args .components .now in
+    let keys = left .before .loop .keys in (
+      omega (arith, left .before .loop .inv .1, s .pre .1 .1),
+      (keys-rise cs keys (s .pre .0) (keys-long left) (keys-each left), keys-small cs keys (s .pre .0) (keys-long left) (keys-each left)),
+    )
 
 same-length : tie.Need-same-length Inv-loop μ-loop
 same-length c =
     let sorted = c .before .before .before .before in
-    sorted .sort .kept .0 ∙ sorted .before .before .before .before .loop .inv .1
+    sorted .sort-pairs .kept .0 ∙ sorted .before .before .before .before .loop .inv .1
 
 same-length-2 : tie.Need-same-length-2 Inv-loop μ-loop
-same-length-2 c = c .before .before .before .before .sort .kept .1 .0
+same-length-2 c = c .before .before .before .before .sort-pairs .kept .1 .0
 
 returns : tie.Need-returns Inv-loop μ-loop
 returns c =
     let sorted = c .before .before .before .before in
     let left = sorted .before .before .before in
-    let l = left .before in
-    let s = l .before .before .before in
-    let all : length (l .loop .keys) ≡ l .loop .k = omega (arith, left .loop-test .left, l .loop .inv .0) in
-    let long = l .loop .inv .1 ∙ s .pre .1 .0 in
-    table-of (s .args .components .now) (omega (arith, s .pre .0 .few)) long (λ k h. l .loop .inv .2 k (omega arith)) (sorted .sort .ensures)
+    let s = start-of left in
+    table-of (s .args .components .now) (omega (arith, s .pre .0 .few)) (keys-long left) (keys-each left) (sorted .sort-pairs .ensures)
 
 pub id-table-spec : {M : Type 1} → statement M
 id-table-spec =
@@ -80,7 +93,7 @@ id-table-spec =
     (λ c. omega arith)
     loop-less
     loop-again
-    sort-requires
+    sort-pairs-requires
     same-length
     same-length-2
     returns)

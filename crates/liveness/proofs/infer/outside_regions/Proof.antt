@@ -1,4 +1,4 @@
--- `liveness::infer::outside_regions` meets its contract: passive marks are gathered by member, and the tests of the connections by the region of the sink.
+-- `liveness::infer::outside_regions` meets its contract: passive marks are gathered by member, and the labels are indices of the flags.
 -- Assumes nothing.
 use borrow.Author.Needs.{needs}
 use mathlib.Core.Path.{_≡_, sym, ap, _∙_, subst}
@@ -15,16 +15,16 @@ use Rattle.signals.specs.Seen.{SignalEnds}
 use Rattle.signals.proofs.Lent.{gathered-same}
 use Rattle.signals.proofs.Ends.{ends-within}
 use Rattle.signals.proofs.Staged.{source-ends, sink-ends, members-below}
-use Rattle.signals.proofs.Within.{sinks-below, labels-count, labels-under}
+use Rattle.signals.proofs.Within.{labels-count, labels-under}
 use Rattle.liveness.proofs.Outside.{fed-is}
 use Rattle.liveness.proofs.infer.outside_regions.Statement.{statement}
 use Rattle.liveness.proofs.infer.outside_regions.Tie as tie
 
 -- as many labels as components
 labelled : (c : tie.Start) → length (c .args .labels .now) ≡ componentCount (c .args .components .now)
-labelled c = ap length (c .pre .1 .0 .4 .labels-are) ∙ labels-count _ _ (c .pre .0 .ends)
+labelled c = ap length (c .pre .1 .0 .3 .labels-are) ∙ labels-count _ _ (c .pre .0 .ends)
 
-small : (c : tie.Start) → length (c .args .labels .now) ≤ 1024
+small : (c : tie.Start) → length (c .args .labels .now) ≤ componentLimit
 small c = omega (arith, labelled c, c .pre .0 .components .few)
 
 abbrev start : tie.After-passive-flags → tie.Start
@@ -40,7 +40,7 @@ gather-requires : tie.Need-gather-requires
 gather-requires c κs =
     let flagged = c .before .before .before in
     let s = start flagged in
-    let below = members-below (s .args .components .now) (s .pre .1 .0 .4 .members-are) in (
+    let below = members-below (s .args .components .now) (s .pre .1 .0 .3 .members-are) in (
       record {
         long = omega (arith, labelled s, below .long);
         below = λ p h. omega (
@@ -66,67 +66,47 @@ rest c = drop (length (first c .args .labels .now)) (replicate componentLimit fa
 long : (c : tie.After-gather) → length (marks c) ≡ length (first c .args .labels .now)
 long c = c .gather .kept .1 .1 .1 .0 ∙ length-take-le _ _ (small (first c))
 
-whole : (c : tie.After-gather) → length (marks c ++ rest c) ≡ 1024
+whole : (c : tie.After-gather) → length (marks c ++ rest c) ≡ componentLimit
 whole c = omega (arith, length-append (marks c) (rest c), long c, small (first c), length-drop (length (first c .args .labels .now)) (replicate componentLimit false))
 
-share-3 : tie.Need-slice-aggregate-outside-flags
+share-3 : tie.Need-slice-aggregate-flag-outside
 share-3 c = sym (whole (c .before .before))
 
 -- the ends of the signal connections have labels
 sources-labelled : (c : tie.Start) → SignalEnds (length (c .args .labels .now)) (c .args .ports .now) (c .args .sources .now)
 sources-labelled c =
-    let p = c .pre .1 .0 .4 in
+    let p = c .pre .1 .0 .3 in
     subst (λ (n : ℕ). SignalEnds n (c .args .ports .now) (c .args .sources .now)) (sym (labelled c))
     (source-ends (c .pre .0 .components .few) (p .tables .source-members) (p .tables .sink-members) (ends-within _ _ (c .pre .0 .ends)) (p .sources-long))
 
 sinks-labelled : (c : tie.Start) → SignalEnds (length (c .args .labels .now)) (c .args .ports .now) (c .args .sinks .now)
 sinks-labelled c =
-    let p = c .pre .1 .0 .4 in
+    let p = c .pre .1 .0 .3 in
     subst (λ (n : ℕ). SignalEnds n (c .args .ports .now) (c .args .sinks .now)) (sym (labelled c))
     (sink-ends (c .pre .0 .components .few) (p .tables .source-members) (p .tables .sink-members) (ends-within _ _ (c .pre .0 .ends)) (p .sinks-long))
 
-outside-flags-requires : tie.Need-outside-flags-requires
-outside-flags-requires c κs =
+labels-below : (c : tie.Start) → Indices (length (c .args .labels .now)) (length (c .args .fed .now)) (c .args .labels .now)
+labels-below c =
+    subst (λ (l : List ℕ). Indices (length l) (length (c .args .fed .now)) l) (sym (c .pre .1 .0 .3 .labels-are))
+    (labels-under (c .args .components .now) (c .args .ports .now) (c .pre .0 .ends) _ (omega (arith, c .pre .0 .components .few, c .pre .1 .1)))
+
+flag-outside-requires : tie.Need-flag-outside-requires
+flag-outside-requires c κs =
     let gathered = c .before .before .before in
-    let s = first gathered in
-    (s .pre .0 .connections, ((sources-labelled s, sinks-labelled s), (omega (arith, whole gathered, small s), s .pre .0 .connections .few)))
-
-sink-regions-requires : tie.Need-sink-regions-requires
-sink-regions-requires c κs =
-    let gathered = c .before .before .before .before .before .before in
-    let s = first gathered in
-    (s .pre .0 .connections, (sinks-labelled s, s .pre .0 .connections .few))
-
-gather-requires-2 : tie.Need-gather-requires-2
-gather-requires-2 c κs =
-    let sunk = c .before .before .before .before in
-    let tested = sunk .before .before .before in
-    let gathered = tested .before .before .before .before in
-    let s = first gathered in
-    let cs = s .args .components .now in
-    let ps = s .args .ports .now in
-    let below : Indices (length (s .args .labels .now)) (length (s .args .fed .now)) (s .args .labels .now) =
-    subst (λ (l : List ℕ). Indices (length l) (length (s .args .fed .now)) l) (sym (s .pre .1 .0 .4 .labels-are))
-    (labels-under cs ps (s .pre .0 .ends) _ (omega (arith, s .pre .0 .components .few, s .pre .1 .1))) in (
-      record {
-        long = omega (arith, s .pre .0 .connections .few, sunk .sink-regions .kept .1 .1 .1 .0);
-        below = sinks-below (sinks-labelled s) below (omega (arith, s .pre .1 .1)) (sunk .sink-regions .ensures);
-      },
-      tested .outside-flags .ensures .long,
+    let s = first gathered in (
+      s .pre .0 .connections,
+      ((sources-labelled s, sinks-labelled s), (omega (arith, whole gathered, small s), (labels-below s, omega (arith, s .pre .1 .1)))),
     )
 
 returns : tie.Need-returns
 returns c =
     let ended = c .before .before in
-    let sunk = ended .before .before .before .before .before in
-    let tested = sunk .before .before .before in
-    let gathered = tested .before .before .before .before in
+    let gathered = ended .before .before .before .before in
     let flagged = gathered .before .before .before .before in
     let s = start flagged in
-    let p = s .pre .1 .0 .4 in
+    let p = s .pre .1 .0 .3 in
     fed-is (s .pre .0) (p .tables .source-members) (p .tables .sink-members) (p .labels-are) (p .members-are) (rest gathered) (flagged .passive-flags .ensures)
-    (long gathered ∙ labelled s) (gathered-same (labelled s) (gathered .gather .ensures))
-    (tested .outside-flags .ensures) (sunk .sink-regions .ensures) (ended .gather2 .kept .1 .1 .1 .0 ∙ s .pre .1 .1) (ended .gather2 .ensures)
+    (long gathered ∙ labelled s) (gathered-same (labelled s) (gathered .gather .ensures)) (s .pre .1 .1) (ended .flag-outside .ensures)
 
 pub outside-regions-spec : {M : Type 1} → statement M
 outside-regions-spec =
@@ -139,12 +119,6 @@ outside-regions-spec =
     share-2
     gather-requires
     share-3
-    (λ c. search needs)
-    outside-flags-requires
-    (λ c. search needs)
-    sink-regions-requires
-    (λ c. search needs)
-    (λ c. search needs)
-    gather-requires-2
+    flag-outside-requires
     (λ c. search needs)
     returns)

@@ -1,4 +1,4 @@
--- `liveness::query::input_sources` meets its contract: the scene is made ready in local arrays, then the port's slot is asked.
+-- `liveness::query::input_sources` meets its contract: the tables of the scene are filled in local arrays, then the port's slot is asked.
 -- Assumes nothing.
 use mathlib.Core.Path.{_≡_, refl, sym, ap, _∙_}
 use mathlib.Core.Bool.{Bool, false}
@@ -17,8 +17,8 @@ use Rattle.lists.proofs.Fields.{first-nonNeg}
 use Rattle.lists.proofs.Members.{member-below}
 use Rattle.signals.specs.Keys.{slot}
 use Rattle.signals.proofs.Lent.{front, front-long, front-length}
-use Rattle.liveness.specs.Inputs.{PortOf}
-use Rattle.liveness.proofs.Inputs.{ready-as, id-small, inputs-stack}
+use Rattle.liveness.specs.Inputs.{SlotOf, Walkable}
+use Rattle.liveness.proofs.Inputs.{walk-as, id-small, inputs-stack}
 use Rattle.liveness.proofs.query.input_sources.Statement.{statement}
 use Rattle.liveness.proofs.query.input_sources.Tie as tie
 
@@ -34,10 +34,10 @@ nodes s = length (s .args .keys .now)
 all : (s : tie.Start) → nodes s ≡ componentCount (cs s)
 all s = table-long (s .pre .0 .1)
 
-edges-few : (s : tie.Start) → edgeCount s ≤ 4096
+edges-few : (s : tie.Start) → edgeCount s ≤ connectionLimit
 edges-few s = s .pre .0 .0 .connections .few
 
-nodes-few : (s : tie.Start) → nodes s ≤ 1024
+nodes-few : (s : tie.Start) → nodes s ≤ componentLimit
 nodes-few s = omega (arith, all s, s .pre .0 .0 .components .few)
 
 keys-lent : (s : tie.Start) → length {A = ℕ} (take (edgeCount s) (replicate connectionLimit 0)) ≡ edgeCount s
@@ -46,38 +46,38 @@ keys-lent s = length-take-le _ _ (edges-few s)
 flags-lent : (s : tie.Start) → length (take (nodes s) (replicate componentLimit false)) ≡ nodes s
 flags-lent s = length-take-le _ _ (nodes-few s)
 
--- ---- after the scene is made ready: what was lent stands at the front of each array
+-- ---- after the tables are filled: what was lent stands at the front of each array
 
-abbrev start : tie.After-make-ready → tie.Start
+abbrev start : tie.After-walk-tables → tie.Start
 start c = c .before .before .before .before .before .before .before
 
-abbrev fed : tie.After-make-ready → List ℕ
-fed c = c .make-ready .last .1 .1 .1 .1 .0
+abbrev fed : tie.After-walk-tables → List ℕ
+fed c = c .walk-tables .last .1 .1 .1 .1 .0
 
-abbrev backward : tie.After-make-ready → List ℕ
-backward c = c .make-ready .last .1 .1 .1 .1 .1 .0
+abbrev backward : tie.After-walk-tables → List ℕ
+backward c = c .walk-tables .last .1 .1 .1 .1 .1 .0
 
-abbrev flags : tie.After-make-ready → List Bool
-flags c = c .make-ready .last .1 .1 .1 .1 .1 .1 .0
+abbrev flags : tie.After-walk-tables → List Bool
+flags c = c .walk-tables .last .1 .1 .1 .1 .1 .1 .0
 
-abbrev keys-rest : tie.After-make-ready → List ℕ
+abbrev keys-rest : tie.After-walk-tables → List ℕ
 keys-rest c = drop (edgeCount (start c)) (replicate connectionLimit 0)
 
-abbrev flags-rest : tie.After-make-ready → List Bool
+abbrev flags-rest : tie.After-walk-tables → List Bool
 flags-rest c = drop (nodes (start c)) (replicate componentLimit false)
 
-fed-long : (c : tie.After-make-ready) → length (fed c) ≡ edgeCount (start c)
-fed-long c = c .make-ready .kept .1 .1 .1 .1 .0 ∙ keys-lent (start c)
+fed-long : (c : tie.After-walk-tables) → length (fed c) ≡ edgeCount (start c)
+fed-long c = c .walk-tables .kept .1 .1 .1 .1 .0 ∙ keys-lent (start c)
 
-backward-long : (c : tie.After-make-ready) → length (backward c) ≡ edgeCount (start c)
-backward-long c = c .make-ready .kept .1 .1 .1 .1 .1 .0 ∙ keys-lent (start c)
+backward-long : (c : tie.After-walk-tables) → length (backward c) ≡ edgeCount (start c)
+backward-long c = c .walk-tables .kept .1 .1 .1 .1 .1 .0 ∙ keys-lent (start c)
 
-flags-long : (c : tie.After-make-ready) → length (flags c) ≡ nodes (start c)
-flags-long c = c .make-ready .kept .1 .1 .1 .1 .1 .1 .0 ∙ flags-lent (start c)
+flags-long : (c : tie.After-walk-tables) → length (flags c) ≡ nodes (start c)
+flags-long c = c .walk-tables .kept .1 .1 .1 .1 .1 .1 .0 ∙ flags-lent (start c)
 
 -- the stack is as long as it was
-stack-long : (c : tie.After-make-ready) → length (c .make-ready .last .1 .1 .1 .1 .1 .1 .1 .0) ≡ length (start c .args .stack .now)
-stack-long c = c .make-ready .kept .1 .1 .1 .1 .1 .1 .1 .0
+stack-long : (c : tie.After-walk-tables) → length (c .walk-tables .last .1 .1 .1 .1 .1 .1 .1 .0) ≡ length (start c .args .stack .now)
+stack-long c = c .walk-tables .kept .1 .1 .1 .1 .1 .1 .1 .0
 
 -- ---- the port by its slot
 
@@ -92,27 +92,33 @@ member-of-requires c κs =
     let s = start (c .before .before .before .before .before .before) in
     omega (arith, c .natural-at .ensures, id-small (s .pre .0 .0 .components) (s .args .p) (s .pre .1 .0))
 
-abbrev ready : tie.After-member-of → tie.After-make-ready
+abbrev ready : tie.After-member-of → tie.After-walk-tables
 ready c = c .before .before .before .before .before .before .before
 
 member-is : (c : tie.After-member-of) → let s = start (ready c) in c .member-of .result ≡ memberOf (cs s) (s .args .p)
 member-is c = let s = start (ready c) in c .member-of .ensures (cs s) (s .pre .0 .1) ∙ ap (smallerIds (cs s)) (c .before .natural-at .ensures)
 
-member-small : (c : tie.After-member-of) → c .member-of .result < 1024
+member-small : (c : tie.After-member-of) → c .member-of .result < componentLimit
 member-small c =
     let s = start (ready c) in
     omega (arith, member-is c, member-below (cs s) (s .args .p) (s .pre .1 .0), s .pre .0 .0 .components .few)
 
-port-is : (c : tie.After-member-of)
+walk-is : (c : tie.After-member-of)
     → let r = ready c in
     let s = start r in
-    PortOf (cs s) (s .args .ports .now) (s .args .frontiers .now) (s .args .p) (s .args .port) (take (edgeCount s) (fed r ++ keys-rest r)) (take (edgeCount s) (backward r ++ keys-rest r))
-    (slot (c .member-of .result) (s .args .port)) (take (nodes s) (flags r ++ flags-rest r))
-port-is c =
+    Walkable (cs s) (s .args .ports .now) (s .args .frontiers .now) (take (edgeCount s) (fed r ++ keys-rest r)) (take (edgeCount s) (backward r ++ keys-rest r)) (take (nodes s) (flags r ++ flags-rest r))
+walk-is c =
     let r = ready c in
+    walk-as (front _ (fed r) (keys-rest r) (fed-long r)) (front _ (backward r) (keys-rest r) (backward-long r)) (front _ (flags r) (flags-rest r) (flags-long r)) (r .walk-tables .ensures .0)
+
+slot-at : (c : tie.After-member-of)
+    → let r = ready c in
     let s = start r in
+    SlotOf (cs s) (s .args .ports .now) (s .args .p) (s .args .port) (take (edgeCount s) (fed r ++ keys-rest r)) (slot (c .member-of .result) (s .args .port))
+slot-at c =
+    let s = start (ready c) in
     record {
-      ready = ready-as (front _ (fed r) (keys-rest r) (fed-long r)) (front _ (backward r) (keys-rest r) (backward-long r)) (front _ (flags r) (flags-rest r) (flags-long r)) (r .make-ready .ensures .0);
+      fed-scene = walk-is c .fed-scene;
       place = s .pre .1 .0;
       port-small = s .pre .1 .1 .0;
       slot-is = ap (λ (m : ℕ). slot m (s .args .port)) (member-is c);
@@ -124,8 +130,8 @@ row-sources-requires c κs =
     let r = ready m in
     let s = start r in
     let a = s .args in (
-      (cs s, a .ports .now, a .frontiers .now, a .p, a .port, port-is m),
-      (omega (arith, front-length _ (flags r) (flags-rest r) (flags-long r), all s, s .pre .1 .1 .1, stack-long r), r .make-ready .ensures .1),
+      (cs s, a .ports .now, a .frontiers .now, a .p, a .port, (walk-is m, slot-at m)),
+      (omega (arith, front-length _ (flags r) (flags-rest r) (flags-long r), all s, s .pre .1 .1 .1, stack-long r), r .walk-tables .ensures .1),
     )
 
 returns : tie.Need-returns
@@ -134,7 +140,7 @@ returns c =
     let r = ready m in
     let s = start r in
     let a = s .args in
-    inputs-stack (stack-long r) (c .before .before .row-sources .ensures (cs s) (a .ports .now) (a .frontiers .now) (a .p) (a .port) (port-is m))
+    inputs-stack (stack-long r) (c .before .before .row-sources .ensures (cs s) (a .ports .now) (a .frontiers .now) (a .p) (a .port) (walk-is m) (slot-at m))
 
 pub input-sources-spec : {M : Type 1} → statement M
 input-sources-spec =

@@ -61,15 +61,15 @@ and-flags-requires c κs =
     let w = c .before .before .before .before .before .before in
     (omega (arith, front-length w), (omega arith, start w .pre .few))
 
-set-of-requires : tie.Need-set-of-requires
-set-of-requires c κs = let s = c .before .before .before .before .before .before .before .before .before .before .before .before .before .before .before .before .before in (omega (arith, c .before .before .and-flags .kept .1 .1 .1 .0, s .pre .few), s .pre .few)
+of-flags-requires : tie.Need-of-flags-requires
+of-flags-requires c κs = let s = c .before .before .before .before .before .before .before .before .before .before .before .before .before .before .before .before .before in (omega (arith, c .before .before .and-flags .kept .1 .1 .1 .0, s .pre .few), s .pre .few)
 
 returns : tie.Need-returns
 returns c =
     let w = c .before .before .before .before .before .before .before .before .before .before in
     let s = start w in
     record {
-      set = set-where (omega arith) (c .set-of .ensures) (both-flags (s .args .inferred .now) (front-is w ∙ w .reach-from .ensures .visited-is) (c .before .before .before .and-flags .ensures));
+      set = set-where (omega arith) (c .of-flags .ensures) (both-flags (s .args .inferred .now) (front-is w ∙ w .reach-from .ensures .visited-is) (c .before .before .before .and-flags .ensures));
       stack-zeros = w .reach-from .ensures .stack-zeros;
     }
 
@@ -86,6 +86,6 @@ upstream-inputs-spec =
     (λ c. search needs)
     and-flags-requires
     (λ c. search needs)
-    set-of-requires
+    of-flags-requires
     (λ c. c .before .before .before .before .before .before .before .before .before .before .reach-from .kept .1 .1 .1 .1 .1 .0)
     returns)

@@ -25,10 +25,10 @@ nodes s = length (s .args .keys .now)
 all : (s : tie.Start) → nodes s ≡ componentCount (s .args .components .now)
 all s = table-long (s .pre .0 .1)
 
-edges-few : (s : tie.Start) → edgeCount s ≤ 4096
+edges-few : (s : tie.Start) → edgeCount s ≤ connectionLimit
 edges-few s = s .pre .0 .0 .connections .few
 
-nodes-few : (s : tie.Start) → nodes s ≤ 1024
+nodes-few : (s : tie.Start) → nodes s ≤ componentLimit
 nodes-few s = omega (arith, all s, s .pre .0 .0 .components .few)
 
 keys-lent : (s : tie.Start) → length {A = ℕ} (take (edgeCount s) (replicate connectionLimit 0)) ≡ edgeCount s
@@ -39,15 +39,14 @@ labels-lent s = length-take-le _ _ (nodes-few s)
 
 prepare-requires : tie.Need-prepare-requires
 prepare-requires c κs =
-    let cleared = c .before .before .before .before .before .before .before .before .before .before .before in
-    let s = c .before .before .before .before .before .before .before .before .before .before .before .before .before .before .before .before .before .before in (
+    let cleared = c .before .before .before .before .before .before .before .before .before .before in
+    let s = c .before .before .before .before .before .before .before .before .before .before .before .before .before .before .before .before .before in (
       s .pre .0,
       record {
         sources-room = edges-few s;
         sinks-room = edges-few s;
         forward-room = keys-lent s;
         backward-room = keys-lent s;
-        fed-room = keys-lent s;
         labels-room = labels-lent s ∙ all s;
         members-room = omega (arith, nodes-few s, all s);
         regions-room = omega (arith, nodes-few s, all s);
@@ -59,7 +58,7 @@ prepare-requires c κs =
 -- ---- after the scene is prepared: what was lent stands at the front of each array
 
 abbrev start : tie.After-prepare → tie.Start
-start c = c .before .before .before .before .before .before .before .before .before .before .before .before .before .before .before .before .before .before .before
+start c = c .before .before .before .before .before .before .before .before .before .before .before .before .before .before .before .before .before .before
 
 abbrev forward : tie.After-prepare → List ℕ
 forward c = c .prepare .last .1 .1 .1 .1 .1 .0
@@ -67,11 +66,8 @@ forward c = c .prepare .last .1 .1 .1 .1 .1 .0
 abbrev backward : tie.After-prepare → List ℕ
 backward c = c .prepare .last .1 .1 .1 .1 .1 .1 .0
 
-abbrev fed : tie.After-prepare → List ℕ
-fed c = c .prepare .last .1 .1 .1 .1 .1 .1 .1 .0
-
 abbrev labelled : tie.After-prepare → List ℕ
-labelled c = c .prepare .last .1 .1 .1 .1 .1 .1 .1 .1 .0
+labelled c = c .prepare .last .1 .1 .1 .1 .1 .1 .1 .0
 
 abbrev keys-rest : tie.After-prepare → List ℕ
 keys-rest c = drop (edgeCount (start c)) (replicate connectionLimit 0)
@@ -85,22 +81,22 @@ forward-long c = c .prepare .kept .1 .1 .1 .1 .1 .0 ∙ keys-lent (start c)
 backward-long : (c : tie.After-prepare) → length (backward c) ≡ edgeCount (start c)
 backward-long c = c .prepare .kept .1 .1 .1 .1 .1 .1 .0 ∙ keys-lent (start c)
 
-fed-long : (c : tie.After-prepare) → length (fed c) ≡ edgeCount (start c)
-fed-long c = c .prepare .kept .1 .1 .1 .1 .1 .1 .1 .0 ∙ keys-lent (start c)
-
 labels-long : (c : tie.After-prepare) → length (labelled c) ≡ nodes (start c)
-labels-long c = c .prepare .kept .1 .1 .1 .1 .1 .1 .1 .1 .0 ∙ labels-lent (start c)
+labels-long c = c .prepare .kept .1 .1 .1 .1 .1 .1 .1 .0 ∙ labels-lent (start c)
+
+stack-kept : (c : tie.After-prepare) → length (c .prepare .last .1 .1 .1 .1 .1 .1 .1 .1 .1 .1 .0) ≡ length (start c .args .stack .now)
+stack-kept c = c .prepare .kept .1 .1 .1 .1 .1 .1 .1 .1 .1 .1 .0 ∙ c .before .before .before .before .before .before .before .before .before .before .before .clear .kept .0
 
 report-requires : tie.Need-report-requires
 report-requires c κs =
-    let p = c .before .before .before .before .before .before .before .before .before .before .before .before .before .before .before .before .before .before .before .before .before .before in
+    let p = c .before .before .before .before .before .before .before .before .before .before .before .before .before .before .before .before .before .before .before .before in
     let s = start p in
     let room = s .pre .1 in
     let e = p .prepare .ensures in (
       s .pre .0 .0,
       (
         prepared-as (front _ (forward p) (keys-rest p) (forward-long p)) (front _ (backward p) (keys-rest p) (backward-long p))
-            (front _ (fed p) (keys-rest p) (fed-long p)) (front _ (labelled p) (labels-rest p) (labels-long p)) (e .prepared),
+            (front _ (labelled p) (labels-rest p) (labels-long p)) (e .prepared),
         (
           e .count,
           (
@@ -108,7 +104,7 @@ report-requires c κs =
               regions-room = room .regions-room;
               sources-room = room .sources-room;
               inputs-room = room .inputs-room;
-              stack-room = omega (arith, room .stack-room, p .before .before .before .before .before .before .before .before .before .before .before .before .clear .kept .0, p .prepare .kept .1 .1 .1 .1 .1 .1 .1 .1 .1 .1 .1 .0);
+              stack-room = omega (arith, room .stack-room, stack-kept p);
             },
             e .stack-zeros,
           ),
@@ -117,7 +113,7 @@ report-requires c κs =
     )
 
 returns : tie.Need-returns
-returns c = let p = c .before .before .before .before .before .before .before .before .before .before .before .before .before .before .before .before .before .before .before .before .before .before .before .before .before .before .before .before .before .before .before in analyzed-stack (p .prepare .kept .1 .1 .1 .1 .1 .1 .1 .1 .1 .1 .1 .0 ∙ p .before .before .before .before .before .before .before .before .before .before .before .before .clear .kept .0) (c .before .before .before .before .before .before .before .before .report .ensures)
+returns c = let p = c .before .before .before .before .before .before .before .before .before .before .before .before .before .before .before .before .before .before .before .before .before .before .before .before .before .before .before .before .before in analyzed-stack (stack-kept p) (c .before .before .before .before .before .before .before .before .report .ensures)
 
 pub analyze-spec : {M : Type 1} → statement M
 analyze-spec =
@@ -130,28 +126,24 @@ analyze-spec =
     (λ c. sym (keys-lent (c .before .before .before .before .before .before .before .before .before .before .before .before)))
     (λ c. edges-few (c .before .before .before .before .before .before .before .before .before .before .before .before))
     (λ c. sym (keys-lent (c .before .before .before .before .before .before .before .before .before .before .before .before .before)))
-    (λ c. edges-few (c .before .before .before .before .before .before .before .before .before .before .before .before .before))
-    (λ c. sym (keys-lent (c .before .before .before .before .before .before .before .before .before .before .before .before .before .before)))
-    (λ c. nodes-few (c .before .before .before .before .before .before .before .before .before .before .before .before .before .before))
-    (λ c. sym (labels-lent (c .before .before .before .before .before .before .before .before .before .before .before .before .before .before .before)))
+    (λ c. nodes-few (c .before .before .before .before .before .before .before .before .before .before .before .before .before))
+    (λ c. sym (labels-lent (c .before .before .before .before .before .before .before .before .before .before .before .before .before .before)))
     (λ c. search needs)
     (λ c. search needs)
     prepare-requires
     (λ c. search needs)
     (λ c. search needs)
-    (λ c. let p = c .before .before .before .before .before .before .before .before .before .before .before .before in front-long _ (forward p) (keys-rest p) (forward-long p))
-    (λ c. let p = c .before .before .before .before .before .before .before .before .before .before .before .before .before in front-length _ (forward p) (keys-rest p) (forward-long p))
-    (λ c. let p = c .before .before .before .before .before .before .before .before .before .before .before .before .before in front-long _ (backward p) (keys-rest p) (backward-long p))
-    (λ c. let p = c .before .before .before .before .before .before .before .before .before .before .before .before .before .before in front-length _ (backward p) (keys-rest p) (backward-long p))
-    (λ c. let p = c .before .before .before .before .before .before .before .before .before .before .before .before .before .before in front-long _ (fed p) (keys-rest p) (fed-long p))
-    (λ c. let p = c .before .before .before .before .before .before .before .before .before .before .before .before .before .before .before in front-length _ (fed p) (keys-rest p) (fed-long p))
-    (λ c. let p = c .before .before .before .before .before .before .before .before .before .before .before .before .before .before .before in front-long _ (labelled p) (labels-rest p) (labels-long p))
-    (λ c. let p = c .before .before .before .before .before .before .before .before .before .before .before .before .before .before .before .before in front-length _ (labelled p) (labels-rest p) (labels-long p))
+    (λ c. let p = c .before .before .before .before .before .before .before .before .before .before .before in front-long _ (forward p) (keys-rest p) (forward-long p))
+    (λ c. let p = c .before .before .before .before .before .before .before .before .before .before .before .before in front-length _ (forward p) (keys-rest p) (forward-long p))
+    (λ c. let p = c .before .before .before .before .before .before .before .before .before .before .before .before in front-long _ (backward p) (keys-rest p) (backward-long p))
+    (λ c. let p = c .before .before .before .before .before .before .before .before .before .before .before .before .before in front-length _ (backward p) (keys-rest p) (backward-long p))
+    (λ c. let p = c .before .before .before .before .before .before .before .before .before .before .before .before .before in front-long _ (labelled p) (labels-rest p) (labels-long p))
+    (λ c. let p = c .before .before .before .before .before .before .before .before .before .before .before .before .before .before in front-length _ (labelled p) (labels-rest p) (labels-long p))
     (λ c. search needs)
     (λ c. search needs)
     report-requires
     (λ c. search needs)
     (λ c. search needs)
     (λ c. search needs)
-    (λ c. let p = c .before .before .before .before .before .before .before .before .before .before .before .before .before .before .before .before .before .before .before .before .before .before .before .before .before .before .before .before .before .before .before in c .before .before .before .before .before .before .before .before .report .kept .1 .1 .1 .1 .1 .1 .1 .1 .1 .1 .1 .1 .1 .1 .1 .0 ∙ (p .prepare .kept .1 .1 .1 .1 .1 .1 .1 .1 .1 .1 .1 .0 ∙ p .before .before .before .before .before .before .before .before .before .before .before .before .clear .kept .0))
+    (λ c. c .before .before .before .before .before .before .before .before .report .kept .1 .1 .1 .1 .1 .1 .1 .1 .1 .1 .1 .1 .1 .1 .0 ∙ stack-kept (c .before .before .before .before .before .before .before .before .before .before .before .before .before .before .before .before .before .before .before .before .before .before .before .before .before .before .before .before .before))
     returns)

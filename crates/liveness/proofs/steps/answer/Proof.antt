@@ -18,10 +18,10 @@ returns c =
       regions-is = refl;
       sources-is = refl;
       inputs-is = refl;
-      drive-set = c .before .before .before .before .set-of .ensures;
-      potential-set = c .before .before .before .set-of2 .ensures;
-      cyclic-set = set-where (s .pre .1 .0 .1 .1) (c .before .set-of3 .ensures) (c .before .before .before .before .before .before .find-cyclic .ensures);
-      has-drive-set = c .set-of4 .ensures;
+      drive-set = c .before .before .before .before .of-flags .ensures;
+      potential-set = c .before .before .before .of-flags2 .ensures;
+      cyclic-set = set-where (s .pre .1 .0 .1 .1) (c .before .of-flags3 .ensures) (c .before .before .before .before .before .before .find-cyclic .ensures);
+      has-drive-set = c .of-flags4 .ensures;
     }
 
 pub answer-spec : {M : Type 1} → statement M

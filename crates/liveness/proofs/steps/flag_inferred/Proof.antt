@@ -16,13 +16,13 @@ start c = c .before .before .before .before .before .before .before .before .bef
 outside-regions-requires : tie.Need-outside-regions-requires
 outside-regions-requires c κs =
     let s = c .before .before .before .before .before .before .before .before .before .before in
-    (s .pre .0, ((s .args .forward .now, s .args .backward .now, s .pre .1 .0 .0, s .args .region-at .now, s .pre .1 .0 .1), refl))
+    (s .pre .0, ((s .args .forward .now, s .args .backward .now, s .args .region-at .now, s .pre .1 .0), refl))
 
 infer-requires : tie.Need-infer-requires
 infer-requires c κs =
     let fed = c .before .before .before in
     let s = start fed in
-    let p = s .pre .1 .0 .1 in
+    let p = s .pre .1 .0 in
     let cs = s .args .components .now in
     let ps = s .args .ports .now in (
       (s .pre .0 .components, (forward-rows (s .pre .0) p, backward-rows (s .pre .0) p)),
@@ -39,7 +39,7 @@ returns c fs driven =
     let s = start fed in
     record {
       long = called .infer .ensures .long;
-      at = λ q h. called .infer .ensures .at q h ∙ inferred-is (s .pre .0) (s .pre .1 .0 .1) fs driven (fed .outside-regions .ensures) q h;
+      at = λ q h. called .infer .ensures .at q h ∙ inferred-is (s .pre .0) (s .pre .1 .0) fs driven (fed .outside-regions .ensures) q h;
     }
 
 pub flag-inferred-spec : {M : Type 1} → statement M

@@ -1,19 +1,14 @@
 -- `liveness::steps::mark` meets its contract: drive sources, inferred inputs, and what they reach.
 -- Assumes nothing.
 use borrow.Author.Needs.{needs}
-use mathlib.Core.Path.{_≡_, sym, _∙_}
+use mathlib.Core.Path.{_≡_, sym, ap, _∙_}
 use mathlib.Core.List.{List}
-use Prim.Native.Nat.{ℕ, _≤_}
 use native.Mathlib.Omega.{arith}
-use lib.ListN.{length}
 use lib.IntN.{ℤ}
+use lib.ListN.{length}
 use Rattle.lists.specs.Records.{componentCount}
-use Rattle.regions.specs.Keys.{edges}
-use Rattle.signals.specs.Signals.{signals}
-use Rattle.signals.specs.Flags.{Indices}
-use Rattle.signals.proofs.Ends.{ends-within}
-use Rattle.signals.proofs.Graph.{edges-signals}
-use Rattle.signals.proofs.Staged.{members-below}
+use Rattle.signals.proofs.Within.{labels-count}
+use Rattle.liveness.specs.Scene.{SceneRegions}
 use Rattle.liveness.proofs.steps.mark.Statement.{statement}
 use Rattle.liveness.proofs.steps.mark.Tie as tie
 
@@ -25,62 +20,65 @@ ps s = s .args .ports .now
 
 flag-drive-requires : tie.Need-flag-drive-requires
 flag-drive-requires c κs =
-    let s = c .before .before .before .before .before .before .before .before .before .before .before .before .before .before .before .before in
+    let s = c .before .before .before .before .before .before .before .before .before .before .before .before .before .before .before in
     let room = s .pre .1 .1 in
-    ((ps s, (s .pre .0, s .pre .1 .0 .1 .regions-are)), (room .frontier-room, (s .pre .0 .components .few, room .regions-room)))
+    ((ps s, (s .pre .0, s .pre .1 .0 .regions-are)), (room .frontier-room, (s .pre .0 .components .few, room .regions-room)))
 
 flag-inferred-requires : tie.Need-flag-inferred-requires
 flag-inferred-requires c κs =
     let driven = c .before .before .before .before .before .before .before in
-    let s = c .before .before .before .before .before .before .before .before .before .before .before .before .before .before .before .before .before .before .before .before .before .before .before .before in
+    let s = c .before .before .before .before .before .before .before .before .before .before .before .before .before .before .before .before .before .before .before .before .before .before .before in
     let room = s .pre .1 .1 in
     (s .pre .0, (s .pre .1 .0, (driven .flag-drive .kept .1 .1 .1 .1 .1 .0 ∙ room .regions-room, room .inferred-room)))
 
-indices-as : {n m : ℕ} {index : List ℕ} → m ≡ n → Indices n n index → Indices m m index
-indices-as e i = record { long = omega (arith, e, i .long); below = λ p h. omega (arith, e, i .below p (omega (arith, e))) }
+regions : (s : tie.Start)
+    → SceneRegions (cs s) (ps s) (s .args .sources .now) (s .args .sinks .now) (s .args .labels .now) (s .args .region-at .now)
+regions s =
+    let p = s .pre .1 .0 in
+    record {
+      scene = s .pre .0;
+      source-members = p .tables .source-members;
+      sink-members = p .tables .sink-members;
+      sources-long = p .sources-long;
+      sinks-long = p .sinks-long;
+      labels-are = p .labels-are;
+      regions-are = p .regions-are;
+    }
+
+all : (s : tie.Start) → length (s .args .labels .now) ≡ componentCount (cs s)
+all s = ap length (s .pre .1 .0 .labels-are) ∙ labels-count (cs s) (ps s) (s .pre .0 .ends)
 
 flag-alive-requires : tie.Need-flag-alive-requires
 flag-alive-requires c κs =
-    let inferred = c .before .before .before .before .before .before .before in
-    let driven = c .before .before .before .before .before .before .before .before .before .before .before .before .before .before .before in
-    let s = c .before .before .before .before .before .before .before .before .before .before .before .before .before .before .before .before .before .before .before .before .before .before .before .before .before .before .before .before .before .before .before .before in
-    let room = s .pre .1 .1 in
-    let few = s .pre .0 .components .few in
-    let prepared = s .pre .1 .0 .1 in
-    record {
-      keys-rise = prepared .tables .forward-keys .sorted .ascending;
-      few = omega (arith, room .drive-room, few);
-      possible-room = room .potential-room ∙ sym (room .drive-room);
-      members-below = indices-as (room .drive-room) (members-below (cs s) (prepared .members-are));
-      driven-room = omega (arith, room .drive-room, few, driven .flag-drive .kept .1 .1 .1 .1 .0);
-      inferred-room = omega (arith, room .drive-room, room .inferred-room, inferred .flag-inferred .kept .1 .1 .1 .1 .1 .1 .1 .1 .1 .1 .0);
-      stack-room = omega (arith, room .drive-room, room .stack-room);
-      stack-zeros = room .stack-zeros;
-    }
-
-graph : (s : tie.Start) → edges (componentCount (cs s)) (s .args .forward .now) ≡ signals (cs s) (ps s)
-graph s =
-    let t = s .pre .1 .0 .1 .tables in
-    edges-signals (s .pre .0 .components .few) (t .source-members) (t .sink-members) (ends-within (cs s) (ps s) (s .pre .0 .ends)) (t .forward-keys)
+    let inferred = c .before .before .before .before .before .before in
+    let driven = c .before .before .before .before .before .before .before .before .before .before .before .before .before .before in
+    let s = c .before .before .before .before .before .before .before .before .before .before .before .before .before .before .before .before .before .before .before .before .before .before .before .before .before .before .before .before .before .before in
+    let room = s .pre .1 .1 in (
+      (cs s, regions s),
+      record {
+        regions-room = driven .flag-drive .kept .1 .1 .1 .1 .1 .0 ∙ room .regions-room;
+        inferred-room = omega (arith, all s, room .inferred-room, inferred .flag-inferred .kept .1 .1 .1 .1 .1 .1 .1 .1 .1 .1 .0);
+        drive-room = room .drive-room ∙ sym (all s);
+        potential-room = room .potential-room ∙ sym (all s);
+      },
+    )
 
 returns : tie.Need-returns
 returns c =
-    let alive = c .before .before .before .before .before .before in
-    let inferred = c .before .before .before .before .before .before .before .before .before .before .before .before .before .before in
-    let driven = c .before .before .before .before .before .before .before .before .before .before .before .before .before .before .before .before .before .before .before .before .before .before in
-    let s = c .before .before .before .before .before .before .before .before .before .before .before .before .before .before .before .before .before .before .before .before .before .before .before .before .before .before .before .before .before .before .before .before .before .before .before .before .before .before .before in
+    let alive = c .before .before .before .before in
+    let inferred = c .before .before .before .before .before .before .before .before .before .before .before in
+    let driven = c .before .before .before .before .before .before .before .before .before .before .before .before .before .before .before .before .before .before .before in
+    let s = c .before .before .before .before .before .before .before .before .before .before .before .before .before .before .before .before .before .before .before .before .before .before .before .before .before .before .before .before .before .before .before .before .before .before .before in
     let fs = s .args .frontiers .now in
-    let prepared = s .pre .1 .0 .1 in
-    let d = driven .flag-drive .ensures (ps s) (prepared .regions-are) in
+    let d = driven .flag-drive .ensures (ps s) (s .pre .1 .0 .regions-are) in
     let i = inferred .flag-inferred .ensures fs (d .region-flags) in
-    let a = alive .flag-alive .ensures (cs s) (ps s) fs (graph s) (s .pre .1 .1 .drive-room) (prepared .members-are) (d .drive-flags) i in
+    let a = alive .flag-alive .ensures (cs s) fs (regions s) (d .region-flags) i in
     record {
       frontier-flags = d .frontier-flags;
       inferred-flags = i;
       region-flags = d .region-flags;
       drive-is = a .drive-is;
       potential-is = a .potential-is;
-      stack-zeros = a .stack-zeros;
     }
 
 pub mark-spec : {M : Type 1} → statement M
@@ -90,9 +88,7 @@ mark-spec =
     (λ c. search needs)
     flag-drive-requires
     flag-inferred-requires
-    (λ c. search needs)
     flag-alive-requires
-    (λ c. search needs)
     (λ c. search needs)
     (λ c. search needs)
     (λ c. search needs)

@@ -5,7 +5,6 @@ use mathlib.Core.Path.{_≡_, _∙_}
 use Prim.Native.Nat.{ℕ, _≤_}
 use mathlib.Core.List.{List}
 use native.Mathlib.Omega.{arith}
-use lib.ListN.{length}
 use lib.IntN.{ℤ}
 use Rattle.lists.specs.Limits.{componentLimit}
 use Rattle.lists.specs.Records.{componentCount}
@@ -22,19 +21,19 @@ use Rattle.liveness.proofs.steps.prepare.Tie as tie
 
 build-tables-requires : tie.Need-build-tables-requires
 build-tables-requires c κs =
-    let s = c .before .before .before .before .before .before .before .before .before .before .before .before .before .before .before in
+    let s = c .before .before .before .before .before .before .before .before .before .before .before .before .before in
     let room = s .pre .1 in (
       (s .pre .0 .0 .connections, (s .args .components .now, s .pre .0 .1)),
       (
         (omega (arith, table-long (s .pre .0 .1), s .pre .0 .0 .components .few), (room .sources-room, room .sinks-room)),
-        (room .forward-room, (room .backward-room, room .fed-room)),
+        (room .forward-room, room .backward-room),
       ),
     )
 
 -- ---- after the tables are built
 
 abbrev start : tie.After-build-tables → tie.Start
-start c = c .before .before .before .before .before .before .before .before .before .before .before .before .before .before .before .before
+start c = c .before .before .before .before .before .before .before .before .before .before .before .before .before .before
 
 abbrev cs : tie.After-build-tables → List ℤ
 cs c = start c .args .components .now
@@ -46,7 +45,7 @@ abbrev forward : tie.After-build-tables → List ℕ
 forward c = c .build-tables .last .1 .1 .1 .1 .0
 
 tables : (c : tie.After-build-tables)
-    → Tables (cs c) (ps c) (c .build-tables .last .1 .1 .0) (c .build-tables .last .1 .1 .1 .0) (forward c) (c .build-tables .last .1 .1 .1 .1 .1 .0) (c .build-tables .last .1 .1 .1 .1 .1 .1 .0)
+    → Tables (cs c) (ps c) (c .build-tables .last .1 .1 .0) (c .build-tables .last .1 .1 .1 .0) (forward c) (c .build-tables .last .1 .1 .1 .1 .1 .0)
 tables c = c .build-tables .ensures (cs c) (start c .pre .0 .1)
 
 few : (c : tie.After-build-tables) → componentCount (cs c) ≤ componentLimit
@@ -59,7 +58,7 @@ graph c =
 
 find-regions-requires : tie.Need-find-regions-requires
 find-regions-requires c κs =
-    let b = c .before .before .before .before .before .before .before .before .before .before .before .before .before .before in
+    let b = c .before .before .before .before .before .before .before .before .before .before .before .before in
     let room = start b .pre .1 in
     let t = tables b in (
       (
@@ -73,7 +72,7 @@ find-regions-requires c κs =
     )
 
 place-members-requires : tie.Need-place-members-requires
-place-members-requires c κs = let s = c .before .before .before .before .before .before .before .before .before .before .before .before .before .before .before .before .before .before .before .before .before .before .before .before .before .before .before .before .before .before .before .before .before .before .before .before in ((s .args .components .now, s .pre .0 .1), omega (arith, table-long (s .pre .0 .1), s .pre .1 .members-room))
+place-members-requires c κs = let s = c .before .before .before .before .before .before .before .before .before .before .before .before .before .before .before .before .before .before .before .before .before .before .before .before .before .before .before .before .before .before .before .before in ((s .args .components .now, s .pre .0 .1), omega (arith, table-long (s .pre .0 .1), s .pre .1 .members-room))
 
 -- the members of all components are nodes
 indices-at : {n m k : ℕ} {index : List ℕ} → n ≡ k → m ≡ k → Indices k k index → Indices n m index
@@ -83,7 +82,7 @@ place-labels-requires : tie.Need-place-labels-requires
 place-labels-requires c κs =
     let placed = c .before .before .before .before .before in
     let found = c .before .before .before .before .before .before .before .before .before .before .before in
-    let b = c .before .before .before .before .before .before .before .before .before .before .before .before .before .before .before .before .before .before .before .before .before .before .before .before .before .before in
+    let b = c .before .before .before .before .before .before .before .before .before .before .before .before .before .before .before .before .before .before .before .before .before .before .before .before in
     let room = start b .pre .1 in
     let long = found .find-regions .kept .1 .1 .0 ∙ room .labels-room in
     (indices-at long long (members-below (cs b) (placed .place-members .ensures (cs b) (start b .pre .0 .1) (start b .pre .0 .0 .distinct))), omega (arith, long, room .regions-room))
@@ -93,7 +92,7 @@ returns c =
     let labelled = c .before .before in
     let placed = c .before .before .before .before .before .before .before .before in
     let found = c .before .before .before .before .before .before .before .before .before .before .before .before .before .before in
-    let b = c .before .before .before .before .before .before .before .before .before .before .before .before .before .before .before .before .before .before .before .before .before .before .before .before .before .before .before .before .before in
+    let b = c .before .before .before .before .before .before .before .before .before .before .before .before .before .before .before .before .before .before .before .before .before .before .before .before .before .before .before in
     let room = start b .pre .1 in
     let long = found .find-regions .kept .1 .1 .0 ∙ room .labels-room in
     let regions = regions-are (cs b) (ps b) (forward b) (graph b) (rw (room .labels-room) at (found .find-regions .ensures)) in
@@ -119,7 +118,6 @@ prepare-spec =
     find-regions-requires
     place-members-requires
     place-labels-requires
-    (λ c. search needs)
     (λ c. search needs)
     (λ c. search needs)
     (λ c. search needs)

@@ -18,17 +18,15 @@ use Rattle.regions.proofs.Fill.{zeros-cleared}
 use Rattle.signals.specs.Signals.{signals}
 use Rattle.signals.specs.Regions.{regionAt, regionsOf}
 use Rattle.signals.specs.Drive.{drive, potential}
-use Rattle.signals.specs.Verdicts.{sourceRowsBelow, verdictRows}
-use Rattle.signals.specs.Rows.{FedWithin, sourcesBelow, verdictsBelow}
+use Rattle.signals.specs.Verdicts.{sourceRowsBelow}
+use Rattle.signals.specs.Rows.{sourcesBelow}
 use Rattle.signals.specs.Seen.{SignalEnds}
 use Rattle.signals.specs.Stages.{cyclicAt}
-use Rattle.liveness.specs.Scene.{MarkRoom}
 use Rattle.signals.proofs.Lent.{front, front-long}
 use Rattle.signals.proofs.Ends.{ends-within}
 use Rattle.signals.proofs.Graph.{edges-signals}
 use Rattle.signals.proofs.Staged.{labels-long, labels-below, regions-few, cyclic-is, sink-ends}
-use Rattle.signals.proofs.Statuses.{fed-within}
-use Rattle.signals.proofs.RowLaws.{members-within, sources-are, inferred-alone, verdicts-are}
+use Rattle.signals.proofs.RowLaws.{sources-are, inferred-alone}
 use Rattle.liveness.proofs.Answers.{set-all, set-where, set-same, tabulated-same}
 use Rattle.liveness.proofs.steps.report.Statement.{statement}
 use Rattle.liveness.proofs.steps.report.Tie as tie
@@ -58,7 +56,7 @@ graph s =
 all : (s : tie.Start) → nodes s ≡ componentCount (cs s)
 all s = ap length (s .pre .1 .0 .labels-are) ∙ labels-long (cs s) (ps s) (s .args .forward .now) (graph s)
 
-small : (s : tie.Start) → nodes s ≤ 1024
+small : (s : tie.Start) → nodes s ≤ componentLimit
 small s = omega (arith, all s, few s)
 
 count-small : (s : tie.Start) → s .args .count ≤ componentLimit
@@ -71,25 +69,22 @@ lent s = length-take-le _ _ (small s)
 
 mark-requires : tie.Need-mark-requires
 mark-requires c κs =
-    let s = c .before .before .before .before .before .before .before .before .before .before .before .before .before .before .before .before .before .before in
-    let room = s .pre .1 .1 .1 .0 in (
+    let s = c .before .before .before .before .before .before .before .before .before .before .before .before .before .before .before .before in (
       s .pre .0,
       (
-        (s .args .fed .now, s .pre .1 .0),
+        s .pre .1 .0,
         record {
           frontier-room = few s;
           inferred-room = few s;
           regions-room = omega arith;
           drive-room = lent s ∙ all s;
           potential-room = lent s ∙ all s;
-          stack-room = room .stack-room;
-          stack-zeros = s .pre .1 .1 .1 .1;
         },
       ),
     )
 
 abbrev start : tie.After-mark → tie.Start
-start c = c .before .before .before .before .before .before .before .before .before .before .before .before .before .before .before .before .before .before .before
+start c = c .before .before .before .before .before .before .before .before .before .before .before .before .before .before .before .before .before
 
 abbrev driven : tie.After-mark → List Bool
 driven c = c .mark .last .1 .1 .1 .1 .1 .1 .1 .1 .1 .1 .1 .1 .1 .0
@@ -122,12 +117,12 @@ possible-lent c = ap length (possible-front c) ∙ possible-long c
 
 put-regions-requires : tie.Need-put-regions-requires
 put-regions-requires c κs =
-    let s = c .before .before .before .before .before .before .before .before .before .before .before .before .before .before .before .before .before .before .before .before .before .before .before .before .before .before .before in
+    let s = c .before .before .before .before .before .before .before .before .before .before .before .before .before .before .before .before .before .before .before .before .before .before .before in
     (omega (arith, all s, s .pre .1 .0 .regions-are .long), omega (arith, all s, s .pre .1 .1 .1 .0 .regions-room))
 
 put-sources-requires : tie.Need-put-sources-requires
 put-sources-requires c κs =
-    let m = c .before .before .before .before .before .before .before .before .before .before .before .before .before .before in
+    let m = c .before .before .before .before .before .before .before .before .before .before .before .before in
     let s = start m in
     let e = m .mark .ensures in (
       s .pre .0 .components,
@@ -137,17 +132,14 @@ put-sources-requires c κs =
       ),
     )
 
-fed-as : {keys : List ℕ} {n m : ℕ} → n ≡ m → FedWithin keys m → FedWithin keys n
-fed-as e f = record { below = λ i h l. omega (arith, e, f .below i h l) }
-
-put-verdicts-requires : tie.Need-put-verdicts-requires
-put-verdicts-requires c κs =
-    let m = c .before .before .before .before .before .before .before .before .before .before .before .before .before .before .before .before .before .before .before .before in
+write-verdicts-requires : tie.Need-write-verdicts-requires
+write-verdicts-requires c κs =
+    let m = c .before .before .before .before .before .before .before .before .before .before .before .before .before .before .before .before .before .before in
     let s = start m in
-    let t = s .pre .1 .0 .tables in
-    let within = fed-within (few s) (s .pre .0 .connections) (t .source-members) (t .sink-members) (t .slots-are) (t .fed-keys) (s .pre .0 .ends) in (
-      (s .pre .0 .components, members-within (cs s) (few s) (s .pre .1 .0 .members-are)),
-      ((t .fed-keys .sorted .ascending, fed-as (driven-lent m ∙ all s) within, fed-as (possible-lent m ∙ all s) within), s .pre .1 .1 .1 .0 .inputs-room),
+    let p = s .pre .1 .0 in
+    let t = p .tables in (
+      (s .pre .0 .components, (s .pre .0 .connections, s .pre .0 .ends)),
+      ((t .source-members, t .sink-members), ((p .sources-long, p .sinks-long), (p .members-are, s .pre .1 .1 .1 .0 .inputs-room))),
     )
 
 -- ---- the answer
@@ -157,7 +149,7 @@ ends-as e f = record { long = f .long; below = λ k h i. omega (arith, e, f .bel
 
 answer-requires : tie.Need-answer-requires
 answer-requires c κs =
-    let m = c .before .before .before .before .before .before .before .before .before .before .before .before .before .before .before .before .before .before .before .before .before .before .before .before .before .before in
+    let m = c .before .before .before .before .before .before .before .before .before .before .before .before .before .before .before .before .before .before .before .before .before .before .before .before in
     let s = start m in
     let p = s .pre .1 .0 in
     let t = p .tables in (
@@ -173,11 +165,12 @@ returns c =
     let verdicts = c .before .before .before .before .before .before in
     let sources = c .before .before .before .before .before .before .before .before .before .before .before .before in
     let regions = c .before .before .before .before .before .before .before .before .before .before .before .before .before .before .before .before .before .before in
-    let m = c .before .before .before .before .before .before .before .before .before .before .before .before .before .before .before .before .before .before .before .before .before .before .before .before .before .before .before in
+    let m = c .before .before .before .before .before .before .before .before .before .before .before .before .before .before .before .before .before .before .before .before .before .before .before .before .before in
     let s = start m in
     let a = c .answer .ensures in
     let p = s .pre .1 .0 in
     let t = p .tables in
+    let f = s .pre .1 .0 in
     let e = m .mark .ensures in
     let n = componentCount (cs s) in
     let region-rows : tabulate (λ q. getD (s .args .region-at .now) q 0) (nodes s) ≡ regionsOf (cs s) (ps s) =
@@ -187,18 +180,16 @@ returns c =
     sources-are (cs s) (ps s) (fs s) (e .frontier-flags) (e .inferred-flags) n (omega arith) in
     let live : take (nodes s) (driven m ++ rest m) ≡ drive (cs s) (ps s) (fs s) = driven-front m ∙ e .drive-is in
     let may : take (nodes s) (possible m ++ rest m) ≡ potential (cs s) (ps s) (fs s) = possible-front m ∙ e .potential-is in
-    let verdict-rows : verdictsBelow (cs s) (s .args .members .now) (s .args .fed .now) (take (nodes s) (driven m ++ rest m)) (take (nodes s) (possible m ++ rest m)) n ≡ verdictRows (cs s) (ps s) (fs s) n =
-    rw (live, may)
-    (verdicts-are (few s) (s .pre .0 .connections) (t .source-members) (t .sink-members) (t .slots-are) (t .fed-keys) (s .pre .0 .ends) (fs s) (p .members-are) n (omega arith)) in
+    let verdict-rows = verdicts .write-verdicts .ensures (fs s) record { drive-is = live; potential-is = may } in
     record {
       answer = a .checked-is;
       regions-left = regions .put-regions .ensures ∙ ap (λ (l : List ℕ). laid l (s .args .regions .now)) region-rows;
       sources-left = sources .put-sources .ensures .is ∙ ap (λ (l : List ℕ). laid l (s .args .sources .now)) source-rows;
-      inputs-left = verdicts .put-verdicts .ensures .is ∙ ap (λ (l : List ℕ). laid l (s .args .inputs .now)) verdict-rows;
-      stack-left = zeros-cleared _ (e .stack-zeros) ∙ ap (λ (k : ℕ). replicate k 0) (m .mark .kept .1 .1 .1 .1 .1 .1 .1 .1 .1 .1 .1 .1 .1 .1 .1 .0);
+      inputs-left = verdict-rows .is;
+      stack-left = zeros-cleared _ (s .pre .1 .1 .1 .1);
       region-count = a .regions-is ∙ s .pre .1 .1 .0;
       source-count = ap (λ (k : ℕ). k * 2) (a .sources-is) ∙ sources .put-sources .ensures .count ∙ ap length source-rows;
-      input-count = ap (λ (k : ℕ). k * 3) (a .inputs-is) ∙ verdicts .put-verdicts .ensures .count ∙ ap length verdict-rows;
+      input-count = ap (λ (k : ℕ). k * 3) (a .inputs-is) ∙ verdict-rows .count;
       drive-set = set-all (all s) live (a .drive-set);
       potential-set = set-all (all s) may (a .potential-set);
       cyclic-set = set-same (s .pre .1 .1 .0)
@@ -214,28 +205,27 @@ report-spec =
     (λ c. search needs)
     (λ c. search needs)
     (λ c. search needs)
+    (λ c. small (c .before .before .before .before .before .before .before .before .before .before .before .before .before .before))
+    (λ c. sym (lent (c .before .before .before .before .before .before .before .before .before .before .before .before .before .before .before)))
     (λ c. small (c .before .before .before .before .before .before .before .before .before .before .before .before .before .before .before))
     (λ c. sym (lent (c .before .before .before .before .before .before .before .before .before .before .before .before .before .before .before .before)))
-    (λ c. small (c .before .before .before .before .before .before .before .before .before .before .before .before .before .before .before .before))
-    (λ c. sym (lent (c .before .before .before .before .before .before .before .before .before .before .before .before .before .before .before .before .before)))
     mark-requires
     put-regions-requires
     (λ c. search needs)
     (λ c. search needs)
     put-sources-requires
-    (λ c. let m = c .before .before .before .before .before .before .before .before .before .before .before .before .before .before .before .before .before in front-long _ (driven m) (rest m) (driven-long m))
-    (λ c. let m = c .before .before .before .before .before .before .before .before .before .before .before .before .before .before .before .before .before .before in sym (driven-lent m))
-    (λ c. let m = c .before .before .before .before .before .before .before .before .before .before .before .before .before .before .before .before .before .before in front-long _ (possible m) (rest m) (possible-long m))
-    (λ c. let m = c .before .before .before .before .before .before .before .before .before .before .before .before .before .before .before .before .before .before .before in sym (possible-lent m))
-    put-verdicts-requires
-    (λ c. let m = c .before .before .before .before .before .before .before .before .before .before .before .before .before .before .before .before .before .before .before .before .before .before .before in front-long _ (driven m) (rest m) (driven-long m))
-    (λ c. let m = c .before .before .before .before .before .before .before .before .before .before .before .before .before .before .before .before .before .before .before .before .before .before .before .before in sym (driven-lent m))
-    (λ c. let m = c .before .before .before .before .before .before .before .before .before .before .before .before .before .before .before .before .before .before .before .before .before .before .before .before in front-long _ (possible m) (rest m) (possible-long m))
-    (λ c. let m = c .before .before .before .before .before .before .before .before .before .before .before .before .before .before .before .before .before .before .before .before .before .before .before .before .before in sym (possible-lent m))
+    (λ c. let m = c .before .before .before .before .before .before .before .before .before .before .before .before .before .before .before in front-long _ (driven m) (rest m) (driven-long m))
+    (λ c. let m = c .before .before .before .before .before .before .before .before .before .before .before .before .before .before .before .before in sym (driven-lent m))
+    (λ c. let m = c .before .before .before .before .before .before .before .before .before .before .before .before .before .before .before .before in front-long _ (possible m) (rest m) (possible-long m))
+    (λ c. let m = c .before .before .before .before .before .before .before .before .before .before .before .before .before .before .before .before .before in sym (possible-lent m))
+    write-verdicts-requires
+    (λ c. let m = c .before .before .before .before .before .before .before .before .before .before .before .before .before .before .before .before .before .before .before .before .before in front-long _ (driven m) (rest m) (driven-long m))
+    (λ c. let m = c .before .before .before .before .before .before .before .before .before .before .before .before .before .before .before .before .before .before .before .before .before .before in sym (driven-lent m))
+    (λ c. let m = c .before .before .before .before .before .before .before .before .before .before .before .before .before .before .before .before .before .before .before .before .before .before in front-long _ (possible m) (rest m) (possible-long m))
+    (λ c. let m = c .before .before .before .before .before .before .before .before .before .before .before .before .before .before .before .before .before .before .before .before .before .before .before in sym (possible-lent m))
     (λ c. search needs)
     answer-requires
     (λ c. c .before .before .before .before .before .before .before .before .before .before .before .before .before .before .before .before .before .before .put-regions .kept .1 .1 .0)
     (λ c. c .before .before .before .before .before .before .before .before .before .before .before .before .put-sources .kept .1 .1 .1 .0)
-    (λ c. c .before .before .before .before .before .before .put-verdicts .kept .1 .1 .1 .1 .1 .0)
-    (λ c. c .before .before .before .before .before .before .before .before .before .before .before .before .before .before .before .before .before .before .before .before .before .before .before .before .before .before .before .mark .kept .1 .1 .1 .1 .1 .1 .1 .1 .1 .1 .1 .1 .1 .1 .1 .0)
+    (λ c. c .before .before .before .before .before .before .write-verdicts .kept .1 .1 .1 .1 .1 .1 .1 .0)
     returns)

@@ -3,7 +3,7 @@
 use borrow.Author.Needs.{needs}
 use native.Mathlib.Omega.{arith}
 use Rattle.replay.proofs.Lists.{no-count, too-long, list-read, list-unread}
-use Rattle.replay.proofs.Counts.{count-rest}
+use Rattle.lines.proofs.Counting.{count-rest}
 use mathlib.Core.Path.{sym, _∙_}
 use lib.Seq.{length-take-le}
 use Rattle.replay.proofs.input.read_list.Statement.{statement}

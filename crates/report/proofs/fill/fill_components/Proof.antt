@@ -11,7 +11,7 @@ use Rattle.lists.proofs.Search.{record-within}
 use Rattle.lists.proofs.Fields.{first-nonNeg, first-most}
 use Rattle.signals.proofs.Devices.{RowsPut, below-none, below-more, below-all}
 use Rattle.report.specs.Report.{allRows}
-use Rattle.report.specs.Blocks.{componentRowBy}
+use Rattle.report.specs.Printing.{componentRowBy}
 use Rattle.report.proofs.RowText.{row-read, flag-read}
 use Rattle.report.proofs.fill.fill_components.Statement.{statement}
 use Rattle.report.proofs.fill.fill_components.Tie as tie

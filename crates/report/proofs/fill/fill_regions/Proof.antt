@@ -7,7 +7,7 @@ use Prim.Native.Nat.{ℕ, _-_}
 use native.Mathlib.Omega.{arith}
 use Rattle.signals.proofs.Devices.{RowsPut, below-none, below-more, below-all}
 use Rattle.report.specs.Report.{allRows}
-use Rattle.report.specs.Blocks.{regionRowBy}
+use Rattle.report.specs.Printing.{regionRowBy}
 use Rattle.report.proofs.RowText.{pair-read, flag-read}
 use Rattle.report.proofs.fill.fill_regions.Statement.{statement}
 use Rattle.report.proofs.fill.fill_regions.Tie as tie

@@ -8,8 +8,8 @@ use lib.IntN.{pos}
 use lib.ListN.{length}
 use Rattle.lines.specs.Text.{ascii}
 use Rattle.lines.specs.Decimal.{digitsThen, lineOf}
-use Rattle.report.specs.Blocks.{leftAfter, blockText}
-use Rattle.report.proofs.Going.{left-more}
+use Rattle.blocks.specs.Blocks.{leftAfter, blockText}
+use Rattle.blocks.proofs.Going.{left-more}
 use Rattle.report.proofs.print.left_after_blocks.Statement.{statement}
 use Rattle.report.proofs.print.left_after_blocks.Tie as tie
 

@@ -14,38 +14,46 @@ use Rattle.lists.proofs.Table.{table-long}
 use Rattle.scene.specs.Kept.{keptRows}
 use Rattle.liveness.specs.Scene.{Scene}
 use Rattle.report.specs.Report.{allRows}
-use Rattle.report.specs.Blocks.{componentRowBy, regionRowBy}
+use Rattle.report.specs.Printing.{componentRowBy, regionRowBy}
 use Rattle.report.specs.Entry.{fits, PrintedBy}
-use Rattle.report.proofs.Scenes.{kept-scene, front-is, nets-long, fragments-long, regions-long, regions-few, kept-fit}
+use Rattle.report.specs.Printing.{Accepts, Gathered}
+use Rattle.report.proofs.Scenes.{front-is, nets-long, fragments-long, regions-long, regions-few, kept-fit}
 use Rattle.report.proofs.Assembled.{component-count, region-pairs, assembled}
 use Rattle.report.proofs.print.print_analysis.Statement.{statement}
 use Rattle.report.proofs.print.print_analysis.Tie as tie
 
+-- what is known of the scene
+abbrev accepts : (s : tie.Start) → Accepts (s .args .scene .now) (s .pre .0) (s .pre .1) (s .args .keys .now)
+accepts s = s .pre .2 .0
+
+abbrev gathered : (s : tie.Start) → Gathered (s .args .scene .now) (s .pre .0) (s .args .ports .now) (s .args .nets .now) (s .args .fragments .now)
+gathered s = s .pre .2 .1 .0
+
 scene : (s : tie.Start) → Scene (s .args .scene .now) (s .args .ports .now)
-scene s = subst (Scene (s .args .scene .now)) (sym (s .pre .0 .1 .1 .kept-are)) (kept-scene _ (s .pre .0 .0) _ (s .pre .0 .1 .0 .accepted))
+scene s = s .pre .2 .1 .1 .1 .fed-scene .scene
 
 keys-long : (s : tie.Start) → length (s .args .keys .now) ≡ componentCount (s .args .scene .now)
-keys-long s = table-long (s .pre .0 .1 .0 .table)
+keys-long s = table-long (accepts s .table)
 
 regions-fit : (s : tie.Start) → 2 * s .args .found .regions ≤ 2 * componentLimit
-regions-fit s = omega (arith, regions-few (s .pre .1 .0) (scene s), scene s .components .few)
+regions-fit s = omega (arith, regions-few (s .pre .2 .1 .1 .0) (scene s), scene s .components .few)
 
 fill-components-requires : tie.Need-fill-components-requires
 fill-components-requires c κs =
-    let s = c .before .before .before .before .before .before .before .before .before .before .before .before .before in
-    let g = s .pre .0 .1 .1 in (
-      (scene s .components, s .pre .0 .1 .0 .table),
-      ((nets-long g, (fragments-long g, regions-long (s .pre .1 .0))), omega (arith, scene s .components .few)),
+    let s = c .before .before .before .before .before .before .before .before .before .before .before .before .before .before .before in
+    let g = gathered s in (
+      (scene s .components, accepts s .table),
+      ((nets-long g, (fragments-long g, regions-long (s .pre .2 .1 .1 .0))), omega (arith, scene s .components .few)),
     )
 
 fill-connections-requires : tie.Need-fill-connections-requires
 fill-connections-requires c κs =
-    let s = c .before .before .before .before .before .before .before .before .before .before .before .before .before .before .before .before in
-    let g = s .pre .0 .1 .1 in
-    ((keptRows (s .args .scene .now) (s .pre .0 .0), g .kept-are), kept-fit g (scene s))
+    let s = c .before .before .before .before .before .before .before .before .before .before .before .before .before .before .before .before .before .before in
+    let g = gathered s in
+    ((keptRows (s .args .scene .now) (s .pre .0), g .kept-are), kept-fit g (scene s))
 
 abbrev start : tie.After-fill-regions → tie.Start
-start c = c .before .before .before .before .before .before .before .before .before .before .before .before .before .before .before .before .before .before .before .before
+start c = c .before .before .before .before .before .before .before .before .before .before .before .before .before .before .before .before .before .before .before .before .before .before
 
 abbrev components-at : tie.After-fill-regions → tie.After-fill-components
 components-at c = c .before .before .before .before .before .before
@@ -54,13 +62,13 @@ abbrev connections-at : tie.After-fill-regions → tie.After-fill-connections
 connections-at c = c .before .before .before
 
 fill-regions-requires : tie.Need-fill-regions-requires
-fill-regions-requires c κs = regions-fit (c .before .before .before .before .before .before .before .before .before .before .before .before .before .before .before .before .before .before .before)
+fill-regions-requires c κs = regions-fit (c .before .before .before .before .before .before .before .before .before .before .before .before .before .before .before .before .before .before .before .before .before)
 
 components-inside : (c : tie.After-fill-regions) → 6 * length (start c .args .keys .now) ≤ length (components-at c .fill-components .last .1 .1 .1 .1 .1 .1 .1 .0)
 components-inside c = omega (arith, keys-long (start c), scene (start c) .components .few, components-at c .fill-components .kept .1 .1 .1 .1 .1 .1 .1 .0)
 
 connections-inside : (c : tie.After-fill-regions) → length (start c .args .ports .now) ≤ length (connections-at c .fill-connections .last .1 .0)
-connections-inside c = omega (arith, kept-fit (start c .pre .0 .1 .1) (scene (start c)), connections-at c .fill-connections .kept .1 .0)
+connections-inside c = omega (arith, kept-fit (gathered (start c)) (scene (start c)), connections-at c .fill-connections .kept .1 .0)
 
 regions-inside : (c : tie.After-fill-regions) → 2 * start c .args .found .regions ≤ length (c .fill-regions .last .1 .1 .1 .0)
 regions-inside c = omega (arith, regions-fit (start c), c .fill-regions .kept .1 .1 .1 .0)
@@ -68,7 +76,7 @@ regions-inside c = omega (arith, regions-fit (start c), c .fill-regions .kept .1
 share-components : tie.Need-array-share-prefix-components
 share-components c = components-inside (c .before)
 
-components : tie.Need-slice-aggregate-print-ready
+components : tie.Need-slice-aggregate-print-rows
 components c =
     let filled = c .before .before in
     sym (length-take-le _ (components-at filled .fill-components .last .1 .1 .1 .1 .1 .1 .1 .0) (components-inside filled))
@@ -76,7 +84,7 @@ components c =
 share-connections : tie.Need-array-share-prefix-kept
 share-connections c = connections-inside (c .before .before)
 
-connections : tie.Need-slice-aggregate-print-ready-2
+connections : tie.Need-slice-aggregate-print-rows-2
 connections c =
     let filled = c .before .before .before in
     sym (length-take-le _ (connections-at filled .fill-connections .last .1 .0) (connections-inside filled))
@@ -87,15 +95,15 @@ mul-marks c = omega (arith, regions-fit (start (c .before .before .before)))
 share-marks : tie.Need-array-share-prefix-marks
 share-marks c = regions-inside (c .before .before .before)
 
-marks : tie.Need-slice-aggregate-print-ready-3
+marks : tie.Need-slice-aggregate-print-rows-3
 marks c =
     let filled = c .before .before .before .before in
     sym (length-take-le _ (filled .fill-regions .last .1 .1 .1 .0) (regions-inside filled))
 
-print-ready-requires : tie.Need-print-ready-requires
-print-ready-requires c κs =
-    let s = start (c .before .before .before .before .before .before) in
-    ((scene s, s .pre .0 .1 .0 .table), s .pre .1 .1)
+print-rows-requires : tie.Need-print-rows-requires
+print-rows-requires c κs =
+    let s = c .before .before .before .before .before .before .before .before .before .before .before .before .before .before .before .before .before .before .before .before .before .before .before .before .before .before .before in
+    (accepts s .table, (s .args .ports .now, s .pre .1, s .pre .2 .1 .1 .1))
 
 components-are : (c : tie.After-fill-regions)
     → let a = start c .args in
@@ -119,17 +127,17 @@ regions-are c =
     (sym (region-pairs (f .cyclic .words) (f .«has_drive» .words) (f .regions)))
 
 returns : tie.Need-returns
-returns c ps accepts gathered =
-    let called = c .before .before .before .before in
-    let filled = called .before .before .before .before .before .before .before in
+returns c ps fs accepted groups found ready =
+    let called = c .before .before .print-rows in
+    let filled = c .before .before .before .before .before .before .before .before in
     let s = start filled in
     let a = s .args in
     let rows = keptRows (a .scene .now) ps in
     let connections-are : take (length (a .ports .now)) (connections-at filled .fill-connections .last .1 .0) ≡ rows =
-    front-is rows _ (connections-at filled .fill-connections .ensures rows (gathered .kept-are)) _ (ap length (gathered .kept-are) ∙ length-map rows pos) in
-    subst (λ (t : List ℕ). PrintedBy (fits t (length (a .out .now))) t (a .out .now) (called .print-ready .last .1 .1 .1 .1 .1 .1 .1 .1 .1 .1 .0) (called .print-ready .result))
-    (assembled (a .scene .now) ps (a .frontiers .now) (scene s .distinct) gathered (s .pre .1 .0) (components-are filled) connections-are (regions-are filled))
-    (called .print-ready .ensures)
+    front-is rows _ (connections-at filled .fill-connections .ensures rows (groups .kept-are)) _ (ap length (groups .kept-are) ∙ length-map rows pos) in
+    subst (λ (t : List ℕ). PrintedBy (fits t (length (a .out .now))) t (a .out .now) (called .last .1 .1 .1 .1 .1 .1 .1 .1 .1 .1 .0) (called .result))
+    (assembled (a .scene .now) ps fs (scene s .distinct) groups found (components-are filled) connections-are (regions-are filled))
+    (called .ensures (a .ports .now) fs ready)
 
 pub print-analysis-spec : {M : Type 1} → statement M
 print-analysis-spec =
@@ -149,7 +157,6 @@ print-analysis-spec =
     mul-marks
     share-marks
     marks
-    print-ready-requires
-    (λ c. search needs)
+    print-rows-requires
     (λ c. search needs)
     returns)

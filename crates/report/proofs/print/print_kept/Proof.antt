@@ -45,7 +45,7 @@ mul-sources c =
 share-sources : tie.Need-array-share-prefix-sources
 share-sources c = sources-inside (c .before .before .before .before .before)
 
-sources : tie.Need-slice-aggregate-print-analysis-2
+sources : tie.Need-slice-aggregate-print-ready-2
 sources c =
     let called = c .before .before .before .before .before .before in
     sym (length-take-le _ (called .analyze .last .1 .1 .1 .1 .1 .0) (sources-inside called))
@@ -58,13 +58,13 @@ mul-inputs c =
 share-inputs : tie.Need-array-share-prefix-inputs
 share-inputs c = inputs-inside (c .before .before .before .before .before .before)
 
-inputs : tie.Need-slice-aggregate-print-analysis-3
+inputs : tie.Need-slice-aggregate-print-ready-3
 inputs c =
     let called = c .before .before .before .before .before .before .before in
     sym (length-take-le _ (called .analyze .last .1 .1 .1 .1 .1 .1 .0) (inputs-inside called))
 
-print-analysis-requires : tie.Need-print-analysis-requires
-print-analysis-requires c κs =
+print-ready-requires : tie.Need-print-ready-requires
+print-ready-requires c κs =
     let called = c .before .before .before .before .before .before .before .before .before in
     (start called .pre, (analyzed (called .analyze .ensures), omega (arith, scene (start called) .components .few, called .analyze .kept .1 .1 .1 .1 .1 .1 .1 .0)))
 
@@ -85,6 +85,6 @@ print-kept-spec =
     share-inputs
     inputs
     (λ c. search needs)
-    print-analysis-requires
+    print-ready-requires
     (λ c. search needs)
     (λ c. search needs))

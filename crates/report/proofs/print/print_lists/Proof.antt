@@ -43,7 +43,7 @@ print-scene-requires c κs =
 refused : tie.Need-returns
 refused c =
     let e = sym (c .before .before .before .before .grouping-lists .ensures .answer) ∙ c .before .checked .given .1 in
-    record { answer = rw e; left = rw e }
+    record { answer = rw e; numbers = rw e; left = rw e }
 
 printed : tie.Need-returns-2
 printed c =
@@ -51,7 +51,7 @@ printed c =
     let told = called .before .before .before in
     let e = accepted told in
     let p = called .print-scene .ensures in
-    record { answer = rw e (p .answer); left = rw e (p .left) }
+    record { answer = rw e (p .answer); numbers = rw e (p .numbers); left = rw e (p .left) }
 
 pub print-lists-spec : {M : Type 1} → statement M
 print-lists-spec =

@@ -1,21 +1,27 @@
--- `report::print::print_ready` meets its contract: the scene is made ready in local arrays, then its rows are printed.
+-- `report::print::print_ready` meets its contract: the scene is made ready in local arrays, then what its analysis gave is printed.
 -- Assumes nothing.
 use borrow.Author.Needs.{needs}
-use mathlib.Core.Path.{_≡_, sym, _∙_}
-use mathlib.Core.Bool.{Bool, false}
+use mathlib.Core.Path.{_≡_, sym, subst, _∙_}
 use mathlib.Core.List.{List, _++_}
 use Prim.Native.Nat.{ℕ, _≤_}
 use native.Mathlib.Omega.{arith}
-use lib.ListN.{length, take, drop, replicate}
+use lib.ListN.{length, take, drop, replicate, length-replicate}
 use lib.Seq.{length-take-le}
+use Rattle.sets.proofs.Words.{getD-zeros}
 use Rattle.lists.specs.Limits.{componentLimit, connectionLimit}
 use Rattle.lists.specs.Records.{componentCount, portCount}
 use Rattle.lists.proofs.Table.{table-long}
+use Rattle.signals.specs.Upstream.{tableWords}
 use Rattle.signals.proofs.Lent.{front, front-long, front-length}
+use Rattle.liveness.specs.Scene.{Scene}
 use Rattle.liveness.specs.Inputs.{Ready}
-use Rattle.liveness.proofs.Inputs.{ready-as}
+use Rattle.liveness.proofs.Asking.{ready-as}
+use Rattle.report.proofs.Scenes.{kept-scene}
 use Rattle.report.proofs.print.print_ready.Statement.{statement}
 use Rattle.report.proofs.print.print_ready.Tie as tie
+
+scene : (s : tie.Start) → Scene (s .args .scene .now) (s .args .ports .now)
+scene s = subst (Scene (s .args .scene .now)) (sym (s .pre .0 .1 .1 .kept-are)) (kept-scene _ (s .pre .0 .0) _ (s .pre .0 .1 .0 .accepted))
 
 abbrev edgeCount : tie.Start → ℕ
 edgeCount s = portCount (s .args .ports .now)
@@ -24,19 +30,24 @@ abbrev nodes : tie.Start → ℕ
 nodes s = length (s .args .keys .now)
 
 all : (s : tie.Start) → nodes s ≡ componentCount (s .args .scene .now)
-all s = table-long (s .pre .0 .1)
+all s = table-long (s .pre .0 .1 .0 .table)
 
-edges-few : (s : tie.Start) → edgeCount s ≤ 4096
-edges-few s = s .pre .0 .0 .connections .few
+edges-few : (s : tie.Start) → edgeCount s ≤ connectionLimit
+edges-few s = scene s .connections .few
 
-nodes-few : (s : tie.Start) → nodes s ≤ 1024
-nodes-few s = omega (arith, all s, s .pre .0 .0 .components .few)
+nodes-few : (s : tie.Start) → nodes s ≤ componentLimit
+nodes-few s = omega (arith, all s, scene s .components .few)
 
 keys-lent : (s : tie.Start) → length {A = ℕ} (take (edgeCount s) (replicate connectionLimit 0)) ≡ edgeCount s
 keys-lent s = length-take-le _ _ (edges-few s)
 
-flags-lent : (s : tie.Start) → length (take (nodes s) (replicate componentLimit false)) ≡ nodes s
-flags-lent s = length-take-le _ _ (nodes-few s)
+labels-lent : (s : tie.Start) → length {A = ℕ} (take (nodes s) (replicate componentLimit 0)) ≡ nodes s
+labels-lent s = length-take-le _ _ (nodes-few s)
+
+make-ready-requires : tie.Need-make-ready-requires
+make-ready-requires c κs =
+    let s = c .before .before .before .before .before .before .before .before .before .before .before .before in
+    ((scene s, s .pre .0 .1 .0 .table), ((keys-lent s, (labels-lent s ∙ all s, s .pre .1 .1)), (length-replicate {A = ℕ} tableWords 0, getD-zeros tableWords)))
 
 -- ---- after the scene is made ready: what was lent stands at the front of each array
 
@@ -46,50 +57,38 @@ start c = c .before .before .before .before .before .before .before .before .bef
 abbrev fed : tie.After-make-ready → List ℕ
 fed c = c .make-ready .last .1 .1 .1 .1 .0
 
-abbrev backward : tie.After-make-ready → List ℕ
-backward c = c .make-ready .last .1 .1 .1 .1 .1 .0
-
-abbrev flags : tie.After-make-ready → List Bool
-flags c = c .make-ready .last .1 .1 .1 .1 .1 .1 .0
+abbrev labelled : tie.After-make-ready → List ℕ
+labelled c = c .make-ready .last .1 .1 .1 .1 .1 .0
 
 abbrev keys-rest : tie.After-make-ready → List ℕ
 keys-rest c = drop (edgeCount (start c)) (replicate connectionLimit 0)
 
-abbrev flags-rest : tie.After-make-ready → List Bool
-flags-rest c = drop (nodes (start c)) (replicate componentLimit false)
+abbrev labels-rest : tie.After-make-ready → List ℕ
+labels-rest c = drop (nodes (start c)) (replicate componentLimit 0)
 
 fed-long : (c : tie.After-make-ready) → length (fed c) ≡ edgeCount (start c)
 fed-long c = c .make-ready .kept .1 .1 .1 .1 .0 ∙ keys-lent (start c)
 
-backward-long : (c : tie.After-make-ready) → length (backward c) ≡ edgeCount (start c)
-backward-long c = c .make-ready .kept .1 .1 .1 .1 .1 .0 ∙ keys-lent (start c)
-
-flags-long : (c : tie.After-make-ready) → length (flags c) ≡ nodes (start c)
-flags-long c = c .make-ready .kept .1 .1 .1 .1 .1 .1 .0 ∙ flags-lent (start c)
-
-make-ready-requires : tie.Need-make-ready-requires
-make-ready-requires c κs =
-    let s = c .before .before .before .before .before .before .before .before .before .before .before .before in
-    (s .pre .0, (keys-lent s, (keys-lent s, (flags-lent s ∙ all s, s .pre .1))))
+labels-long : (c : tie.After-make-ready) → length (labelled c) ≡ nodes (start c)
+labels-long c = c .make-ready .kept .1 .1 .1 .1 .1 .0 ∙ labels-lent (start c)
 
 is-ready : (c : tie.After-make-ready)
     → let s = start c in
-    Ready (s .args .scene .now) (s .args .ports .now) (s .args .frontiers .now) (take (edgeCount s) (fed c ++ keys-rest c)) (take (edgeCount s) (backward c ++ keys-rest c)) (take (nodes s) (flags c ++ flags-rest c))
-is-ready c =
-    ready-as (front _ (fed c) (keys-rest c) (fed-long c)) (front _ (backward c) (keys-rest c) (backward-long c)) (front _ (flags c) (flags-rest c) (flags-long c)) (c .make-ready .ensures .0)
+    Ready (s .args .scene .now) (s .args .ports .now) (s .args .frontiers .now) (take (edgeCount s) (fed c ++ keys-rest c)) (take (nodes s) (labelled c ++ labels-rest c)) (c .make-ready .last .1 .1 .1 .1 .1 .1 .0)
+is-ready c = ready-as (front _ (fed c) (keys-rest c) (fed-long c)) (front _ (labelled c) (labels-rest c) (labels-long c)) (c .make-ready .ensures .0)
 
-print-rows-requires : tie.Need-print-rows-requires
-print-rows-requires c κs =
-    let m = c .before .before .before .before .before .before .before .before .before .before in
+print-analysis-requires : tie.Need-print-analysis-requires
+print-analysis-requires c κs =
+    let m = c .before .before .before .before .before .before .before .before .before in
     let s = start m in
-    let a = s .args in
-    (s .pre .0 .1, ((a .ports .now, a .frontiers .now, is-ready m), (omega (arith, s .pre .1, m .make-ready .kept .1 .1 .1 .1 .1 .1 .1 .0), m .make-ready .ensures .1)))
+    let known = s .pre .0 in
+    (known .0, s .args .frontiers .now, (known .1 .0, (known .1 .1, (s .pre .1 .0, is-ready m))))
 
 returns : tie.Need-returns
-returns c =
-    let m = c .before .before .before .before .before .before .before .before .before .before .before .before .before .before .before in
-    let a = start m .args in
-    c .before .before .before .before .print-rows .ensures (a .ports .now) (a .frontiers .now) (is-ready m)
+returns c ps accepts gathered =
+    let m = c .before .before .before .before .before .before .before .before .before .before .before .before in
+    let s = start m in
+    c .before .before .print-analysis .ensures ps (s .args .frontiers .now) accepts gathered (s .pre .1 .0) (is-ready m)
 
 pub print-ready-spec : {M : Type 1} → statement M
 print-ready-spec =
@@ -97,18 +96,16 @@ print-ready-spec =
     (tie.spec
     (λ c. edges-few (c .before .before .before .before .before .before .before .before))
     (λ c. sym (keys-lent (c .before .before .before .before .before .before .before .before .before)))
-    (λ c. edges-few (c .before .before .before .before .before .before .before .before .before))
-    (λ c. sym (keys-lent (c .before .before .before .before .before .before .before .before .before .before)))
-    (λ c. nodes-few (c .before .before .before .before .before .before .before .before .before .before))
-    (λ c. sym (flags-lent (c .before .before .before .before .before .before .before .before .before .before .before)))
+    (λ c. nodes-few (c .before .before .before .before .before .before .before .before .before))
+    (λ c. sym (labels-lent (c .before .before .before .before .before .before .before .before .before .before)))
+    (λ c. search needs)
     make-ready-requires
     (λ c. let m = c .before .before .before .before .before in front-long _ (fed m) (keys-rest m) (fed-long m))
     (λ c. let m = c .before .before .before .before .before .before in front-length _ (fed m) (keys-rest m) (fed-long m))
-    (λ c. let m = c .before .before .before .before .before .before in front-long _ (backward m) (keys-rest m) (backward-long m))
-    (λ c. let m = c .before .before .before .before .before .before .before in front-length _ (backward m) (keys-rest m) (backward-long m))
-    (λ c. let m = c .before .before .before .before .before .before .before in front-long _ (flags m) (flags-rest m) (flags-long m))
-    (λ c. let m = c .before .before .before .before .before .before .before .before in front-length _ (flags m) (flags-rest m) (flags-long m))
-    print-rows-requires
-    (λ c. c .before .before .before .before .print-rows .kept .1 .1 .1 .1 .1 .1 .1 .1 .1 .1 .0 ∙ c .before .before .before .before .before .before .before .before .before .before .before .before .before .before .before .make-ready .kept .1 .1 .1 .1 .1 .1 .1 .0)
-    (λ c. c .before .before .before .before .print-rows .kept .1 .1 .1 .1 .1 .1 .1 .1 .1 .1 .1 .0)
+    (λ c. let m = c .before .before .before .before .before .before in front-long _ (labelled m) (labels-rest m) (labels-long m))
+    (λ c. let m = c .before .before .before .before .before .before .before in front-length _ (labelled m) (labels-rest m) (labels-long m))
+    (λ c. search needs)
+    print-analysis-requires
+    (λ c. c .before .before .before .before .before .before .before .before .before .before .before .before .make-ready .kept .1 .1 .1 .1 .1 .1 .1 .0)
+    (λ c. c .before .before .print-analysis .kept .1 .1 .1 .1 .1 .1 .1 .1 .1 .1 .1 .1 .0)
     returns)

@@ -10,7 +10,7 @@ use lib.ListN.{length, length-append}
 use Rattle.lines.specs.Text.{ascii}
 use Rattle.lines.specs.Decimal.{lineOf}
 use Rattle.lines.proofs.Writing.{put-room, put-put}
-use Rattle.report.specs.Blocks.{blockText}
+use Rattle.blocks.specs.Blocks.{blockText}
 use Rattle.report.proofs.print.put_blocks.Statement.{statement}
 use Rattle.report.proofs.print.put_blocks.Tie as tie
 

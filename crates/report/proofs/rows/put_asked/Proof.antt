@@ -8,23 +8,21 @@ use native.Mathlib.Omega.{arith}
 use lib.ListN.{length}
 use lib.IntN.{ℤ}
 use Rattle.lists.proofs.Table.{table-long}
-use Rattle.regions.specs.Search.{Zeros}
-use Rattle.regions.proofs.Fill.{cleared-zeros}
 use Rattle.lines.specs.Wrote.{Put}
 use Rattle.liveness.specs.Inputs.{Ready}
-use Rattle.report.specs.Report.{inputText}
-use Rattle.report.specs.Blocks.{idsIn}
+use Rattle.blocks.specs.Lines.{inputText}
+use Rattle.blocks.specs.Blocks.{idsIn}
 use Rattle.report.specs.Printing.{askedText}
 use Rattle.report.proofs.VerdictText.{asked-text}
 use Rattle.report.proofs.rows.put_asked.Statement.{statement}
 use Rattle.report.proofs.rows.put_asked.Tie as tie
 
 abbrev start : tie.After-asked-sources → tie.Start
-start c = c .before .before .before .before .before .before .before .before
+start c = c .before .before .before .before .before .before
 
 -- the scene that the caller knows
 abbrev ReadyFor : tie.Start → List ℤ → List ℤ → Type 0
-ReadyFor s ps fs = Ready (s .args .components .now) ps fs (s .args .fed .now) (s .args .backward .now) (s .args .inferred .now)
+ReadyFor s ps fs = Ready (s .args .components .now) ps fs (s .args .fed .now) (s .args .labels .now) (s .args .upstream .now)
 
 -- the row's lines, by the sets
 abbrev text : tie.After-asked-sources → List ℕ
@@ -36,32 +34,30 @@ text-is : (c : tie.After-asked-sources) (ps fs : List ℤ) → ReadyFor (start c
     → text c ≡ askedText (start c .args .components .now) ps fs (start c .args .device) (start c .args .port) (start c .args .status)
 text-is c ps fs ready =
     let s = start c in
-    asked-text (s .args .device) (s .args .port) (s .args .status) (s .pre .0) (ready .scene .distinct) (c .asked-sources .ensures ps fs ready)
+    asked-text (s .args .device) (s .args .port) (s .args .status) (s .pre .0) (ready .fed-scene .scene .distinct) (c .asked-sources .ensures ps fs ready)
 
 asked-sources-requires : tie.Need-asked-sources-requires
 asked-sources-requires c κs =
-    let s = c .before .before .before .before .before .before .before in
-    let known = s .pre .1 .0 in
-    (s .pre .0, ((known .0, known .1, known .2 .0), s .pre .1 .1))
+    let s = c .before .before .before .before .before in
+    let known = s .pre .1 in
+    (s .pre .0, (known .0, known .1, known .2 .0))
 
 put-input-requires : tie.Need-put-input-requires
 put-input-requires c κs =
-    let f = c .before .before .before .before .before in
+    let f = c .before .before .before in
     let s = start f in
-    let known = s .pre .1 .0 in
+    let known = s .pre .1 in
     let ready = known .2 .0 in (
-      omega (arith, table-long (s .pre .0), ready .scene .components .few),
+      omega (arith, table-long (s .pre .0), ready .fed-scene .scene .components .few),
       subst (λ (t : List ℕ). s .args .at + length t ≤ length (s .args .out .now)) (sym (text-is f (known .0) (known .1) ready)) (known .2 .1),
     )
 
 returns : tie.Need-returns
-returns c =
-    let f = c .before .before .before .before .before .before .before .before in
+returns c ps fs ready =
+    let f = c .before .before .before .before .before .before in
     let s = start f in
-    let known = s .pre .1 .0 in (
-      (λ ps fs ready. subst (λ (t : List ℕ). Put (s .args .at) t (s .args .out .now) (c .before .before .put-input .last .0) (c .before .before .put-input .result)) (text-is f ps fs ready) (c .before .before .put-input .ensures)),
-      subst Zeros (sym (f .asked-sources .ensures (known .0) (known .1) (known .2 .0) .stack-left)) (cleared-zeros (length (s .args .stack .now))),
-    )
+    let put = c .before .before .put-input in
+    subst (λ (t : List ℕ). Put (s .args .at) t (s .args .out .now) (put .last .0) (put .result)) (text-is f ps fs ready) (put .ensures)
 
 pub put-asked-spec : {M : Type 1} → statement M
-put-asked-spec = tie.close (tie.spec asked-sources-requires put-input-requires (λ c. search needs) (λ c. search needs) returns)
+put-asked-spec = tie.close (tie.spec asked-sources-requires put-input-requires (λ c. search needs) returns)

@@ -5,13 +5,14 @@ use Prim.Native.Nat.{ℕ, _+_, _*_, _≤_}
 use native.Mathlib.Omega.{arith}
 use mathlib.Core.Path.{_≡_, subst, sym, ap, _∙_}
 use lib.ListN.{length, drop}
-use Rattle.lines.specs.Line.{taken, readLine}
+use Rattle.lines.specs.Line.{taken, readLine, natural}
+use Rattle.lines.proofs.Counting.{count-rest}
 use Rattle.lines.proofs.Placed.{number-refused}
 use Rattle.sheet.specs.Keys.{countKey, keysOf}
-use Rattle.sheet.specs.Sheet.{Fields, readFields, fault, fieldsFrom, natural, readList}
+use Rattle.sheet.specs.Sheet.{Fields, readFields, fault, fieldsFrom, readList}
 use Rattle.sheet.specs.Places.{RunAs}
 use Rattle.sheet.specs.declared.first_pass.Run.the-variants.{Good, Bad}
-use Rattle.sheet.proofs.Counting.{count-rest, few-lines, list-fields, list-over, list-bad}
+use Rattle.sheet.proofs.Counting.{few-lines, list-fields, list-over, list-bad}
 use Rattle.sheet.proofs.first_pass.check_list.Statement.{statement}
 use Rattle.sheet.proofs.first_pass.check_list.Tie as tie
 

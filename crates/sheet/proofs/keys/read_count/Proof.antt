@@ -1,48 +1,49 @@
--- `keys::read_count` meets its contract: behind the key the line goes on as a magnitude.
+-- `keys::read_count` meets its contract: the list's number decides the key.
 -- Assumes nothing.
 use borrow.Author.Needs.{needs}
-use mathlib.Core.Path.{subst, sym, ap, _∙_}
-use lib.ListN.{length, drop}
-use Rattle.lines.specs.Line.{numberIn, Skipped}
-use Rattle.sheet.specs.Keys.{countKey}
-use Rattle.sheet.specs.Sheet.{natural}
-use Rattle.sheet.proofs.Counting.{natural-number}
+use borrow.Author.Tests.{eq-eqb, ne-eqb}
 use Rattle.sheet.proofs.keys.read_count.Statement.{statement}
 use Rattle.sheet.proofs.keys.read_count.Tie as tie
 
-skip-count-requires : tie.Need-skip-count-requires
-skip-count-requires c κs = search needs
+slice-aggregate-read-count : tie.Need-slice-aggregate-read-count
+slice-aggregate-read-count c = search needs
 
-enum-known-s : tie.Need-enum-known-s
-enum-known-s c = search needs
-
-read-magnitude-requires : tie.Need-read-magnitude-requires
-read-magnitude-requires c κs = search needs
-
-enum-told : tie.Need-enum-told
-enum-told c = search needs
+read-count-requires : tie.Need-read-count-requires
+read-count-requires c κs = search needs
 
 returns : tie.Need-returns
-returns c =
-    let a = c .before .before .before .before .before .before .args in
-    let g = c .before .before .s .given in
-    let s = subst (Skipped (a .text .now) (a .at) (countKey (a .list))) (g .1) (c .before .before .before .before .skip-count .ensures) in
-    c .read-magnitude .ensures
-    ∙ ap (numberIn (length (a .text .now))) (sym (ap natural (s .1) ∙ natural-number (drop (g .0 .0) (a .text .now))))
+returns c = rw (eq-eqb _ _ (c .before .before .if1 .taken)) (c .read-count .ensures)
+
+slice-aggregate-read-count-2 : tie.Need-slice-aggregate-read-count-2
+slice-aggregate-read-count-2 c = search needs
+
+read-count-requires-2 : tie.Need-read-count-requires-2
+read-count-requires-2 c κs = search needs
 
 returns-2 : tie.Need-returns-2
 returns-2 c =
-    let a = c .before .before .before .before .args in
-    let s = subst (Skipped (a .text .now) (a .at) (countKey (a .list))) (c .enum-told .given .1) (c .before .before .skip-count .ensures) in
-    ap (λ q. numberIn (length (a .text .now)) (natural q)) (sym s)
+    rw (ne-eqb _ _ (c .before .before .before .if1 .left), eq-eqb _ _ (c .before .before .if2 .taken)) (c .read-count2 .ensures)
+
+slice-aggregate-read-count-3 : tie.Need-slice-aggregate-read-count-3
+slice-aggregate-read-count-3 c = search needs
+
+read-count-requires-3 : tie.Need-read-count-requires-3
+read-count-requires-3 c κs = search needs
+
+returns-3 : tie.Need-returns-3
+returns-3 c =
+    rw (ne-eqb _ _ (c .before .before .before .if1 .left), ne-eqb _ _ (c .before .before .if2 .left)) (c .read-count3 .ensures)
 
 pub read-count-spec : {M : Type 1} → statement M
 read-count-spec =
     tie.close
     (tie.spec
-    skip-count-requires
-    enum-known-s
-    read-magnitude-requires
-    enum-told
+    slice-aggregate-read-count
+    read-count-requires
     returns
-    returns-2)
+    slice-aggregate-read-count-2
+    read-count-requires-2
+    returns-2
+    slice-aggregate-read-count-3
+    read-count-requires-3
+    returns-3)

@@ -7,6 +7,7 @@ use native.Mathlib.Omega.{arith}
 use Prim.Native.Nat.{ℕ, _+_, _*_, _-_, _≤_, _<_}
 use lib.ListN.{length, getD, length-set}
 use lib.Seq.{getD-set-same, getD-set-other}
+use Rattle.lists.specs.Limits.{componentLimit, connectionLimit}
 use Rattle.lists.specs.Records.{portConnection}
 use Rattle.lists.proofs.Search.{record-within}
 use Rattle.lists.proofs.Fields.{field-nonNeg, field-most}
@@ -26,11 +27,11 @@ abbrev μ-loop : tie.MeasureT-loop
 within : (c : tie.In-loop Inv-loop μ-loop) → c .before .loop .k * 5 + 5 ≤ length (c .before .before .before .before .args .ports .now)
 within c = record-within (c .before .loop .k) _ 5 (c .loop-test .taken)
 
-few : (c : tie.In-loop Inv-loop μ-loop) → c .before .loop .k < 4096
+few : (c : tie.In-loop Inv-loop μ-loop) → c .before .loop .k < connectionLimit
 few c = omega (arith, c .loop-test .taken, c .before .before .before .before .pre .0 .few)
 
 -- and its sink's member is small
-sink : (c : tie.In-loop Inv-loop μ-loop) → getD (c .before .before .before .before .args .sinks .now) (c .before .loop .k) 0 ≤ 1024
+sink : (c : tie.In-loop Inv-loop μ-loop) → getD (c .before .before .before .before .args .sinks .now) (c .before .loop .k) 0 ≤ componentLimit
 sink c = c .before .before .before .before .pre .1 .1 (c .before .loop .k) (c .loop-test .taken)
 
 -- there is room for the slot of a turn

@@ -8,6 +8,7 @@ use native.Mathlib.Omega.{arith}
 use mathlib.Core.Logic.{⊎-elim}
 use lib.ListN.{length, getD, length-set}
 use lib.Seq.{getD-set-same, getD-set-other}
+use Rattle.lists.specs.Limits.{connectionLimit}
 use Rattle.lists.specs.Records.{portCount}
 use Rattle.signals.specs.Signals.{isSignal}
 use Rattle.signals.specs.Keys.{signalKey}
@@ -16,21 +17,21 @@ use Rattle.signals.proofs.edges.signal_keys.Statement.{statement}
 use Rattle.signals.proofs.edges.signal_keys.Tie as tie
 
 abbrev Inv-loop : tie.InvT-loop
-Inv-loop ports firsts seconds nowhere keys₀ k₀ keys k =
+Inv-loop ports firsts seconds nowhere keys₀ spare k₀ keys k =
     (k ≤ length keys) × (length keys ≡ length keys₀)
     × ((j : ℕ) → j < k → getD keys j 0 ≡ signalKey (isSignal ports j) (getD firsts j 0) (getD seconds j 0) nowhere)
 
 abbrev μ-loop : tie.MeasureT-loop
-μ-loop ports firsts seconds nowhere keys₀ k₀ keys k = length keys - k
+μ-loop ports firsts seconds nowhere keys₀ spare k₀ keys k = length keys - k
 
 abbrev start-of : tie.In-loop Inv-loop μ-loop → tie.Start Inv-loop μ-loop
-start-of c = c .before .before .before .before .before
+start-of c = c .before .before .before .before .before .before
 
 -- the key of a turn is that of a port connection
 turn : (c : tie.In-loop Inv-loop μ-loop) → c .before .loop .k < portCount (start-of c .args .ports .now)
-turn c = omega (arith, c .loop-test .taken, c .before .loop .inv .1, start-of c .pre .1 .1)
+turn c = omega (arith, c .loop-test .taken, c .before .loop .inv .1, start-of c .pre .1 .1 .0)
 
-few : (c : tie.In-loop Inv-loop μ-loop) → c .before .loop .k < 4096
+few : (c : tie.In-loop Inv-loop μ-loop) → c .before .loop .k < connectionLimit
 few c = omega (arith, turn c, start-of c .pre .0 .few)
 
 read-first : tie.Need-shared-slice-read-signal-key Inv-loop μ-loop
@@ -61,22 +62,22 @@ loop-again c =
 sort-requires : tie.Need-sort-requires Inv-loop μ-loop
 sort-requires c κs =
     let l = c .before .before .before in
-    let s = l .before .before .before .before in
-    omega (arith, l .loop .inv .1, s .pre .1 .1, s .pre .0 .few)
+    let s = l .before .before .before .before .before in
+    omega (arith, l .loop .inv .1, s .pre .1 .1 .0, s .pre .1 .1 .1)
 
 same-length : tie.Need-same-length Inv-loop μ-loop
 same-length c =
-    let sorted = c .before .before .before in
+    let sorted = c .before .before .before .before in
     sorted .sort .kept .0 ∙ sorted .before .before .before .before .loop .inv .1
 
 returns : tie.Need-returns Inv-loop μ-loop
 returns c =
-    let sorted = c .before .before .before in
+    let sorted = c .before .before .before .before in
     let left = sorted .before .before .before in
     let l = left .before in
-    let s = l .before .before .before .before in
+    let s = l .before .before .before .before .before in
     let all : length (l .loop .keys) ≡ l .loop .k = omega (arith, left .loop-test .left, l .loop .inv .0) in
-    let long = l .loop .inv .1 ∙ s .pre .1 .1 in
+    let long = l .loop .inv .1 ∙ s .pre .1 .1 .0 in
     keys-of (s .args .ports .now) (s .args .firsts .now) (s .args .seconds .now) (s .args .nowhere) long
     (λ k h. l .loop .inv .2 k (omega arith)) (sorted .sort .ensures)
 
@@ -97,7 +98,7 @@ signal-keys-spec =
     (λ c. omega arith)
     (λ c. simp length-set (omega arith))
     loop-again
-    (λ c. search needs)
     sort-requires
     same-length
+    (λ c. search needs)
     returns)

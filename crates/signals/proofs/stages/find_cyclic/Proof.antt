@@ -21,7 +21,7 @@ use Rattle.signals.proofs.stages.find_cyclic.Statement.{statement}
 use Rattle.signals.proofs.stages.find_cyclic.Tie as tie
 
 -- the sizes that are lent are as many as the flags
-small : (c : tie.Start) → length (c .args .flags .now) ≤ 1024
+small : (c : tie.Start) → length (c .args .flags .now) ≤ componentLimit
 small c = c .pre .1 .1 .1 .1
 
 share : tie.Need-slice-aggregate-count-into

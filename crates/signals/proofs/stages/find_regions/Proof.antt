@@ -6,6 +6,7 @@ use Prim.Native.Nat.{_≤_}
 use native.Mathlib.Omega.{arith}
 use lib.ListN.{length}
 use lib.Seq.{length-take-le}
+use Rattle.lists.specs.Limits.{componentLimit}
 use Rattle.signals.proofs.stages.find_regions.Statement.{statement}
 use Rattle.signals.proofs.stages.find_regions.Tie as tie
 
@@ -13,13 +14,13 @@ use Rattle.signals.proofs.stages.find_regions.Tie as tie
 share : tie.Need-slice-aggregate-regions
 share c =
     let s = c .before .before .before .before .before .before in
-    let h : length (s .args .labels .now) ≤ 1024 = omega (arith, s .pre .1 .0) in
+    let h : length (s .args .labels .now) ≤ componentLimit = omega (arith, s .pre .1 .0) in
     sym (length-take-le _ _ h)
 
 regions-requires : tie.Need-regions-requires
 regions-requires c κs =
     let s = c .before .before .before .before .before .before .before .before .before in
-    let h : length (s .args .labels .now) ≤ 1024 = omega (arith, s .pre .1 .0) in (
+    let h : length (s .args .labels .now) ≤ componentLimit = omega (arith, s .pre .1 .0) in (
       s .pre .0 .1 .1,
       s .pre .0 .1 .0,
       refl,

@@ -1,0 +1,150 @@
+-- `liveness::alive::flag_alive` meets its contract: the regions with a drive source, and those with an inferred input too, carried along the
+-- pairs of regions.
+-- Assumes nothing.
+use borrow.Author.Needs.{needs}
+use mathlib.Core.Path.{_≡_, sym, ap, subst, _∙_}
+use mathlib.Core.Bool.{Bool, _&&_, _||_}
+use mathlib.Core.List.{List}
+use Prim.Native.Nat.{ℕ, _≤_}
+use native.Mathlib.Omega.{arith}
+use lib.Dec.{eqb}
+use lib.ListN.{length, getD, take}
+use lib.Seq.{length-take-le}
+use lib.IntN.{ℤ}
+use Rattle.lists.specs.Limits.{componentLimit}
+use Rattle.lists.specs.Records.{componentCount}
+use Rattle.lists.specs.First.{some}
+use Rattle.regions.specs.Graph.{marked}
+use Rattle.regions.specs.Carry.{carry, Crossings, KeysBelow}
+use Rattle.signals.specs.Signals.{signals}
+use Rattle.signals.specs.Regions.{labels, hasDrive}
+use Rattle.signals.specs.Flags.{Flags, Indices}
+use Rattle.signals.specs.Seen.{SignalEnds}
+use Rattle.signals.proofs.Ends.{ends-within}
+use Rattle.signals.proofs.Lent.{indices-same}
+use Rattle.signals.proofs.Staged.{source-ends, sink-ends}
+use Rattle.signals.proofs.Within.{labels-count, labels-under, places-under}
+use Rattle.signals.proofs.Reached.{drive-is, potential-is}
+use Rattle.liveness.specs.Scene.{SceneRegions}
+use Rattle.liveness.proofs.alive.flag_alive.Statement.{statement}
+use Rattle.liveness.proofs.alive.flag_alive.Tie as tie
+
+-- ---- the regions of a scene
+
+module _ {cs ps : List ℤ} {sources sinks labelled regionOf : List ℕ} (r : SceneRegions cs ps sources sinks labelled regionOf) where
+  few : componentCount cs ≤ componentLimit
+  few = r .scene .components .few
+
+  all : length labelled ≡ componentCount cs
+  all = ap length (r .labels-are) ∙ labels-count cs ps (r .scene .ends)
+
+  sources-within : SignalEnds (length labelled) ps sources
+  sources-within =
+      subst (λ (n : ℕ). SignalEnds n ps sources) (sym all)
+      (source-ends few (r .source-members) (r .sink-members) (ends-within cs ps (r .scene .ends)) (r .sources-long))
+
+  sinks-within : SignalEnds (length labelled) ps sinks
+  sinks-within =
+      subst (λ (n : ℕ). SignalEnds n ps sinks) (sym all)
+      (sink-ends few (r .source-members) (r .sink-members) (ends-within cs ps (r .scene .ends)) (r .sinks-long))
+
+  labels-small : Indices (length labelled) componentLimit labelled
+  labels-small =
+      subst (λ (l : List ℕ). Indices (length l) componentLimit l) (sym (r .labels-are)) (labels-under cs ps (r .scene .ends) componentLimit few)
+
+  regions-small : Indices (length labelled) componentLimit regionOf
+  regions-small =
+      subst (λ (n : ℕ). Indices n componentLimit regionOf) (sym all) (places-under cs ps (r .scene .ends) componentLimit few (r .regions-are))
+
+  -- flags of the regions' marks, by the labels of the scene
+  by-labels : (mark : ℕ → Bool) {out : List Bool} → Flags (length labelled) (λ m. mark (getD labelled m 0)) out
+      → Flags (componentCount cs) (λ m. mark (getD (labels cs ps) m 0)) out
+  by-labels mark f = record {
+    long = omega (arith, all, f .long);
+    at = λ m h. f .at m (omega (arith, all)) ∙ ap (λ (l : List ℕ). mark (getD l m 0)) (r .labels-are);
+  }
+
+-- ---- the calls
+
+find-crossings-requires : tie.Need-find-crossings-requires
+find-crossings-requires c κs =
+    let s = c .before .before .before .before .before .before .before .before .before in
+    let r = s .pre .0 .1 in
+    ((r .scene .connections, r .scene .connections .few), ((sources-within r, sinks-within r), labels-small r))
+
+possible-regions-requires : tie.Need-possible-regions-requires
+possible-regions-requires c κs =
+    let s = c .before .before .before .before .before .before .before .before .before .before .before .before .before .before .before in
+    ((regions-small (s .pre .0 .1), s .pre .1 .inferred-room), (omega (arith, s .pre .1 .regions-room), omega arith))
+
+-- the keys that were found
+lent : (c : tie.After-find-crossings) → length (take (c .find-crossings .result) (c .find-crossings .last .1 .1 .1 .1 .0)) ≡ c .find-crossings .result
+lent c = length-take-le _ _ (c .find-crossings .ensures .few)
+
+keys-as : {m n : ℕ} {keys : List ℕ} → m ≡ n → KeysBelow m keys → KeysBelow n keys
+keys-as e k = record { first = λ i h. omega (arith, e, k .first i h); second = λ i h. omega (arith, e, k .second i h) }
+
+carry-marks-requires : tie.Need-carry-marks-requires
+carry-marks-requires c κs =
+    let found = c .before .before .before .before .before .before .before .before .before .before .find-crossings .ensures in
+    let long = c .before .before .before .before .before .before .before .copy-flags .kept .1 .0 in
+    let s = c .before .before .before .before .before .before .before .before .before .before .before .before .before .before .before .before .before .before .before .before in
+    (keys-as (sym long) (found .below), (indices-same (sym long) (labels-small (s .pre .0 .1)), omega (arith, s .pre .1 .drive-room)))
+
+carry-marks-requires-2 : tie.Need-carry-marks-requires-2
+carry-marks-requires-2 c κs =
+    let found = c .before .before .before .before .before .before .before .before .before .before .before .before .before .before .before .before .before .find-crossings .ensures in
+    let long = c .before .before .before .before .before .before .before .before .before .before .before .possible-regions .kept .1 .1 .1 .1 .0 in
+    let s = c .before .before .before .before .before .before .before .before .before .before .before .before .before .before .before .before .before .before .before .before .before .before .before .before .before .before .before in
+    (keys-as (sym long) (found .below), (indices-same (sym long) (labels-small (s .pre .0 .1)), omega (arith, s .pre .1 .potential-room)))
+
+returns : tie.Need-returns
+returns c cs fs r driven inferred =
+    let second = c .before .before .before .carry-marks2 in
+    let first = c .before .before .before .before .before .before .before .before .before .before .carry-marks in
+    let possible = c .before .before .before .before .before .before .before .before .before .before .before .before .before .before .before .possible-regions in
+    let copied = c .before .before .before .before .before .before .before .before .before .before .before .before .before .before .before .before .before .before .copy-flags in
+    let found = c .before .before .before .before .before .before .before .before .before .before .before .before .before .before .before .before .before .before .before .before .before .find-crossings in
+    let s = c .before .before .before .before .before .before .before .before .before .before .before .before .before .before .before .before .before .before .before .before .before .before .before .before .before .before .before .before .before .before .before in
+    let room = s .pre .1 in
+    let ps = s .args .ports .now in
+    let keys = take (found .result) (found .last .1 .1 .1 .1 .0) in
+    let pairs : Crossings (signals cs ps) (labels cs ps) keys =
+    subst (λ (l : List ℕ). Crossings (signals cs ps) l keys) (r .labels-are) (found .ensures .pairs cs (r .source-members) (r .sink-members)) in
+    let marks : Flags componentLimit (hasDrive cs ps fs) (copied .last .1 .0) = record {
+      long = omega (arith, copied .kept .1 .0);
+      at = λ k h. copied .ensures .at k (omega (arith, room .regions-room)) ∙ driven .at k h;
+    } in
+    let joined : Flags componentLimit
+    (λ k. marked (s .args .has-drive .now) k || some (λ p. marked (s .args .inferred .now) p && eqb (getD (s .args .region-at .now) p 0) k) (componentCount cs))
+    (possible .last .1 .1 .1 .1 .0) =
+    rw (all r) at (possible .ensures) in
+    record {
+      drive-is = drive-is cs ps (few r) (r .scene .ends) pairs fs (first .kept .1 .1 .1 .0 ∙ room .drive-room ∙ all r)
+          (by-labels r (carry keys (marked (copied .last .1 .0))) (first .ensures)) marks;
+      potential-is = potential-is cs ps (few r) (r .scene .ends) pairs fs (second .kept .1 .1 .1 .0 ∙ room .potential-room ∙ all r)
+          (by-labels r (carry keys (marked (possible .last .1 .1 .1 .1 .0))) (second .ensures))
+          (r .regions-are) driven inferred joined;
+    }
+
+pub flag-alive-spec : {M : Type 1} → statement M
+flag-alive-spec =
+    tie.close
+    (tie.spec
+    (λ c. search needs)
+    find-crossings-requires
+    (λ c. search needs)
+    (λ c κs. search needs)
+    (λ c. search needs)
+    possible-regions-requires
+    (λ c. search needs)
+    (λ c. sym (lent (c .before .before .before .before .before .before .before .before)))
+    (λ c. search needs)
+    carry-marks-requires
+    (λ c. search needs)
+    (λ c. sym (lent (c .before .before .before .before .before .before .before .before .before .before .before .before .before .before .before)))
+    (λ c. search needs)
+    carry-marks-requires-2
+    (λ c. search needs)
+    (λ c. search needs)
+    returns)
