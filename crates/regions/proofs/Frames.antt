@@ -3,13 +3,15 @@
 use mathlib.Core.Path.{_≡_, refl, sym, ap, _∙_}
 use mathlib.Core.Bool.{true, false}
 use mathlib.Core.List.{List, [], _∷_}
-use Prim.Native.Nat.{ℕ, suc, _*_, _≤_, _<_}
+use Prim.Native.Nat.{ℕ, zero, suc, _+_, _*_, _-_, _≤_, _<_}
+use native.Mathlib.Omega.{arith}
 use lib.ListN.{length, getD, drop, length-set}
 use Rattle.tables.specs.Order.{Ascending, LowerBound}
 use Rattle.tables.specs.Pairs.{span}
 use Rattle.regions.specs.Graph.{marked, each}
 use Rattle.regions.specs.Kosaraju.{Walk, mark, push, visit}
 use Rattle.regions.specs.Keys.{edges, row, Next}
+use Rattle.regions.specs.Search.{Passed, Skipped}
 use Rattle.regions.proofs.Again.{visit-old, visit-new}
 use Rattle.regions.proofs.Rows.{row-next}
 
@@ -63,9 +65,9 @@ module _ {n : ℕ} {keys : List ℕ} (nodes : n ≤ span) (rise : Ascending keys
     turn fuel = ap (λ m. finish n keys (suc fuel) fs (push x (each (visit n (edges n keys) fuel) m s))) (sym (l .first lt))
 
     -- it is visited
-    pub finish-skip : (fuel : ℕ) → marked (s .visited) k ≡ true
+    finish-pass : (fuel : ℕ) → marked (s .visited) k ≡ true
         → finish n keys fuel (frame x (suc place) ∷ fs) s ≡ finish n keys fuel (frame x place ∷ fs) s
-    finish-skip fuel e = ap (finish n keys fuel (frame x (suc place) ∷ fs)) (sym (visit-old n (edges n keys) fuel k s e)) ∙ turn fuel
+    finish-pass fuel e = ap (finish n keys fuel (frame x (suc place) ∷ fs)) (sym (visit-old n (edges n keys) fuel k s e)) ∙ turn fuel
 
     -- it is not: its call is opened
     pub finish-enter : (fuel : ℕ) {i : ℕ} → LowerBound keys (k * span) i → length (s .visited) ≡ n → marked (s .visited) k ≡ false
@@ -73,3 +75,21 @@ module _ {n : ℕ} {keys : List ℕ} (nodes : n ≤ span) (rise : Ascending keys
     unfolding finish
     finish-enter fuel start len new =
         ap (finish n keys (suc fuel) (frame x (suc place) ∷ fs)) (opened fuel s lt start len new) ∙ turn (suc fuel)
+
+  module _ {x : ℕ} (fs : List Frame) (s : Walk) (fuel : ℕ) where
+    -- the neighbours at d places are visited
+    finish-passed : (from d : ℕ) → ((i : ℕ) → i < from + d → from ≤ i → Passed n keys (s .visited) x i)
+        → finish n keys fuel (frame x (from + d) ∷ fs) s ≡ finish n keys fuel (frame x from ∷ fs) s
+    finish-passed from zero all = ap (λ (i : ℕ). finish n keys fuel (frame x i ∷ fs) s) (omega arith)
+    finish-passed from (suc d) all =
+        let p = all (from + d) (omega arith) (omega arith) in
+        ap (λ (i : ℕ). finish n keys fuel (frame x i ∷ fs) s) (omega arith)
+        ∙ finish-pass (p .stands) (p .below) fs s fuel (p .old)
+        ∙ finish-passed from d (λ i h le. all i (omega arith) le)
+
+    pub finish-skip : {from place k : ℕ} → Skipped n keys (s .visited) x from place k
+        → finish n keys fuel (frame x place ∷ fs) s ≡ finish n keys fuel (frame x from ∷ fs) s
+    finish-skip {from} {place} l =
+        let whole : place ≡ from + (place - from) = omega arith in
+        ap (λ (i : ℕ). finish n keys fuel (frame x i ∷ fs) s) whole
+        ∙ finish-passed from (place - from) (λ i h le. l .passed i (omega arith) le)

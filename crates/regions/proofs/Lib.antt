@@ -4,7 +4,7 @@
 --     Examples  the definitions, computed at small graphs
 --     Fill      clear, clear_flags
 --     Again     a walk passes a visited node over
---     Rows      neighbour_at: the keys of a node are its neighbours
+--     Rows      skip_visited: the keys of a node are its neighbours
 --     Frames    the open calls of `visit` as a stack of frames
 --     Stack     visit_from
 --     Order     finish_order, reach_from

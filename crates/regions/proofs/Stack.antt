@@ -1,4 +1,4 @@
--- The loop of `visit_from`: its invariant `Open`, its measure `effort`, and what each of its three turns does to them.
+-- The loop of `visit_from`: its invariant `Open`, its measure `effort`, and what each of its two turns does to them.
 -- Assumes nothing.
 use mathlib.Core.Path.{_≡_, refl, sym, ap, ap₂, _∙_, subst}
 use mathlib.Core.Bool.{Bool, true, false, cond}
@@ -16,7 +16,7 @@ use Rattle.tables.specs.Pairs.{span}
 use Rattle.regions.specs.Graph.{marked}
 use Rattle.regions.specs.Kosaraju.{Walk, push, visit}
 use Rattle.regions.specs.Keys.{edges, Next}
-use Rattle.regions.specs.Search.{walkOf, weight, fresh, Zeros, Room, Entered, Searched}
+use Rattle.regions.specs.Search.{walkOf, weight, fresh, Zeros, Room, Entered, Skipped, Searched}
 use Rattle.tables.specs.Laws.{same?}
 use Rattle.regions.proofs.Again.{visit-old}
 use Rattle.regions.proofs.Frames.{Frame, frame, Placed, AllPlaced, finish, finish-start, finish-leave, finish-skip, finish-enter}
@@ -77,7 +77,7 @@ unfoldable work : ℕ → List Frame → ℕ
 work m [] = 0
 work m (f ∷ fs) = (suc m - f .place) + work m fs
 
--- Of m keys: a turn leaves a frame, passes a key, or marks a node and opens a frame with at most m + 1 steps of its own.
+-- Of m keys: a turn leaves a frame, or passes keys, marks a node and opens a frame with at most m + 1 steps of its own.
 pub effort : ℕ → List Bool → ℕ → List ℕ → ℕ
 effort m visited depth stack = weight (m + 2) visited + work m (frames depth stack)
 
@@ -138,9 +138,9 @@ module _ {n : ℕ} {keys : List ℕ} {goal : Walk} {total count₀ : ℕ} {order
 
   -- ---- no neighbour is left: the call is closed
 
-  module _ {k : ℕ} (l : Next n keys x place k) (last : k ≡ n) where
-    none-left : Next n keys x place n
-    none-left = subst (λ (j : ℕ). Next n keys x place j) last l
+  module _ {to k : ℕ} (l : Skipped n keys visited x place to k) (last : k ≡ n) where
+    none-left : Next n keys x to n
+    none-left = subst (λ (j : ℕ). Next n keys x to j) last (l .stands)
 
     abbrev popped : List ℕ
     popped = set (set stack (2 * top) 0) (2 * top + 1) 0
@@ -159,6 +159,7 @@ module _ {n : ℕ} {keys : List ℕ} {goal : Walk} {total count₀ : ℕ} {order
               (ap (λ (k : ℕ). take k (set order count x)) (add-one count) ∙ take-suc-set order count x (omega arith))
               ∙ ap (λ (k : ℕ). finish n keys k (frames top stack) (push x (walkOf visited order count))) fuel
               ∙ finish-leave (o .nodes) (o .rise) (n - depth) (frames top stack) (walkOf visited order count) none-left
+              ∙ finish-skip (o .nodes) (o .rise) (frames top stack) (walkOf visited order count) (n - depth) l
               ∙ ap (λ m. finish n keys (n - depth) m (walkOf visited order count)) frames-whole
               ∙ o .finishes;
           placed = subst (AllPlaced n keys) (sym under) (placed-whole .1);
@@ -183,127 +184,97 @@ module _ {n : ℕ} {keys : List ℕ} {goal : Walk} {total count₀ : ℕ} {order
     unfolding effort
     leave-less = let p = ap (work (length keys)) under in let w = work-whole in let b = top-placed .place-within in omega arith
 
-  -- ---- the next neighbour
+  -- ---- the next neighbour that is not visited: its call is opened
 
-  module _ {k : ℕ} (l : Next n keys x place k) (more : ¬ (k ≡ n)) where
+  module _ {to k : ℕ} (l : Skipped n keys visited x place to k) (more : ¬ (k ≡ n)) where
     pub lt : k < n
-    lt = lt-of-le-ne (l .high) more
+    lt = lt-of-le-ne (l .stands .high) more
 
-    pub inside : place < length keys
-    inside = l .within lt
+    pub inside : to < length keys
+    inside = l .stands .within lt
 
     abbrev passed : List ℕ
-    passed = set stack (2 * top + 1) (place + 1)
+    passed = set stack (2 * top + 1) (to + 1)
 
-    frames-passed : frames depth passed ≡ frame x (suc place) ∷ frames top stack
+    frames-passed : frames depth passed ≡ frame x (suc to) ∷ frames top stack
     frames-passed =
         ap (λ (d : ℕ). frames d passed) (sym whole)
-        ∙ frames-place top stack (place + 1) (omega arith) ∙ ap (λ (j : ℕ). frame x j ∷ frames top stack) (add-one place)
+        ∙ frames-place top stack (to + 1) (omega arith) ∙ ap (λ (j : ℕ). frame x j ∷ frames top stack) (add-one to)
 
-    placed-passed : AllPlaced n keys (frame x (suc place) ∷ frames top stack)
+    placed-passed : AllPlaced n keys (frame x (suc to) ∷ frames top stack)
     placed-passed = (
       record { node-below = top-placed .node-below; place-within = inside; from-row = λ k h q. top-placed .from-row k (omega arith) q },
       placed-whole .1,
     )
 
-    -- it is visited
-    module _ (old : marked visited k ≡ true) where
-      pub skip : Open n keys goal total count₀ order₀ stack₀ visited order count passed depth
-      skip =
+    fewer : fresh visited ≡ 1 + fresh (set visited k true)
+    fewer = let h = lt in weight-mark 1 visited k (omega arith) (l .new lt)
+
+    pub enter-room : depth < n
+    enter-room = let f = fewer in omega arith
+
+    module _ {visited′ : List Bool} {stack′ : List ℕ} (e : Entered keys k (2 * top + 2) visited passed visited′ stack′) where
+      abbrev i : ℕ
+      i = e .place
+
+      abbrev pushed : List ℕ
+      pushed = set (set passed (2 * top + 2) k) (2 * top + 2 + 1) i
+
+      frames-pushed : frames (depth + 1) pushed ≡ frame k i ∷ frame x (suc to) ∷ frames top stack
+      frames-pushed =
+          let node-at : 2 * top + 2 ≡ 2 * depth = omega arith in
+          let place-at : 2 * top + 2 + 1 ≡ 2 * depth + 1 = omega arith in
+          let room = enter-room in
+          ap (λ (d : ℕ). frames d pushed) (add-one depth)
+          ∙ ap₂ (λ (a : ℕ) (b : ℕ). frames (suc depth) (set (set passed a k) b i)) node-at place-at
+          ∙ frames-push depth passed k i (simp length-set (omega arith))
+          ∙ ap (λ m. frame k i ∷ m) frames-passed
+
+      entered : Open n keys goal total count₀ order₀ stack₀ (set visited k true) order count pushed (depth + 1)
+      entered =
           record {
             nodes = o .nodes;
             rise = o .rise;
             finishes =
-                ap (λ m. finish n keys (n - depth) m (walkOf visited order count)) frames-passed
-                ∙ finish-skip (o .nodes) (o .rise) l lt (frames top stack) (walkOf visited order count) (n - depth) old
-                ∙ ap (λ m. finish n keys (n - depth) m (walkOf visited order count)) frames-whole
+                ap (λ m. finish n keys (n - (depth + 1)) m (walkOf (set visited k true) order count)) frames-pushed
+                ∙ finish-enter (o .nodes) (o .rise) (l .stands) lt (frames top stack) (walkOf visited order count) (n - (depth + 1)) (e .start) (o .visited-length) (l .new lt)
+                ∙ finish-skip (o .nodes) (o .rise) (frames top stack) (walkOf visited order count) (suc (n - (depth + 1))) l
+                ∙ ap₂ (λ (f : ℕ) m. finish n keys f m (walkOf visited order count)) fuel frames-whole
                 ∙ o .finishes;
-            placed = subst (AllPlaced n keys) (sym frames-passed) placed-passed;
-            past = λ i h. getD-set-other stack (2 * top + 1) i (place + 1) 0 (λ q. omega arith) ∙ o .past i h;
+            placed = subst (AllPlaced n keys) (sym frames-pushed) (row-placed (o .rise) lt (e .start), placed-passed);
+            past = λ j h.
+                getD-set-other (set passed (2 * top + 2) k) (2 * top + 2 + 1) j i 0 (λ q. omega arith)
+                ∙ getD-set-other passed (2 * top + 2) j k 0 (λ q. omega arith)
+                ∙ getD-set-other stack (2 * top + 1) j (to + 1) 0 (λ q. omega arith) ∙ o .past j (omega arith);
             rest = o .rest;
-            total-is = o .total-is;
+            total-is = let f = fewer in omega arith;
             grows = o .grows;
             total-fits = o .total-fits;
-            visited-length = o .visited-length;
+            visited-length = simp length-set (o .visited-length);
             order-length = o .order-length;
             order-room = o .order-room;
             stack-length = simp length-set (o .stack-length);
             stack-room = o .stack-room;
           }
+        where
+          fuel : suc (n - (depth + 1)) ≡ n - depth
+          fuel = let r = enter-room in omega arith
 
-      pub skip-less : effort (length keys) visited depth passed < effort (length keys) visited depth stack
+      entered-less : effort (length keys) (set visited k true) (depth + 1) pushed < effort (length keys) visited depth stack
       unfolding effort work
-      skip-less = let p = ap (work (length keys)) frames-passed in let w = work-whole in let h = inside in omega arith
+      entered-less =
+          let p = ap (work (length keys)) frames-pushed in
+          let w = work-whole in
+          let h = lt in
+          let m = weight-mark (length keys + 2) visited k (omega arith) (l .new lt) in
+          let b = top-placed .place-within in
+          omega arith
 
-    -- it is not: its call is opened
-    module _ (new : marked visited k ≡ false) where
-      fewer : fresh visited ≡ 1 + fresh (set visited k true)
-      fewer = let h = lt in weight-mark 1 visited k (omega arith) new
+      pub enter : Open n keys goal total count₀ order₀ stack₀ visited′ order count stack′ (depth + 1)
+      enter = rw (e .visited-is, e .stack-is) entered
 
-      pub enter-room : depth < n
-      enter-room = let f = fewer in omega arith
-
-      module _ {visited′ : List Bool} {stack′ : List ℕ} (e : Entered keys k (2 * top + 2) visited passed visited′ stack′) where
-        abbrev i : ℕ
-        i = e .place
-
-        abbrev pushed : List ℕ
-        pushed = set (set passed (2 * top + 2) k) (2 * top + 2 + 1) i
-
-        frames-pushed : frames (depth + 1) pushed ≡ frame k i ∷ frame x (suc place) ∷ frames top stack
-        frames-pushed =
-            let node-at : 2 * top + 2 ≡ 2 * depth = omega arith in
-            let place-at : 2 * top + 2 + 1 ≡ 2 * depth + 1 = omega arith in
-            let room = enter-room in
-            ap (λ (d : ℕ). frames d pushed) (add-one depth)
-            ∙ ap₂ (λ (a : ℕ) (b : ℕ). frames (suc depth) (set (set passed a k) b i)) node-at place-at
-            ∙ frames-push depth passed k i (simp length-set (omega arith))
-            ∙ ap (λ m. frame k i ∷ m) frames-passed
-
-        entered : Open n keys goal total count₀ order₀ stack₀ (set visited k true) order count pushed (depth + 1)
-        entered =
-            record {
-              nodes = o .nodes;
-              rise = o .rise;
-              finishes =
-                  ap (λ m. finish n keys (n - (depth + 1)) m (walkOf (set visited k true) order count)) frames-pushed
-                  ∙ finish-enter (o .nodes) (o .rise) l lt (frames top stack) (walkOf visited order count) (n - (depth + 1)) (e .start) (o .visited-length) new
-                  ∙ ap₂ (λ (f : ℕ) m. finish n keys f m (walkOf visited order count)) fuel frames-whole
-                  ∙ o .finishes;
-              placed = subst (AllPlaced n keys) (sym frames-pushed) (row-placed (o .rise) lt (e .start), placed-passed);
-              past = λ j h.
-                  getD-set-other (set passed (2 * top + 2) k) (2 * top + 2 + 1) j i 0 (λ q. omega arith)
-                  ∙ getD-set-other passed (2 * top + 2) j k 0 (λ q. omega arith)
-                  ∙ getD-set-other stack (2 * top + 1) j (place + 1) 0 (λ q. omega arith) ∙ o .past j (omega arith);
-              rest = o .rest;
-              total-is = let f = fewer in omega arith;
-              grows = o .grows;
-              total-fits = o .total-fits;
-              visited-length = simp length-set (o .visited-length);
-              order-length = o .order-length;
-              order-room = o .order-room;
-              stack-length = simp length-set (o .stack-length);
-              stack-room = o .stack-room;
-            }
-          where
-            fuel : suc (n - (depth + 1)) ≡ n - depth
-            fuel = let r = enter-room in omega arith
-
-        entered-less : effort (length keys) (set visited k true) (depth + 1) pushed < effort (length keys) visited depth stack
-        unfolding effort work
-        entered-less =
-            let p = ap (work (length keys)) frames-pushed in
-            let w = work-whole in
-            let h = lt in
-            let m = weight-mark (length keys + 2) visited k (omega arith) new in
-            let b = top-placed .place-within in
-            omega arith
-
-        pub enter : Open n keys goal total count₀ order₀ stack₀ visited′ order count stack′ (depth + 1)
-        enter = rw (e .visited-is, e .stack-is) entered
-
-        pub enter-less : effort (length keys) visited′ (depth + 1) stack′ < effort (length keys) visited depth stack
-        enter-less = rw (e .visited-is, e .stack-is) entered-less
+      pub enter-less : effort (length keys) visited′ (depth + 1) stack′ < effort (length keys) visited depth stack
+      enter-less = rw (e .visited-is, e .stack-is) entered-less
 
 -- ---- a whole search
 

@@ -2,13 +2,14 @@
 -- that document 01 has the caller lend, n pairs; it is zero before and after. Document 01, "liveness.rs".
 -- Assumes nothing: these are definitions.
 use mathlib.Core.Path.{_≡_}
-use mathlib.Core.Bool.{Bool, true, cond}
+use mathlib.Core.Bool.{Bool, true, false, cond}
 use mathlib.Core.List.{List, [], _∷_}
-use Prim.Native.Nat.{ℕ, _+_, _*_, _≤_}
+use Prim.Native.Nat.{ℕ, _+_, _*_, _≤_, _<_}
 use lib.ListN.{length, getD, set, take, drop}
 use Rattle.tables.specs.Order.{Ascending, LowerBound}
 use Rattle.tables.specs.Pairs.{span}
-use Rattle.regions.specs.Graph.{Edges}
+use Rattle.regions.specs.Graph.{Edges, marked}
+use Rattle.regions.specs.Keys.{Next}
 use Rattle.regions.specs.Kosaraju as Kosaraju
 use Rattle.regions.specs.Kosaraju.{Walk, visit, Labels, label, reached}
 
@@ -46,6 +47,20 @@ pub record Entered (keys : List ℕ) (x at : ℕ) (visited₀ : List Bool) (stac
   pub start : LowerBound keys (x * span) place
   pub visited-is : visited ≡ set visited₀ x true
   pub stack-is : stack ≡ set (set stack₀ at x) (at + 1) place
+
+-- a neighbour of x that is visited stands at the place
+pub record Passed (n : ℕ) (keys : List ℕ) (visited : List Bool) (x place : ℕ) : Type 0 where
+  pub node : ℕ
+  pub below : node < n
+  pub stands : Next n keys x place node
+  pub old : marked visited node ≡ true
+
+-- what a search for a neighbour of x that is not visited finds: visited ones up to the place, and there k, or none from there on where k is n
+pub record Skipped (n : ℕ) (keys : List ℕ) (visited : List Bool) (x from place k : ℕ) : Type 0 where
+  pub onward : from ≤ place
+  pub passed : (i : ℕ) → i < place → from ≤ i → Passed n keys visited x i
+  pub stands : Next n keys x place k
+  pub new : k < n → marked visited k ≡ false
 
 -- what a walk from x does: it is `visit`, it touches no place of the order past the nodes that it adds, and it leaves the stack zero
 pub record Searched (n : ℕ) (edge : Edges) (x : ℕ) (visited₀ : List Bool) (order₀ : List ℕ) (count₀ : ℕ)

@@ -13,8 +13,8 @@ ghost use Rattle.tables.specs.Order.{Ascending};
 ghost use Rattle.tables.specs.Pairs.{span};
 ghost use Rattle.regions.specs.Graph.{flip};
 ghost use Rattle.regions.specs.Kosaraju as Kosaraju;
-ghost use Rattle.regions.specs.Keys.{edges, Reversed, Next};
-ghost use Rattle.regions.specs.Search.{fresh, Room, Entered, Searched, Ordered, Labelled, Regions, Reached};
+ghost use Rattle.regions.specs.Keys.{edges, Reversed};
+ghost use Rattle.regions.specs.Search.{fresh, Room, Entered, Skipped, Searched, Ordered, Labelled, Regions, Reached};
 
 // The nodes whose row of keys has a hint of where it begins. Others are searched for.
 const HINTED: usize = 1024;
@@ -58,20 +58,40 @@ fn enter(
     stack[at + 1] = lower_bound_in(keys, node as u64 * tables::SPAN, rows, node);
 }
 
-// The neighbour of `node` that stands at the place, or n where the keys of `node` end before it.
-fn neighbour_at(keys: &[u64], n: usize, node: usize, place: usize) -> usize
-    requires { ⌜ (n ≤ span) × (node < n) × (place < length (now keys) → node * span ≤ getD (now keys) place 0) ⌝ }
-    ensures { λ r. ⌜ Next n (now (keys .entry)) node place r ⌝ }
+// A neighbour, and the place of its key; or n, and a place from which on the node has no keys.
+struct Neighbour {
+    place: usize,
+    node: usize,
+}
+
+// The first neighbour of `node` from the place on that is not visited.
+fn skip_visited(keys: &[u64], n: usize, node: usize, from: usize, visited: &[bool]) -> Neighbour
+    requires { ⌜ (n ≤ span) × (node < n) × (length (now visited) ≡ n)
+        × ((i : ℕ) → from ≤ i → i < length (now keys) → node * span ≤ getD (now keys) i 0) ⌝ }
+    ensures { λ r. ⌜ Skipped n (now (keys .entry)) (now (visited .entry)) node from (r .place) (r .node) ⌝ }
 {
-    if keys.len() <= place {
-        return n;
-    }
     let base = node as u64 * tables::SPAN;
-    let key = keys[place];
-    if base + n as u64 <= key {
-        return n;
+    let mut place = from;
+    while place < keys.len() {
+        let k = (keys[place] - base) as usize;
+        if n <= k {
+            return Neighbour {
+                place: place,
+                node: n,
+            };
+        }
+        if !visited[k] {
+            return Neighbour {
+                place: place,
+                node: k,
+            };
+        }
+        place += 1;
     }
-    (key - base) as usize
+    Neighbour {
+        place: place,
+        node: n,
+    }
 }
 
 // Visits the nodes that `start` reaches over nodes that are not visited, and adds them to the order as they finish.
@@ -99,7 +119,8 @@ fn visit_from(
     while 0 < depth {
         let at = 2 * (depth - 1);
         let node = stack[at];
-        let k = neighbour_at(keys, n, node, stack[at + 1]);
+        let found = skip_visited(keys, n, node, stack[at + 1], visited);
+        let k = found.node;
         if k == n {
             order[done] = node;
             done += 1;
@@ -107,11 +128,9 @@ fn visit_from(
             stack[at + 1] = 0;
             depth -= 1;
         } else {
-            stack[at + 1] += 1;
-            if !visited[k] {
-                enter(keys, k, visited, stack, at + 2, rows);
-                depth += 1;
-            }
+            stack[at + 1] = found.place + 1;
+            enter(keys, k, visited, stack, at + 2, rows);
+            depth += 1;
         }
     }
     done

@@ -1,14 +1,13 @@
--- `regions::visit_from` meets its contract. The loop's invariant: to finish the open calls gives what `visit` gives at the start. A turn leaves a
--- node, enters its next neighbour, or passes it over.
+-- `regions::visit_from` meets its contract. The loop's invariant: to finish the open calls gives what `visit` gives at the start. A turn enters the
+-- next neighbour that is not visited, or leaves the node.
 -- The measure weighs each node that is not visited by the keys and 2, and adds the keys that are left of each open call. Assumes nothing.
 use native.Mathlib.Omega.{arith}
 use Prim.Native.Nat.{_+_, _-_}
 use mathlib.Core.Path.{_∙_}
-use borrow.Author.Tests.{not-true, not-false}
 use lib.ListN.{length, length-set}
 use Rattle.regions.specs.Search.{walkOf, fresh}
 use Rattle.regions.proofs.Frames.{finish}
-use Rattle.regions.proofs.Stack.{frames, effort, Open, top-placed, inside, lt, leave, leave-less, skip, skip-less, enter, enter-less, enter-room, searched-old, begin, searched}
+use Rattle.regions.proofs.Stack.{frames, effort, Open, top-placed, inside, lt, leave, leave-less, enter, enter-less, enter-room, searched-old, begin, searched}
 use Rattle.regions.proofs.visit_from.Statement.{statement}
 use Rattle.regions.proofs.visit_from.Tie as tie
 
@@ -48,19 +47,19 @@ mul-node c = omega arith
 slice-read-node : tie.Need-slice-read-node Inv-loop μ-loop
 slice-read-node c = omega arith
 
-add-neighbour-at : tie.Need-add-neighbour-at Inv-loop μ-loop
-add-neighbour-at c = omega arith
+add-skip-visited : tie.Need-add-skip-visited Inv-loop μ-loop
+add-skip-visited c = omega arith
 
-mul-neighbour-at : tie.Need-mul-neighbour-at Inv-loop μ-loop
-mul-neighbour-at c = omega arith
+mul-skip-visited : tie.Need-mul-skip-visited Inv-loop μ-loop
+mul-skip-visited c = omega arith
 
-slice-read-neighbour-at : tie.Need-slice-read-neighbour-at Inv-loop μ-loop
-slice-read-neighbour-at c = omega arith
+slice-read-skip-visited : tie.Need-slice-read-skip-visited Inv-loop μ-loop
+slice-read-skip-visited c = omega arith
 
-neighbour-at-requires : tie.Need-neighbour-at-requires Inv-loop μ-loop
-neighbour-at-requires c κs =
-    let top = top-placed (c .before .before .loop-test .taken) (c .before .before .before .loop .inv) in
-    (c .before .before .before .loop .inv .nodes, top .node-below, λ inside. top .from-row _ (omega arith) inside)
+skip-visited-requires : tie.Need-skip-visited-requires Inv-loop μ-loop
+skip-visited-requires c κs =
+    let top = top-placed (c .before .before .before .loop-test .taken) (c .before .before .before .before .loop .inv) in
+    (c .before .before .before .before .loop .inv .nodes, top .node-below, c .before .before .before .before .loop .inv .visited-length, top .from-row)
 
 mul-order : tie.Need-mul-order Inv-loop μ-loop
 mul-order c = omega arith
@@ -90,54 +89,40 @@ sub-depth : tie.Need-sub-depth Inv-loop μ-loop
 sub-depth c = omega arith
 
 loop-less : tie.Need-loop-less Inv-loop μ-loop
-loop-less c = leave-less (c .before .before .before .before .loop-test .taken) (c .before .before .before .before .before .loop .inv) (c .before .neighbour-at .ensures) (c .if2 .taken)
+loop-less c = leave-less (c .before .before .before .before .before .loop-test .taken) (c .before .before .before .before .before .before .loop .inv) (c .before .skip-visited .ensures) (c .if2 .taken)
 
 loop-again : tie.Need-loop-again Inv-loop μ-loop
-loop-again c = leave (c .before .before .before .before .loop-test .taken) (c .before .before .before .before .before .loop .inv) (c .before .neighbour-at .ensures) (c .if2 .taken)
+loop-again c = leave (c .before .before .before .before .before .loop-test .taken) (c .before .before .before .before .before .before .loop .inv) (c .before .skip-visited .ensures) (c .if2 .taken)
 
 add-stack-2 : tie.Need-add-stack-2 Inv-loop μ-loop
-add-stack-2 c = omega arith
+add-stack-2 c = let i = inside (c .before .before .before .before .before .before .loop-test .taken) (c .before .before .before .before .before .before .before .loop .inv) (c .before .before .skip-visited .ensures) (c .before .if2 .left) in omega arith
+
+add-stack-3 : tie.Need-add-stack-3 Inv-loop μ-loop
+add-stack-3 c = omega arith
 
 mul-stack-3 : tie.Need-mul-stack-3 Inv-loop μ-loop
 mul-stack-3 c = omega arith
 
-slice-read-stack : tie.Need-slice-read-stack Inv-loop μ-loop
-slice-read-stack c = omega arith
-
-add-stack-3 : tie.Need-add-stack-3 Inv-loop μ-loop
-add-stack-3 c =
-    let i = inside (c .before .before .before .before .before .loop-test .taken) (c .before .before .before .before .before .before .loop .inv) (c .before .before .neighbour-at .ensures) (c .before .if2 .left) in
-    omega arith
-
 slice-write-stack-3 : tie.Need-slice-write-stack-3 Inv-loop μ-loop
 slice-write-stack-3 c = omega arith
-
-slice-read-if3 : tie.Need-slice-read-if3 Inv-loop μ-loop
-slice-read-if3 c = omega arith
 
 add-enter : tie.Need-add-enter Inv-loop μ-loop
 add-enter c = omega arith
 
 enter-requires-2 : tie.Need-enter-requires-2 Inv-loop μ-loop
 enter-requires-2 c κs =
-    let k = lt (c .before .before .before .before .before .before .before .before .before .loop-test .taken) (c .before .before .before .before .before .before .before .before .before .before .loop .inv) (c .before .before .before .before .before .before .neighbour-at .ensures) (c .before .before .before .before .before .if2 .left) in
-    let room = enter-room (c .before .before .before .before .before .before .before .before .before .loop-test .taken) (c .before .before .before .before .before .before .before .before .before .before .loop .inv) (c .before .before .before .before .before .before .neighbour-at .ensures) (c .before .before .before .before .before .if2 .left) (not-true _ (c .before .before .if3 .taken)) in
+    let k = lt (c .before .before .before .before .before .before .before .before .loop-test .taken) (c .before .before .before .before .before .before .before .before .before .loop .inv) (c .before .before .before .before .skip-visited .ensures) (c .before .before .before .if2 .left) in
+    let room = enter-room (c .before .before .before .before .before .before .before .before .loop-test .taken) (c .before .before .before .before .before .before .before .before .before .loop .inv) (c .before .before .before .before .skip-visited .ensures) (c .before .before .before .if2 .left) in
     simp length-set (omega arith)
 
 add-depth : tie.Need-add-depth Inv-loop μ-loop
 add-depth c = omega arith
 
 loop-less-2 : tie.Need-loop-less-2 Inv-loop μ-loop
-loop-less-2 c = enter-less (c .before .before .before .before .before .before .before .before .before .before .before .before .before .before .loop-test .taken) (c .before .before .before .before .before .before .before .before .before .before .before .before .before .before .before .loop .inv) (c .before .before .before .before .before .before .before .before .before .before .before .neighbour-at .ensures) (c .before .before .before .before .before .before .before .before .before .before .if2 .left) (not-true _ (c .before .before .before .before .before .before .before .if3 .taken)) (c .before .before .before .before .enter2 .ensures)
+loop-less-2 c = enter-less (c .before .before .before .before .before .before .before .before .before .before .before .before .before .loop-test .taken) (c .before .before .before .before .before .before .before .before .before .before .before .before .before .before .loop .inv) (c .before .before .before .before .before .before .before .before .before .skip-visited .ensures) (c .before .before .before .before .before .before .before .before .if2 .left) (c .before .before .before .before .enter2 .ensures)
 
 loop-again-2 : tie.Need-loop-again-2 Inv-loop μ-loop
-loop-again-2 c = enter (c .before .before .before .before .before .before .before .before .before .before .before .before .before .before .loop-test .taken) (c .before .before .before .before .before .before .before .before .before .before .before .before .before .before .before .loop .inv) (c .before .before .before .before .before .before .before .before .before .before .before .neighbour-at .ensures) (c .before .before .before .before .before .before .before .before .before .before .if2 .left) (not-true _ (c .before .before .before .before .before .before .before .if3 .taken)) (c .before .before .before .before .enter2 .ensures)
-
-loop-less-3 : tie.Need-loop-less-3 Inv-loop μ-loop
-loop-less-3 c = skip-less (c .before .before .before .before .before .before .before .loop-test .taken) (c .before .before .before .before .before .before .before .before .loop .inv) (c .before .before .before .before .neighbour-at .ensures) (c .before .before .before .if2 .left) (not-false _ (c .if3 .left))
-
-loop-again-3 : tie.Need-loop-again-3 Inv-loop μ-loop
-loop-again-3 c = skip (c .before .before .before .before .before .before .before .loop-test .taken) (c .before .before .before .before .before .before .before .before .loop .inv) (c .before .before .before .before .neighbour-at .ensures) (c .before .before .before .if2 .left) (not-false _ (c .if3 .left))
+loop-again-2 c = enter (c .before .before .before .before .before .before .before .before .before .before .before .before .before .loop-test .taken) (c .before .before .before .before .before .before .before .before .before .before .before .before .before .before .loop .inv) (c .before .before .before .before .before .before .before .before .before .skip-visited .ensures) (c .before .before .before .before .before .before .before .before .if2 .left) (c .before .before .before .before .enter2 .ensures)
 
 same-length : tie.Need-same-length Inv-loop μ-loop
 same-length c = omega arith
@@ -167,10 +152,10 @@ visit-from-spec =
     mul-at
     mul-node
     slice-read-node
-    add-neighbour-at
-    mul-neighbour-at
-    slice-read-neighbour-at
-    neighbour-at-requires
+    add-skip-visited
+    mul-skip-visited
+    slice-read-skip-visited
+    skip-visited-requires
     mul-order
     slice-write-order
     add-done
@@ -183,18 +168,14 @@ visit-from-spec =
     loop-less
     loop-again
     add-stack-2
-    mul-stack-3
-    slice-read-stack
     add-stack-3
+    mul-stack-3
     slice-write-stack-3
-    slice-read-if3
     add-enter
     enter-requires-2
     add-depth
     loop-less-2
     loop-again-2
-    loop-less-3
-    loop-again-3
     same-length
     same-length-2
     same-length-3
