@@ -38,8 +38,8 @@ use Rattle.lists.specs.declared.Checked.the-variants.{Accepted}
 use Rattle.lists.proofs.Search.{never, both, or-true, none-found, found-at}
 use Rattle.lists.proofs.Members.{member-below}
 use Rattle.lists.proofs.Fields.{first-most}
-use Rattle.scene.specs.Ports.{portsOf}
-use Rattle.scene.proofs.Sound.{ports-few}
+use Rattle.faces.specs.Ports.{portsOf}
+use Rattle.faces.proofs.Sound.{ports-few}
 use Rattle.regions.specs.Graph.{Edges, marked, flip}
 use Rattle.regions.specs.Keys.{edges}
 use Rattle.regions.specs.Kosaraju.{reached}

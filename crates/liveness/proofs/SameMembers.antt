@@ -14,7 +14,7 @@ use Rattle.sets.specs.Members.{countBelow}
 use Rattle.lists.specs.Records.{PortConnection, component, portConnection, componentCount, portCount}
 use Rattle.lists.specs.First.{some, tabulate}
 use Rattle.lists.specs.Ids.{supportTransfer, smallerIds, memberOf, placeOf}
-use Rattle.scene.specs.Ports.{portsOf}
+use Rattle.faces.specs.Ports.{portsOf}
 use Rattle.regions.specs.Graph.{Edges, at, marked, flip}
 use Rattle.regions.specs.Kosaraju.{regionOf, count, reached}
 use Rattle.signals.specs.Signals.{signals}

@@ -18,7 +18,7 @@ use Rattle.lists.specs.Slices.{workOf}
 use Rattle.lists.specs.declared.Found.{Found}
 use Rattle.lists.specs.declared.Found.the-variants.{At, Nothing}
 use Rattle.lists.specs.declared.Checked.{Checked}
-use Rattle.scene.specs.Ports.{portsOf}
+use Rattle.faces.specs.Ports.{portsOf}
 use Rattle.regions.specs.Graph.{marked, flip}
 use Rattle.regions.specs.Kosaraju.{reached}
 use Rattle.signals.specs.Signals.{signals, sourceMember}

@@ -10,8 +10,8 @@ use Rattle.lists.specs.Refusals.{portsRefusal, packed}
 use Rattle.lists.specs.Slices.{leftOf}
 use Rattle.lists.specs.declared.Checked.{Checked}
 use Rattle.lists.specs.declared.Checked.the-variants.{Accepted, Refused}
-use Rattle.scene.specs.Ports.{Port}
-use Rattle.scene.specs.Rows.{rowsOf}
+use Rattle.faces.specs.Ports.{Port}
+use Rattle.faces.specs.Rows.{rowsOf}
 use Rattle.scene.specs.Kept.{keptRows, keptCount}
 
 -- 1 for yes

@@ -3,14 +3,14 @@ use lists::Checked;
 use lists::refusals::pack;
 use scene::connections::Selected;
 use scene::connections::port_connections;
-use scene::ports::port_count;
-use scene::ports::ports_for;
-use scene::step::facing_between;
+use faces::ports::port_count;
+use faces::ports::ports_for;
+use faces::step::facing_between;
 ghost use mathlib.Core.Path.{_≡_};
 ghost use Prim.Native.Nat.{_<_};
 ghost use lib.ListN.{length};
-ghost use Rattle.scene.specs.Ports.{portsFor};
-ghost use Rattle.scene.specs.Step.{facingBetween};
+ghost use Rattle.faces.specs.Ports.{portsFor};
+ghost use Rattle.faces.specs.Step.{facingBetween};
 ghost use Rattle.probe.specs.Ports.{placeCode, Sent};
 
 #[no_mangle]

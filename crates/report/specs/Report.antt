@@ -21,7 +21,7 @@ use Rattle.lines.specs.Text.{ascii}
 use Rattle.lines.specs.Decimal.{lineOf}
 use Rattle.blocks.specs.Lines.{componentKeys, connectionKeys, regionKeys, sourceKeys, block, inputText}
 use Rattle.circuit.specs.Topology.{netsOf, fragmentsOf}
-use Rattle.scene.specs.Ports.{portsOf}
+use Rattle.faces.specs.Ports.{portsOf}
 use Rattle.scene.specs.Kept.{keptRows}
 use Rattle.regions.specs.Graph.{marked}
 use Rattle.signals.specs.Regions.{regionAt, regionCount, isCyclic, hasDrive}

@@ -21,12 +21,12 @@ use Rattle.lists.specs.Records.{PortConnection, connection, connectionCount, po
 use Rattle.lists.specs.Ids.{hasComponent, supportTransfer, endMissing, firstEndMissing}
 use Rattle.lists.specs.declared.Found.the-variants.{Nothing}
 use Rattle.lists.proofs.Search.{first-nothing}
-use Rattle.scene.specs.Rows.{portPlaces}
-use Rattle.scene.specs.Select.{supportKind}
+use Rattle.faces.specs.Rows.{portPlaces}
+use Rattle.faces.specs.Select.{supportKind}
 use Rattle.scene.specs.Kept.{linkOf, rowBy, keptRow, rowsBelow, keptRows, keptCount}
 use Rattle.scene.specs.declared.connections.Link.{Link}
 use Rattle.scene.specs.declared.connections.Link.the-variants.{Ports, Dropped}
-use Rattle.scene.proofs.Transfers.{transfer-below}
+use Rattle.faces.proofs.Transfers.{transfer-below}
 use Rattle.scene.proofs.Links.{linked}
 
 pub support-dropped : (cs ps : List ℤ) (k : ℕ) → connection ps k .kind ≡ supportKind → keptRow cs ps k ≡ []

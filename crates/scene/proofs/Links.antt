@@ -17,13 +17,13 @@ use Rattle.lists.specs.Ids.{placeOf, hasComponent}
 use Rattle.lists.specs.declared.Found.{Found}
 use Rattle.lists.specs.declared.Found.the-variants.{At, Nothing}
 use Rattle.lists.proofs.Search.{FoundAt, found-at, both}
-use Rattle.scene.specs.Ports.{Port, NoFace, Down, Structural, opposite, portsOf}
-use Rattle.scene.specs.Rows.{portPlaces}
-use Rattle.scene.specs.Step.{stepFace}
-use Rattle.scene.specs.Select.{supportKind, fits, serves, portAt, selectPort}
+use Rattle.faces.specs.Ports.{Port, NoFace, Down, Structural, opposite, portsOf}
+use Rattle.faces.specs.Rows.{portPlaces}
+use Rattle.faces.specs.Step.{stepFace}
+use Rattle.faces.specs.Select.{supportKind, fits, serves, portAt, selectPort}
 use Rattle.scene.specs.Kept.{bothPorts, portsBetween, linkBetween, linkOf}
 use Rattle.scene.specs.declared.connections.Link.the-variants.{Ports, Dropped}
-use Rattle.scene.proofs.Sound.{ports-few, structural-down}
+use Rattle.faces.proofs.Sound.{ports-few, structural-down}
 
 -- ---- between two components
 

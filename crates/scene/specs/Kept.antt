@@ -12,9 +12,9 @@ use Rattle.lists.specs.Records.{Component, Connection, component, connection, c
 use Rattle.lists.specs.Ids.{placeOf}
 use Rattle.lists.specs.declared.Found.{Found}
 use Rattle.lists.specs.declared.Found.the-variants.{At, Nothing}
-use Rattle.scene.specs.Ports.{NoFace, opposite, portsOf}
-use Rattle.scene.specs.Step.{stepFace}
-use Rattle.scene.specs.Select.{selectPort, transferOf}
+use Rattle.faces.specs.Ports.{NoFace, opposite, portsOf}
+use Rattle.faces.specs.Step.{stepFace}
+use Rattle.faces.specs.Select.{selectPort, transferOf}
 use Rattle.scene.specs.declared.connections.Link.{Link}
 use Rattle.scene.specs.declared.connections.Link.the-variants.{Ports, Dropped}
 

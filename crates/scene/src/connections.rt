@@ -1,10 +1,10 @@
 // The port connections that are kept of a scene.
-use super::ports::port_count;
-use super::ports::ports_for;
-use super::select::select_port;
-use super::select::transfer_of;
-use super::step::facing_between;
-use super::step::opposite_face;
+use faces::ports::port_count;
+use faces::ports::ports_for;
+use faces::select::select_port;
+use faces::select::transfer_of;
+use faces::step::facing_between;
+use faces::step::opposite_face;
 use lists::COMPONENT;
 use lists::COMPONENTS;
 use lists::CONNECTION;
@@ -27,10 +27,10 @@ ghost use Rattle.lists.specs.Limits.{portWidth};
 ghost use Rattle.lists.specs.Records.{component, connection, componentCount, connectionCount};
 ghost use Rattle.lists.specs.Within.{Components, Connections};
 ghost use Rattle.lists.specs.Ids.{IdTable};
-ghost use Rattle.scene.specs.Ports.{portsOf};
-ghost use Rattle.scene.specs.Rows.{portPlaces};
-ghost use Rattle.scene.specs.Step.{stepFace};
-ghost use Rattle.scene.specs.Select.{selectPort};
+ghost use Rattle.faces.specs.Ports.{portsOf};
+ghost use Rattle.faces.specs.Rows.{portPlaces};
+ghost use Rattle.faces.specs.Step.{stepFace};
+ghost use Rattle.faces.specs.Select.{selectPort};
 ghost use Rattle.scene.specs.Kept.{portsBetween, linkOf, rowBy, keptRow};
 ghost use Rattle.scene.specs.Answer.{Put, Filled, AllKept, Answered};
 

@@ -1,5 +1,2 @@
 // Ports: what each component has, and which of them a connection takes at each end.
 pub mod connections;
-pub mod ports;
-pub mod select;
-pub mod step;

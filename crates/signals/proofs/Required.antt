@@ -18,9 +18,9 @@ use Rattle.tables.specs.Laws.{order?}
 use Rattle.lists.specs.Records.{Component, component}
 use Rattle.lists.specs.First.{allFrom}
 use Rattle.lists.proofs.Search.{all-at}
-use Rattle.scene.specs.Ports.{Port, portsFor, portsOf, repeaterPorts, neither, opposite, faceOr, North, Input, Control}
-use Rattle.scene.specs.Select.{portAt}
-use Rattle.scene.proofs.Faces.{faceOr-named, faceOr-zero, faceOr-above}
+use Rattle.faces.specs.Ports.{Port, portsFor, portsOf, repeaterPorts, neither, opposite, faceOr, North, Input, Control}
+use Rattle.faces.specs.Select.{portAt}
+use Rattle.faces.proofs.Faces.{faceOr-named, faceOr-zero, faceOr-above}
 use Rattle.signals.specs.Verdicts.{statusOf, torch, isDevice, isRequired, portRows}
 use Rattle.signals.specs.Rows.{deviceRows, firstRequired, requiredCount}
 

@@ -13,8 +13,8 @@ use Rattle.lists.specs.Records.{Component, component, portConnection, component
 use Rattle.lists.specs.First.{some}
 use Rattle.lists.specs.declared.Found.{Found}
 use Rattle.lists.specs.declared.Found.the-variants.{At, Nothing}
-use Rattle.scene.specs.Ports.{portsOf, Input, Control}
-use Rattle.scene.specs.Select.{portAt}
+use Rattle.faces.specs.Ports.{portsOf, Input, Control}
+use Rattle.faces.specs.Select.{portAt}
 use Rattle.regions.specs.Graph.{marked}
 use Rattle.signals.specs.Signals.{isSignal, sourceMember}
 use Rattle.signals.specs.Sources.{sourceKind, onFrontier}

@@ -22,9 +22,9 @@ use Rattle.sheet.specs.Writing.{fieldLines}
 use Rattle.circuit.specs.Forest as forest
 use Rattle.circuit.specs.Groups.{rootsBelow, groupsOf}
 use Rattle.circuit.specs.Topology.{joins}
-use Rattle.scene.specs.Ports.{opposite, faceOr, neither, repeaterPorts, portsFor}
-use Rattle.scene.specs.Select.{serves, selectPort, transferOf}
-use Rattle.scene.specs.Step.{facingBetween}
+use Rattle.faces.specs.Ports.{opposite, faceOr, neither, repeaterPorts, portsFor}
+use Rattle.faces.specs.Select.{serves, selectPort, transferOf}
+use Rattle.faces.specs.Step.{facingBetween}
 use Rattle.scene.specs.Kept.{portsBetween, rowsBelow}
 use Rattle.regions.specs.Graph as graph
 use Rattle.regions.specs.Kosaraju as walk

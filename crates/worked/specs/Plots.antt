@@ -21,10 +21,10 @@ use Rattle.lists.specs.declared.Found.{Found}
 use Rattle.lists.specs.declared.Found.the-variants.{At, Nothing}
 use Rattle.lines.specs.Text.{ascii}
 use Rattle.circuit.specs.Topology.{netsOf, netCount, fragmentCount}
-use Rattle.scene.specs.Ports.{Input, Output, Control, Support, RedstoneSignal, Structural, NoFace, North, East, South, West, Up, Down, portsFor}
-use Rattle.scene.specs.Rows.{rowOf}
-use Rattle.scene.specs.Step.{facingBetween}
-use Rattle.scene.specs.Select.{selectPort}
+use Rattle.faces.specs.Ports.{Input, Output, Control, Support, RedstoneSignal, Structural, NoFace, North, East, South, West, Up, Down, portsFor}
+use Rattle.faces.specs.Rows.{rowOf}
+use Rattle.faces.specs.Step.{facingBetween}
+use Rattle.faces.specs.Select.{selectPort}
 use Rattle.scene.specs.Kept.{keptRows, keptCount}
 use Rattle.regions.specs.Graph.{range, filter}
 use Rattle.signals.specs.Regions.{regionsOf, regionCount, isCyclic}

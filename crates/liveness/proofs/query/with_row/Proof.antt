@@ -11,7 +11,7 @@ use Rattle.lists.specs.Records.{component}
 use Rattle.lists.specs.declared.Found.the-variants.{At, Nothing}
 use Rattle.lists.proofs.Search.{record-within}
 use Rattle.lists.proofs.Fields.{field-nonNeg}
-use Rattle.scene.specs.Ports.{portsOf}
+use Rattle.faces.specs.Ports.{portsOf}
 use Rattle.signals.specs.Verdicts.{isRequired}
 use Rattle.signals.specs.Rows.{firstRequired, requiredCount}
 use Rattle.signals.proofs.Required.{row-of}

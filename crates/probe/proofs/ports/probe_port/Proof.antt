@@ -6,9 +6,9 @@ use mathlib.Core.List.{List, []}
 use Prim.Native.Nat.{_≤_}
 use native.Mathlib.Omega.{arith}
 use lib.ListN.{length, length-append, length-map, length-replicate, List·getD-eq-default}
-use Rattle.scene.specs.Ports.{Port, portsFor}
-use Rattle.scene.specs.Rows.{portPlaces, rowOf, rowsOf, unusedRow}
-use Rattle.scene.proofs.Sound.{ports-few}
+use Rattle.faces.specs.Ports.{Port, portsFor}
+use Rattle.faces.specs.Rows.{portPlaces, rowOf, rowsOf, unusedRow}
+use Rattle.faces.proofs.Sound.{ports-few}
 use Rattle.probe.specs.Ports.{rowCode, placeCode}
 use Rattle.probe.proofs.ports.probe_port.Statement.{statement}
 use Rattle.probe.proofs.ports.probe_port.Tie as tie

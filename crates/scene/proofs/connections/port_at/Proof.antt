@@ -9,10 +9,10 @@ use lib.ListN.{length}
 use Rattle.lists.specs.Records.{component}
 use Rattle.lists.proofs.Search.{record-within}
 use Rattle.lists.proofs.Fields.{field-nonNeg}
-use Rattle.scene.specs.Ports.{Port, portsOf}
-use Rattle.scene.specs.Rows.{portsIn}
-use Rattle.scene.specs.Select.{selectPort}
-use Rattle.scene.proofs.Places.{ports-back}
+use Rattle.faces.specs.Ports.{Port, portsOf}
+use Rattle.faces.specs.Rows.{portsIn}
+use Rattle.faces.specs.Select.{selectPort}
+use Rattle.faces.proofs.Places.{ports-back}
 use Rattle.scene.proofs.connections.port_at.Statement.{statement}
 use Rattle.scene.proofs.connections.port_at.Tie as tie
 

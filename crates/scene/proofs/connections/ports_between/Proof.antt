@@ -6,8 +6,8 @@ use mathlib.Core.Bool.{true, false}
 use Prim.Native.Nat.{ℕ}
 use Rattle.lists.specs.Records.{Component, component}
 use Rattle.lists.specs.declared.Found.{Found}
-use Rattle.scene.specs.Ports.{opposite, portsOf}
-use Rattle.scene.specs.Select.{selectPort}
+use Rattle.faces.specs.Ports.{opposite, portsOf}
+use Rattle.faces.specs.Select.{selectPort}
 use Rattle.scene.specs.Kept.{bothPorts, portsBetween}
 use Rattle.scene.proofs.Links.{between-none, between-some}
 use Rattle.scene.proofs.connections.ports_between.Statement.{statement}

@@ -10,8 +10,8 @@ use Rattle.lists.specs.Signed.{at}
 use Rattle.lists.specs.Records.{naturalAt}
 use Rattle.lists.proofs.Search.{record-within}
 use Rattle.lists.proofs.Fields.{first-nonNeg, field-nonNeg}
-use Rattle.scene.specs.Select.{transferOf}
-use Rattle.scene.proofs.Transfers.{transfer-most}
+use Rattle.faces.specs.Select.{transferOf}
+use Rattle.faces.proofs.Transfers.{transfer-most}
 use Rattle.scene.proofs.Writes.{small-read, natural-read, five-puts}
 use Rattle.scene.proofs.connections.put_row.Statement.{statement}
 use Rattle.scene.proofs.connections.put_row.Tie as tie

@@ -6,7 +6,7 @@ use Prim.Native.Nat.{_+_, _*_}
 use mir.Syntax.{w64}
 use mir.Facts.{toZ-ofZ}
 use Rattle.lists.specs.Signed.{at}
-use Rattle.scene.proofs.Steps.{facing-same}
+use Rattle.faces.proofs.Steps.{facing-same}
 use Rattle.scene.proofs.connections.step_face.Statement.{statement}
 use Rattle.scene.proofs.connections.step_face.Tie as tie
 
