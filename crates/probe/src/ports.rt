@@ -1,11 +1,11 @@
 // Ports, steps and kept connections for the tests from Rust.
+use faces::ports::port_count;
+use faces::ports::ports_for;
+use faces::step::facing_between;
 use lists::Checked;
 use lists::refusals::pack;
 use scene::connections::Selected;
 use scene::connections::port_connections;
-use faces::ports::port_count;
-use faces::ports::ports_for;
-use faces::step::facing_between;
 ghost use mathlib.Core.Path.{_≡_};
 ghost use Prim.Native.Nat.{_<_};
 ghost use lib.ListN.{length};

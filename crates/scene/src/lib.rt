@@ -1,2 +1,2 @@
-// Ports: what each component has, and which of them a connection takes at each end.
+// Which connections of a scene are kept, and the ports that each takes at its ends.
 pub mod connections;
