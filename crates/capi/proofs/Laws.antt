@@ -28,12 +28,12 @@ use Rattle.lists.specs.declared.Found.the-variants.{At, Nothing}
 use Rattle.lists.specs.declared.Checked.{Checked}
 use Rattle.lists.specs.declared.Checked.the-variants.{Accepted, Refused}
 use Rattle.lists.proofs.Small.{small-or-else, grouping-small, liveness-small}
-use Rattle.capi.specs.Bytes.{numberBytes, littleEndian, signed, firstNumbers, numbers, lowBytes, bytesOf}
-use Rattle.capi.specs.Entry.{groupsWhole, groupsRefusal, groupsNumber, GroupsByBytes}
+use Rattle.encoding.specs.Bytes.{numberBytes, littleEndian, signed, firstNumbers, numbers, lowBytes, bytesOf}
+use Rattle.encoding.specs.Entry.{groupsWhole, groupsRefusal, groupsNumber, GroupsByBytes}
 use Rattle.capi.specs.Liveness.{setCount, livenessWhole, livenessBytesRefusal, livenessNumber, LivenessByBytes}
-use Rattle.capi.proofs.Reading.{signed-low}
-use Rattle.capi.proofs.Writing.{length-low, length-bytes, read-written}
-use Rattle.capi.proofs.Answers.{whole-fits}
+use Rattle.encoding.proofs.Reading.{signed-low}
+use Rattle.encoding.proofs.Writing.{length-low, length-bytes, read-written}
+use Rattle.encoding.proofs.Answers.{whole-fits}
 use Rattle.capi.proofs.LivenessLaws.{three-fit}
 
 -- ---- bytes

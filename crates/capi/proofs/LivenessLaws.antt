@@ -42,10 +42,10 @@ use Rattle.liveness.specs.declared.Analysis.{Analysis}
 use Rattle.signals.proofs.Tabulated.{tab-length}
 use Rattle.liveness.proofs.Answers.{scene-of}
 use Rattle.liveness.proofs.Demands.{signals-within}
-use Rattle.capi.specs.Bytes.{numberBytes, numbers, bytesOf}
+use Rattle.encoding.specs.Bytes.{numberBytes, numbers, bytesOf}
 use Rattle.capi.specs.Liveness.{setCount, livenessWhole, livenessPlaces, livenessBytesRefusal, setsOf, LivenessLaid, LivenessByBytes}
 use Rattle.capi.specs.Written.{Written}
-use Rattle.capi.proofs.Laid.{laid-front}
+use Rattle.encoding.proofs.Laid.{laid-front}
 
 -- ---- room
 

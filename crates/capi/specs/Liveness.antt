@@ -22,7 +22,7 @@ use Rattle.regions.specs.Graph.{marked}
 use Rattle.signals.specs.Regions.{regionCount, regionsOf, isCyclic, hasDrive}
 use Rattle.signals.specs.Drive.{drive, potential}
 use Rattle.signals.specs.Verdicts.{sourceRows, inputRows}
-use Rattle.capi.specs.Bytes.{numberBytes, numbers, bytesOf}
+use Rattle.encoding.specs.Bytes.{numberBytes, numbers, bytesOf}
 
 -- 1: the bytes of the three lists are whole records within their limits
 abbrev pub livenessWhole : List ℕ → List ℕ → List ℕ → Checked

@@ -11,7 +11,7 @@ use Rattle.sets.specs.Members.{wordCount}
 use Rattle.lists.specs.Limits.{componentLimit}
 use Rattle.lists.specs.Slices.{laid, cleared}
 use Rattle.liveness.specs.declared.Analysis.{Analysis}
-use Rattle.capi.specs.Bytes.{numberBytes, bytesOf}
+use Rattle.encoding.specs.Bytes.{numberBytes, bytesOf}
 use Rattle.capi.specs.Liveness.{setCount}
 
 -- each slice of rows has no more numbers than its bytes have places, and than a scene can fill

@@ -1,12 +1,10 @@
 // The entries for a host that calls through the C convention. Each list is lent as bytes, eight to a number, lowest first, and the answer
 // is one number.
 mod alive;
-mod bytes;
-mod groups;
 
-ghost use Rattle.capi.specs.Entry.{GroupsByBytes};
+ghost use Rattle.encoding.specs.Entry.{GroupsByBytes};
 ghost use Rattle.capi.specs.Liveness.{LivenessByBytes};
-use bytes::NUMBER;
+use encoding::bytes::NUMBER;
 use lists::COMPONENT;
 use lists::COMPONENTS;
 use lists::CONNECTION;
@@ -36,7 +34,7 @@ pub extern "C" fn dustroute_groups(
     let Checked::Accepted = whole else {
         return pack(whole);
     };
-    groups::of_bytes(components, connections, nets, fragments)
+    encoding::groups::of_bytes(components, connections, nets, fragments)
 }
 
 // The region of each component, the source rows and the verdict rows, and the four sets, at the front of the lent slices.

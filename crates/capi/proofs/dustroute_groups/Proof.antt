@@ -3,8 +3,8 @@ use borrow.Author.Needs.{needs}
 use mathlib.Core.Path.{_≡_, sym, ap, _∙_}
 use Rattle.lists.specs.Refusals.{refuse, _or-else_, packed}
 use Rattle.lists.specs.declared.Checked.{Checked}
-use Rattle.capi.specs.Entry.{groupsWhole}
-use Rattle.capi.proofs.Answers.{whole-fits, part-laid}
+use Rattle.encoding.specs.Entry.{groupsWhole}
+use Rattle.encoding.proofs.Answers.{whole-fits, part-laid}
 use Rattle.capi.proofs.dustroute_groups.Statement.{statement}
 use Rattle.capi.proofs.dustroute_groups.Tie as tie
 

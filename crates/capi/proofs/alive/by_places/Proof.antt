@@ -8,7 +8,7 @@ use lib.Seq.{length-take-le}
 use borrow.Author.Tests.{leb-true}
 use Rattle.sets.specs.Members.{wordCount}
 use Rattle.lists.specs.Limits.{componentLimit}
-use Rattle.capi.specs.Bytes.{numberBytes}
+use Rattle.encoding.specs.Bytes.{numberBytes}
 use Rattle.capi.specs.Liveness.{setCount}
 use Rattle.capi.proofs.LivenessLaws.{by-room, alive-as}
 use Rattle.capi.proofs.alive.by_places.Statement.{statement}

@@ -5,9 +5,9 @@ use mathlib.Core.Path.{_≡_, sym, ap, _∙_}
 use Prim.Native.Nat.{_/_}
 use native.Mathlib.Omega.{arith}
 use lib.ListN.{length, take}
-use Rattle.capi.specs.Bytes.{numberBytes, numbers}
-use Rattle.capi.proofs.Reading.{length-numbers}
-use Rattle.capi.proofs.Answers.{numbers-front}
+use Rattle.encoding.specs.Bytes.{numberBytes, numbers}
+use Rattle.encoding.proofs.Reading.{length-numbers}
+use Rattle.encoding.proofs.Answers.{numbers-front}
 use Rattle.capi.proofs.LivenessLaws.{WholeThree, whole-three, decoded-alive}
 use Rattle.capi.proofs.alive.of_bytes.Statement.{statement}
 use Rattle.capi.proofs.alive.of_bytes.Tie as tie

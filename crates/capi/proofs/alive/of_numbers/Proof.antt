@@ -6,7 +6,7 @@ use lib.ListN.{length}
 use Prim.Native.Nat.{_/_}
 use Rattle.lists.specs.Refusals.{livenessLists, livenessRoom, packed}
 use Rattle.lists.specs.declared.Checked.{Checked}
-use Rattle.capi.specs.Bytes.{numberBytes}
+use Rattle.encoding.specs.Bytes.{numberBytes}
 use Rattle.capi.proofs.LivenessLaws.{short-refused, refused-alive}
 use Rattle.capi.proofs.alive.of_numbers.Statement.{statement}
 use Rattle.capi.proofs.alive.of_numbers.Tie as tie

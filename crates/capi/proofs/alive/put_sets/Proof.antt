@@ -7,8 +7,8 @@ use native.Mathlib.Omega.{arith}
 use lib.ListN.{length, length-append}
 use Rattle.lists.specs.Slices.{laid}
 use Rattle.sets.specs.Members.{wordCount}
-use Rattle.capi.specs.Bytes.{numberBytes, bytesOf}
-use Rattle.capi.proofs.Writing.{bytes-then}
+use Rattle.encoding.specs.Bytes.{numberBytes, bytesOf}
+use Rattle.encoding.proofs.Writing.{bytes-then}
 use Rattle.capi.proofs.alive.put_sets.Statement.{statement}
 use Rattle.capi.proofs.alive.put_sets.Tie as tie
 
