@@ -1,10 +1,12 @@
 // Reads a sheet from standard input, and writes its report or its refusal to standard output.
+mod program;
+
 use blocks::answer::put_refusal;
+use program::BYTES;
+use program::LINES;
+use program::READ;
+use program::report_sheet;
 use report::Printed;
-use report::program::BYTES;
-use report::program::LINES;
-use report::program::READ;
-use report::program::report_sheet;
 
 fn main() {
     let mut text = [0u8; READ];

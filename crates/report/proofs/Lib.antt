@@ -6,6 +6,5 @@ pub mod Fitting
 pub mod ReadLists
 pub mod Scenes
 pub mod Assembled
-pub mod Spoken
 pub mod SheetLaws
 mod Examples

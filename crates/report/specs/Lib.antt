@@ -1,5 +1,4 @@
 -- What the contracts cite. To be read in this order.
 pub mod Report
 pub mod Entry
-pub mod Program
 pub mod Printing

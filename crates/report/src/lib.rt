@@ -2,7 +2,6 @@
 // buffer where it fits. Crate `blocks` has the text, block by block.
 pub mod fill;
 mod print;
-pub mod program;
 pub mod rows;
 
 use lists::COMPONENT;

@@ -8,7 +8,7 @@ use native.Mathlib.Omega.{arith}
 use lib.ListN.{length, take, replicate}
 use lib.Seq.{length-take-le}
 use Rattle.lines.proofs.Writing.{put-length}
-use Rattle.report.proofs.Spoken.{printed-within, refusal-room}
+use Rattle.plotreport.proofs.Spoken.{printed-within, refusal-room}
 use Rattle.plotreport.proofs.main.Statement.{statement}
 use Rattle.plotreport.proofs.main.Tie as tie
 

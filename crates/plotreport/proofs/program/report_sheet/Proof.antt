@@ -1,4 +1,4 @@
--- `report::program::report_sheet` meets its contract: a sheet that is too long is refused, any other is the sheet entry's.
+-- `plotreport::program::report_sheet` meets its contract: a sheet that is too long is refused, any other is the sheet entry's.
 -- Assumes nothing.
 use borrow.Author.Needs.{needs}
 use mathlib.Core.Path.{_≡_, sym, subst}
@@ -7,12 +7,12 @@ use Prim.Native.Nat.{ℕ, _≤_}
 use lib.ListN.{length}
 use Rattle.lists.specs.declared.Checked.{Checked}
 use Rattle.sheet.specs.Entry.{componentsOf, connectionsOf, frontiersOf}
 use Rattle.report.specs.Report.{reportOf}
 use Rattle.report.specs.Entry.{PrintedBy}
-use Rattle.report.specs.Program.{parsedBy}
-use Rattle.report.proofs.Spoken.{long-sheet, short-sheet}
-use Rattle.report.proofs.program.report_sheet.Statement.{statement}
-use Rattle.report.proofs.program.report_sheet.Tie as tie
+use Rattle.plotreport.specs.Program.{parsedBy}
+use Rattle.plotreport.proofs.Spoken.{long-sheet, short-sheet}
+use Rattle.plotreport.proofs.program.report_sheet.Statement.{statement}
+use Rattle.plotreport.proofs.program.report_sheet.Tie as tie
 
 returns : tie.Need-returns
 returns c = let a = c .before .before .before .args in long-sheet (a .text .now) (a .out .now) (c .if1 .taken)

@@ -22,11 +22,11 @@ use Rattle.lines.specs.Decimal.{digitsThen, digits, lineOf}
 use Rattle.lines.proofs.Writing.{line-size}
 use Rattle.sheet.specs.Entry.{componentsOf, connectionsOf, frontiersOf, sheetChecked}
 use Rattle.blocks.specs.Lines.{refusalLines}
 use Rattle.report.specs.Report.{reportOf}
 use Rattle.report.specs.Entry.{fits, listsChecked, reportChecked, answerBy, PrintedBy}
-use Rattle.report.specs.Program.{sheetBytes, parsedBy, tooLong, programChecked, ProgramPrinted}
+use Rattle.plotreport.specs.Program.{sheetBytes, parsedBy, tooLong, programChecked, ProgramPrinted}
 use Rattle.report.specs.declared.Printed.{Printed}
 use Rattle.report.specs.declared.Printed.the-variants.{Written, Refused}
 
 -- ---- the lines of a refusal
 

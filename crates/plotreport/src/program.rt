@@ -1,12 +1,12 @@
 // What the program plotreport answers to the bytes that it read. Its limits stand here.
-use super::Printed;
-use super::report;
 use lists::COMPONENT;
 use lists::CONNECTION;
 use lists::FRONTIER;
 use lists::Refusal;
+use report::Printed;
+use report::report;
 use sheet::Counts;
-ghost use Rattle.report.specs.Program.{ProgramPrinted};
+ghost use Rattle.plotreport.specs.Program.{ProgramPrinted};
 
 // The most bytes of a sheet, and of a report.
 pub const BYTES: usize = 65536;
