@@ -48,7 +48,7 @@ fn enter(
     visited: &mut [bool],
     stack: &mut [usize],
     at: usize,
-    rows: &[usize],
+    rows: &[usize; HINTED],
 )
     requires { ⌜ (node < span) × (node < length (now visited)) × (at + 1 < length (now stack)) ⌝ }
     ensures { λ _. ⌜ Entered (now (keys .entry)) node at (now (visited .entry)) (now (stack .entry)) (now (visited .exit)) (now (stack .exit)) ⌝ }
@@ -104,7 +104,7 @@ fn visit_from(
     order: &mut [usize],
     count: usize,
     stack: &mut [usize],
-    rows: &[usize],
+    rows: &[usize; HINTED],
 ) -> usize
     requires { ⌜ (start < n) × (count + fresh (now visited) ≤ n) × Room n (now keys) (now visited) (now order) (now stack) ⌝ }
     ensures { λ r. ⌜ Searched n (edges n (now (keys .entry))) start (now (visited .entry)) (now (order .entry)) count
@@ -181,7 +181,7 @@ fn label_from(
     count: usize,
     members: &mut [usize],
     stack: &mut [usize],
-    rows: &[usize],
+    rows: &[usize; HINTED],
 ) -> usize
     requires { ⌜ (node < n) × (count < n) × (length (now labels) ≡ n) × Room n (now backward) (now visited) (now members) (now stack) ⌝ }
     ensures { λ r. ⌜ Labelled n (flip (edges n (now (backward .entry)))) node (now (visited .entry)) (now (labels .entry)) count

@@ -69,7 +69,6 @@ finish-order-spec =
     (λ c. search needs)
     (λ c κs. search needs)
     loop-holds
-    (λ c. search needs)
     visit-from-requires
     add-start
     loop-less

@@ -94,7 +94,6 @@ label-all-spec =
     sub-i
     mul-label-from
     shared-slice-read-label-from
-    (λ c. search needs)
     label-from-requires
     loop-less
     loop-again

@@ -11,17 +11,17 @@ slice-read-if1 : tie.Need-slice-read-if1
 slice-read-if1 c = search needs
 
 returns : tie.Need-returns
-returns c = labelled-old _ _ _ _ _ _ _ (c .before .before .before .before .before .before .before .before .pre .3 .stack-zeros) (c .if1 .taken)
+returns c = labelled-old _ _ _ _ _ _ _ (c .before .before .before .before .before .before .before .pre .3 .stack-zeros) (c .if1 .taken)
 
 visit-from-requires : tie.Need-visit-from-requires
 visit-from-requires c κs =
-    let (lt, count-lt, labels-length, room) = c .before .before .before .before .before .before .before .before .before .before .before .pre in
+    let (lt, count-lt, labels-length, room) = c .before .before .before .before .before .before .before .before .before .before .pre in
     let few = fresh-room room in
     (lt, omega arith, room)
 
 paint-requires : tie.Need-paint-requires
 paint-requires c κs =
-    let (lt, count-lt, labels-length, room) = c .before .before .before .before .before .before .before .before .before .before .before .before .before .before .before .before .before .before .before .before .pre in
+    let (lt, count-lt, labels-length, room) = c .before .before .before .before .before .before .before .before .before .before .before .before .before .before .before .before .before .before .before .pre in
     let call = c .before .before .before .before .before .before .before .before .visit-from in
     let few = fresh-room room in
     let le : call .result ≤ length (call .last .1 .1 .1 .1 .0) = omega (arith, call .ensures .adds, call .kept .1 .1 .1 .1 .0) in
@@ -44,7 +44,7 @@ same-length-4 c = search needs
 
 returns-2 : tie.Need-returns-2
 returns-2 c =
-    let (lt, count-lt, labels-length, room) = c .before .before .before .before .before .before .before .before .before .before .before .before .before .before .before .before .before .before .before .before .before .before .before .pre in
+    let (lt, count-lt, labels-length, room) = c .before .before .before .before .before .before .before .before .before .before .before .before .before .before .before .before .before .before .before .before .before .before .pre in
     let call = c .before .before .before .before .before .before .before .before .before .before .before .visit-from in
     rw (c .before .before .paint .ensures) (labelled-new lt (call .ensures) _ _ (c .before .before .before .before .before .before .before .before .before .before .before .before .before .before .before .if1 .left))
 

@@ -82,7 +82,6 @@ reach-from-spec =
     (λ c κs. search needs)
     loop-holds
     shared-slice-read-if1
-    (λ c. search needs)
     visit-from-requires
     add-start
     loop-less

@@ -24,7 +24,7 @@ slice-read-if1 c = omega arith
 
 returns : tie.Need-returns Inv-loop μ-loop
 returns c =
-    let entry = c .before .before .before .before .before .before .before in
+    let entry = c .before .before .before .before .before .before in
     searched-old _ (entry .args .keys .now) _ _ _ _ _ (entry .pre .2 .stack-zeros) (c .if1 .taken)
 
 enter-requires : tie.Need-enter-requires Inv-loop μ-loop
@@ -32,7 +32,7 @@ enter-requires c κs = omega arith
 
 loop-holds : tie.Need-loop-holds Inv-loop μ-loop
 loop-holds c =
-    let (lt, fits, room) = c .before .before .before .before .before .before .before .before .before .before .before .before .before .before .pre in
+    let (lt, fits, room) = c .before .before .before .before .before .before .before .before .before .before .before .before .before .pre in
     begin _ lt fits room (c .before .before .before .before .before .before .before .if1 .left) (c .before .before .before .before .enter .ensures)
 
 sub-at : tie.Need-sub-at Inv-loop μ-loop
@@ -135,7 +135,7 @@ same-length-3 c = c .before .loop .inv .stack-length ∙ c .before .before .befo
 
 returns-2 : tie.Need-returns-2 Inv-loop μ-loop
 returns-2 c =
-    let (lt, fits, room) = c .before .before .before .before .before .before .before .before .before .before .before .before .before .before .before .before .pre in
+    let (lt, fits, room) = c .before .before .before .before .before .before .before .before .before .before .before .before .before .before .before .pre in
     searched _ lt fits room (c .before .before .before .before .before .before .before .before .before .if1 .left) (c .before .before .before .before .before .before .enter .ensures) (c .loop-test .left) (c .before .loop .inv)
 
 pub visit-from-spec : {M : Type 1} → statement M
