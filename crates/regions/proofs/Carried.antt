@@ -64,9 +64,9 @@ carry-settled (key ∷ keys) marks r none =
     carry-settled keys (handOn key marks) r (λ i h. none (suc i) (omega arith))
     ∙ handOn-other key marks r (none zero (omega arith))
 
--- where the keys rise and each leads to a greater number, a key whose first number is marked at the end has its second marked
+-- where the keys' first numbers rise and each key leads to a greater number, a key whose first number is marked at the end has its second marked
 carry-closed : (keys : List ℕ) (marks : ℕ → Bool)
-    → ((i j : ℕ) → i ≤ j → j < length keys → getD keys i 0 ≤ getD keys j 0)
+    → ((i j : ℕ) → i ≤ j → j < length keys → getD keys i 0 / span ≤ getD keys j 0 / span)
     → ((i : ℕ) → i < length keys → getD keys i 0 / span < getD keys i 0 % span)
     → (i : ℕ) → i < length keys → carry keys marks (getD keys i 0 / span) ≡ true → carry keys marks (getD keys i 0 % span) ≡ true
 unfolding carry
@@ -74,7 +74,7 @@ carry-closed [] marks rise up i h e = absurd (not-suc-le-zero h)
 carry-closed (key ∷ keys) marks rise up zero h e =
     let settled : carry keys (handOn key marks) (key / span) ≡ handOn key marks (key / span) =
     carry-settled keys (handOn key marks) (key / span) (λ i l q.
-    let le : key ≤ getD keys i 0 = rise zero (suc i) zero-le (omega arith) in
+    let le : key / span ≤ getD keys i 0 / span = rise zero (suc i) zero-le (omega arith) in
     let lt : getD keys i 0 / span < getD keys i 0 % span = up (suc i) (omega arith) in
     omega arith)
     in

@@ -9,8 +9,9 @@ use mathlib.Core.Logic.{_↔_}
 use Prim.Native.Nat.{ℕ, _/_, _%_, _<_}
 use lib.Dec.{eqb}
 use lib.ListN.{length, getD}
-use Rattle.tables.specs.Order.{Ascending, member}
+use Rattle.tables.specs.Order.{member}
 use Rattle.tables.specs.Pairs.{span, pair}
+use Rattle.tables.specs.Radix.{RisingBy}
 use Rattle.regions.specs.Graph.{Edges, Reach, at}
 use Rattle.regions.specs.Kosaraju.{regionOf}
 
@@ -28,9 +29,9 @@ pub record KeysBelow (m : ℕ) (keys : List ℕ) : Type 0 where
   pub first : (i : ℕ) → i < length keys → getD keys i 0 / span < m
   pub second : (i : ℕ) → i < length keys → getD keys i 0 % span < m
 
--- the rising keys are the pairs of two regions that an edge leads from and to; a pair may be there more than once
+-- the keys are the pairs of two regions that an edge leads from and to, by rising first number; a pair may be there more than once
 pub record Crossings (edge : Edges) (labels keys : List ℕ) : Type 0 where
-  pub rising : Ascending keys
+  pub rising : RisingBy (λ key. key / span) keys
   pub all : (a b : ℕ) → edge a b ≡ true → (at labels a ≡ at labels b → ⊥) → member (pair (at labels a) (at labels b)) keys ≡ true
   pub from : (i : ℕ) → i < length keys → (a b : ℕ) × (edge a b ≡ true) × (at labels a ≡ at labels b → ⊥) × (getD keys i 0 ≡ pair (at labels a) (at labels b))
 

@@ -1,7 +1,7 @@
 -- The pairs of regions that signal connections lead from and to.
 --     crossing-differs, differs-crossing     a key of two numbers that differ
 --     crossed-none, crossed-more             `CrossingKeys`: one connection more
---     sorted-below, sorted-crossings         the keys of all connections, sorted
+--     laid-below, laid-crossings             the keys of all connections, by rising first number
 -- Assumes nothing.
 use mathlib.Core.Path.{_≡_, refl, sym, ap, _∙_}
 use mathlib.Core.Bool.{Bool, true, false, not, _&&_, _||_, or-false, or-assoc}
@@ -14,9 +14,10 @@ use lib.ListN.{length, getD, set, take}
 use lib.Seq.{take-suc-set, take-set-le}
 use lib.IntN.{ℤ}
 use borrow.Author.Tests.{eqb-true, eq-eqb, ne-eqb}
-use Rattle.tables.specs.Order.{one, member, Sorted}
+use Rattle.tables.specs.Order.{one, member, Rearranged}
 use Rattle.tables.specs.Laws.{at-member, member-rearranged}
 use Rattle.tables.specs.Pairs.{span, pair}
+use Rattle.tables.specs.Radix.{RisingBy}
 use Rattle.lists.specs.Limits.{componentLimit}
 use Rattle.lists.specs.Records.{portCount}
 use Rattle.lists.specs.First.{firstFrom, some}
@@ -81,8 +82,8 @@ module _ (key : ℕ → ℕ) where
 -- ---- all connections
 
 module _ {ps : List ℤ} {sources sinks labels : List ℕ} (s : SignalEnds (length labels) ps sources) (t : SignalEnds (length labels) ps sinks)
-    (small : Indices (length labels) componentLimit labels) {keys sorted : List ℕ}
-    (listed : CrossingKeys (regionKey ps sources sinks labels) (portCount ps) keys) (order : Sorted keys sorted) where
+    (small : Indices (length labels) componentLimit labels) {keys laid : List ℕ}
+    (listed : CrossingKeys (regionKey ps sources sinks labels) (portCount ps) keys) (same : Rearranged keys laid) where
   from : ℕ → ℕ
   from k = getD labels (getD sources k 0) 0
 
@@ -118,38 +119,38 @@ module _ {ps : List ℤ} {sources sinks labels : List ℕ} (s : SignalEnds (leng
         signal = e;
         from-small = low;
         to-small = high;
-        differs = λ same. differ (omega arith);
+        differs = λ q. differ (omega arith);
         is = q ∙ is;
       }
   crosses v k h false e c q =
       let is : regionKey ps sources sinks labels k ≡ 0 = rw e in
       absurd (crossing-differs 0 (sym (ap isCrossing is) ∙ c) refl)
 
-  key-from : (v : ℕ) → member v sorted ≡ true → (k : ℕ) × Crosses v k
+  key-from : (v : ℕ) → member v laid ≡ true → (k : ℕ) × Crosses v k
   key-from v m =
       let key = regionKey ps sources sinks labels in
-      let (k, h, e) = some-found (λ j. isCrossing (key j) && eqb v (key j)) (portCount ps) (sym (listed .has v) ∙ sym (member-rearranged (order .rearranged) v) ∙ m) in
+      let (k, h, e) = some-found (λ j. isCrossing (key j) && eqb v (key j)) (portCount ps) (sym (listed .has v) ∙ sym (member-rearranged same v) ∙ m) in
       let (c, q) = both (isCrossing (key k)) (eqb v (key k)) e in
       (k, crosses v k h (isSignal ps k) refl c (eqb-true v (key k) q))
 
-  key-at : (i : ℕ) → i < length sorted → (k : ℕ) × Crosses (getD sorted i 0) k
-  key-at i h = key-from (getD sorted i 0) (at-member (getD sorted i 0) sorted i h refl)
+  key-at : (i : ℕ) → i < length laid → (k : ℕ) × Crosses (getD laid i 0) k
+  key-at i h = key-from (getD laid i 0) (at-member (getD laid i 0) laid i h refl)
 
-  key-into : (k : ℕ) → k < portCount ps → isSignal ps k ≡ true → (from k ≡ to k → ⊥) → member (pair (from k) (to k)) sorted ≡ true
+  key-into : (k : ℕ) → k < portCount ps → isSignal ps k ≡ true → (from k ≡ to k → ⊥) → member (pair (from k) (to k)) laid ≡ true
   unfolding from to
   key-into k h e n =
       let v = pair (from k) (to k) in
       let low = from-below k h e in
       let high = to-below k h e in
       let is : regionKey ps sources sinks labels k ≡ v = rw e in
-      member-rearranged (order .rearranged) v ∙ listed .has v
+      member-rearranged same v ∙ listed .has v
       ∙ some-at (λ j. isCrossing (regionKey ps sources sinks labels j) && eqb v (regionKey ps sources sinks labels j)) (portCount ps) k h
       (and-true (isCrossing (regionKey ps sources sinks labels k)) (eqb v (regionKey ps sources sinks labels k))
       (ap isCrossing is ∙ differs-crossing v (λ q. n (omega arith)))
       (eq-eqb v (regionKey ps sources sinks labels k) (sym is)))
 
-  pub sorted-below : KeysBelow componentLimit sorted
-  sorted-below = record {
+  pub laid-below : KeysBelow componentLimit laid
+  laid-below = record {
     first = λ i h. let (k, c) = key-at i h in let l = c .from-small in let m = c .to-small in let e = c .is in omega arith;
     second = λ i h. let (k, c) = key-at i h in let l = c .from-small in let m = c .to-small in let e = c .is in omega arith;
   }
@@ -161,18 +162,18 @@ module _ {ps : List ℤ} {sources sinks labels : List ℕ} (s : SignalEnds (leng
     sink-at : (k : ℕ) → k < portCount ps → getD sinks k 0 ≡ sinkMember cs ps k
     sink-at k h = sink-is .at k h
 
-    all : (a b : ℕ) → signals cs ps a b ≡ true → (getD labels a 0 ≡ getD labels b 0 → ⊥) → member (pair (getD labels a 0) (getD labels b 0)) sorted ≡ true
+    all : (a b : ℕ) → signals cs ps a b ≡ true → (getD labels a 0 ≡ getD labels b 0 → ⊥) → member (pair (getD labels a 0) (getD labels b 0)) laid ≡ true
     unfolding from to
     all a b e n =
         let (k, h, signal, p, q) = signal-at cs ps a b e in
         let first : from k ≡ getD labels a 0 = ap (λ (m : ℕ). getD labels m 0) (source-at k h ∙ p) in
         let second : to k ≡ getD labels b 0 = ap (λ (m : ℕ). getD labels m 0) (sink-at k h ∙ q) in
-        ap (λ v. member v sorted) (omega arith) ∙ key-into k h signal (λ same. n (sym first ∙ same ∙ second))
+        ap (λ v. member v laid) (omega arith) ∙ key-into k h signal (λ p. n (sym first ∙ p ∙ second))
 
-    pub sorted-crossings : Crossings (signals cs ps) labels sorted
+    pub laid-crossings : RisingBy (λ key. key / span) laid → Crossings (signals cs ps) labels laid
     unfolding from to
-    sorted-crossings = record {
-      rising = order .ascending;
+    laid-crossings rising = record {
+      rising = rising;
       all = all;
       from = λ i h.
           let (k, c) = key-at i h in (

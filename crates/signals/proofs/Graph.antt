@@ -60,7 +60,7 @@ slot-same x y a b h l = parts-same ports x y a b (λ e. (omega arith, omega arit
 key-same : (t : Bool) (x y nowhere a b : ℕ) → (t ≡ true → y < span) → a < nowhere → b < span
     → eqb (signalKey t x y nowhere) (pair a b) ≡ (t && (eqb x a && eqb y b))
 key-same true x y nowhere a b h n l = pair-same x y a b (h refl) l
-key-same false x y nowhere a b h n l = ne-eqb (pair nowhere 0) (pair a b) (λ e. omega arith)
+key-same false x y nowhere a b h n l = ne-eqb (pair nowhere componentLimit) (pair a b) (λ e. omega arith)
 
 pub and-turn : (t a b : Bool) → (t && (a && b)) ≡ (t && (b && a))
 and-turn false a b = refl

@@ -1,5 +1,6 @@
 -- Laws of the definitions, for the proofs of this crate and of those above it.
 --     Tabulated, Ends, Graph            the tables of keys are the graph of `signals`
+--     Turned                            the pairs of a table turned round are the table backward
 --     Positions                         where components that ascend part
 --     Marks, Frontiers, Stores, Lent    flags and numbers, stored place by place
 --     Neighbours                        the neighbours seen
@@ -13,6 +14,7 @@
 pub mod Tabulated
 pub mod Ends
 pub mod Graph
+pub mod Turned
 pub mod Marks
 pub mod Positions
 pub mod Frontiers

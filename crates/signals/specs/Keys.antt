@@ -1,6 +1,6 @@
 -- The tables of keys by which the program walks the signal edges: what each holds, and that it is the graph of `signals`.
 -- Assumes nothing: these are definitions.
-use Prim.Native.Nat.{ℕ, _+_, _*_, _^_, _≤_, _<_}
+use Prim.Native.Nat.{ℕ, _+_, _*_, _/_, _%_, _^_, _≤_, _<_}
 use mathlib.Core.Path.{_≡_}
 use mathlib.Core.Bool.{Bool, cond}
 use mathlib.Core.List.{List}
@@ -8,7 +8,7 @@ use lib.ListN.{length, getD}
 use lib.IntN.{ℤ}
 use Rattle.tables.specs.Order.{Sorted}
 use Rattle.tables.specs.Pairs.{pair, span}
-use Rattle.lists.specs.Limits.{portWidth}
+use Rattle.lists.specs.Limits.{componentLimit, portWidth}
 use Rattle.lists.specs.Records.{naturalAt, portConnection, portCount}
 use Rattle.lists.specs.First.{tabulate}
 use Rattle.lists.specs.Ids.{smallerIds}
@@ -31,7 +31,11 @@ pub record Slots (ps : List ℤ) (sinks slots : List ℕ) : Type 0 where
 
 -- the pair of two numbers, or one that no node has
 abbrev pub signalKey : Bool → ℕ → ℕ → ℕ → ℕ
-signalKey signal first second nowhere = cond signal (pair first second) (pair nowhere 0)
+signalKey signal first second nowhere = cond signal (pair first second) (pair nowhere componentLimit)
+
+-- a pair turned round
+abbrev pub turned : ℕ → ℕ
+turned key = pair (key % span) (key / span)
 
 -- each first number has 32 bits, and each second is below the span
 pub record Sortable (m : ℕ) (firsts seconds : List ℕ) (nowhere : ℕ) : Type 0 where

@@ -6,15 +6,15 @@ use lists::ids::SUPPORT;
 use lists::numbers::natural_at;
 use tables::SPAN;
 ghost use mathlib.Core.Path.{_≡_};
-ghost use mathlib.Core.Bool.{true};
+ghost use mathlib.Core.Bool.{true, cond};
 ghost use Prim.Native.Nat.{_≤_, _<_};
 ghost use lib.ListN.{length, getD, take};
 ghost use Rattle.tables.specs.Order.{one};
+ghost use Rattle.tables.specs.Pairs.{pair};
 ghost use Rattle.lists.specs.Limits.{componentLimit};
 ghost use Rattle.lists.specs.Records.{portCount};
 ghost use Rattle.lists.specs.Within.{PortConnections};
 ghost use Rattle.signals.specs.Signals.{isSignal};
-ghost use Rattle.signals.specs.Keys.{signalKey};
 ghost use Rattle.regions.specs.Graph.{marked};
 ghost use Rattle.regions.specs.Carry.{carry, KeysBelow};
 ghost use Rattle.signals.specs.Flags.{Flags, Indices};
@@ -26,7 +26,7 @@ fn region_key(ports: &[i64], k: usize, source: usize, sink: usize, labels: &[usi
     requires { ⌜ PortConnections (now ports) × (k < portCount (now ports)) ⌝ }
     requires { ⌜ Indices (length (now labels)) componentLimit (now labels) ⌝ }
     requires { ⌜ (isSignal (now ports) k ≡ true → (source < length (now labels)) × (sink < length (now labels))) ⌝ }
-    ensures { λ r. ⌜ r ≡ signalKey (isSignal (now (ports .entry)) k) (getD (now (labels .entry)) source 0) (getD (now (labels .entry)) sink 0) 0 ⌝ }
+    ensures { λ r. ⌜ r ≡ cond (isSignal (now (ports .entry)) k) (pair (getD (now (labels .entry)) source 0) (getD (now (labels .entry)) sink 0)) 0 ⌝ }
 {
     if natural_at(ports, k * PORT + 4) == SUPPORT {
         return 0;
@@ -67,8 +67,8 @@ fn list_crossings(
     at
 }
 
-// The pairs of the regions that each signal connection leads from and to, where they differ, sorted at the front of `keys`; answers how
-// many there are.
+// The pairs of the regions that each signal connection leads from and to, where they differ, by rising first number at the front of `keys`;
+// answers how many there are.
 pub fn find_crossings(
     ports: &[i64],
     sources: &[usize],
@@ -81,9 +81,9 @@ pub fn find_crossings(
     requires { ⌜ Indices (length (now labels)) componentLimit (now labels) ⌝ }
     ensures { λ r. ⌜ FoundCrossings (now (ports .entry)) (now (sources .entry)) (now (sinks .entry)) (now (labels .entry)) r (now (keys .exit)) ⌝ }
 {
-    let count = list_crossings(ports, sources, sinks, labels, keys);
-    let mut spare = [0u64; CONNECTIONS];
-    tables::sort(&mut keys[..count], &mut spare);
+    let mut listed = [0u64; CONNECTIONS];
+    let count = list_crossings(ports, sources, sinks, labels, &mut listed);
+    tables::lay_by_first(&listed[..count], keys);
     count
 }
 

@@ -1,4 +1,5 @@
 // The signal edges of a scene as sorted tables of keys: forward, backward, and by the port that they feed.
+use lists::COMPONENTS;
 use lists::PORT;
 use lists::hints::HINTS;
 use lists::hints::member_near;
@@ -6,20 +7,20 @@ use lists::ids::SUPPORT;
 use lists::numbers::natural_at;
 use tables::SPAN;
 ghost use mathlib.Core.Path.{_≡_};
-ghost use mathlib.Core.List.{List};
+ghost use mathlib.Core.List.{List, map};
 ghost use mathlib.Core.Bool.{cond};
-ghost use Prim.Native.Nat.{ℕ, _+_, _*_, _^_, _≤_, _<_};
+ghost use Prim.Native.Nat.{ℕ, _+_, _*_, _/_, _^_, _≤_, _<_};
 ghost use mathlib.Core.Logic.{_⊎_};
 ghost use lib.ListN.{length, getD, take};
 ghost use lib.IntN.{ℤ};
 ghost use Rattle.tables.specs.Pairs.{pair, span};
-ghost use Rattle.tables.specs.Order.{Sorted};
+ghost use Rattle.tables.specs.Order.{All, Ascending, Sorted};
 ghost use Rattle.lists.specs.Records.{naturalAt, portCount};
 ghost use Rattle.lists.specs.Limits.{componentLimit};
 ghost use Rattle.lists.specs.Ids.{IdTable, smallerIds};
 ghost use Rattle.lists.specs.Within.{PortConnections};
 ghost use Rattle.signals.specs.Signals.{isSignal};
-ghost use Rattle.signals.specs.Keys.{Settled, Slots, signalKey, KeysOf, Sortable};
+ghost use Rattle.signals.specs.Keys.{Settled, Slots, signalKey, turned, KeysOf, Sortable};
 
 // The member of field f of each port connection, 0 the sources and 2 the sinks.
 pub fn settle(keys: &[u64], ports: &[i64], f: usize, members: &mut [usize], hints: &[u16; HINTS])
@@ -53,14 +54,15 @@ pub fn settle_slots(ports: &[i64], sinks: &[usize], slots: &mut [usize])
     }
 }
 
-// The key of port connection k: the pair of two numbers, or of `nowhere` and 0 where it is a support.
+// The key of port connection k: the pair of two numbers, or of `nowhere` and COMPONENTS where it is a support: turned round where `nowhere` is
+// COMPONENTS too, that is itself.
 fn signal_key(ports: &[i64], k: usize, first: usize, second: usize, nowhere: usize) -> u64
     requires { ⌜ PortConnections (now ports) × (k < portCount (now ports)) ⌝ }
     requires { ⌜ (first < 2 ^ 32) × ((second < span) × (nowhere < 2 ^ 32)) ⌝ }
     ensures { λ r. ⌜ r ≡ signalKey (isSignal (now (ports .entry)) k) first second nowhere ⌝ }
 {
     if natural_at(ports, k * PORT + 4) == SUPPORT {
-        return nowhere as u64 * SPAN;
+        return nowhere as u64 * SPAN + COMPONENTS as u64;
     }
     first as u64 * SPAN + second as u64
 }
@@ -85,4 +87,28 @@ pub fn signal_keys(
         k += 1;
     }
     tables::sort(keys, spare);
+}
+
+// Writes each pair turned round.
+fn turn(keys: &[u64], out: &mut [u64])
+    requires { ⌜ length (now keys) ≤ length (now out) ⌝ }
+    ensures { λ _. ⌜ take (length (now (keys .entry))) (now (out .exit)) ≡ map turned (now (keys .entry)) ⌝ }
+{
+    let mut i: usize = 0;
+    while i < keys.len() {
+        let key = keys[i];
+        out[i] = key % SPAN * SPAN + key / SPAN;
+        i += 1;
+    }
+}
+
+// The pairs of a sorted table turned round, sorted by one pass: their second numbers rise. The spare is for them before it.
+pub fn turned_keys(keys: &[u64], out: &mut [u64], spare: &mut [u64])
+    requires { ⌜ (length (now out) ≡ length (now keys)) × (length (now keys) ≤ length (now spare)) ⌝ }
+    requires { ⌜ Ascending (now keys) × All (λ x. x / span < span) (now keys) ⌝ }
+    ensures { λ _. ⌜ Sorted (map turned (now (keys .entry))) (now (out .exit)) ⌝ }
+{
+    let n = keys.len();
+    turn(keys, spare);
+    tables::lay_by_first(&spare[..n], out);
 }

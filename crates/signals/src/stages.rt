@@ -3,6 +3,7 @@ use super::edges::PORTS;
 use super::edges::settle;
 use super::edges::settle_slots;
 use super::edges::signal_keys;
+use super::edges::turned_keys;
 use super::flags::count_into;
 use super::inferred::is_self;
 use super::inferred::sink_region;
@@ -34,7 +35,7 @@ ghost use Rattle.signals.specs.Seen.{SignalEnds};
 ghost use Rattle.signals.specs.Keys.{Settled};
 ghost use Rattle.signals.specs.Stages.{Tables, FedTable, selfAt, cyclicAt};
 
-// Settles the ends of the port connections and sorts the signal edges into two tables, forward and backward.
+// Settles the ends of the port connections and sorts the signal edges into a table, forward; backward are the same edges turned round.
 pub fn build_tables(
     keys: &[u64],
     ports: &[i64],
@@ -54,7 +55,7 @@ pub fn build_tables(
     settle(keys, ports, 2, sinks, &hints);
     let mut spare = [0u64; CONNECTIONS];
     signal_keys(ports, sources, sinks, COMPONENTS, forward, &mut spare);
-    signal_keys(ports, sinks, sources, COMPONENTS, backward, &mut spare);
+    turned_keys(forward, backward, &mut spare);
 }
 
 // Sorts the signal edges by the port that they feed, given their settled ends.

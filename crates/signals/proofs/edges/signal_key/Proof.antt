@@ -35,6 +35,7 @@ signal-key-spec =
     (λ c. omega (arith, within c))
     natural-at-requires
     (λ c. omega (arith, c .before .before .pre .1))
+    (λ c. omega (arith, c .before .before .pre .1))
     returns
     (λ c. omega (arith, c .before .before .pre .1))
     (λ c. omega (arith, c .before .before .pre .1))

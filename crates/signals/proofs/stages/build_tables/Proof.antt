@@ -1,17 +1,19 @@
--- `signals::stages::build_tables` meets its contract: the settled ends can be sorted as pairs.
+-- `signals::stages::build_tables` meets its contract: the settled ends can be sorted as pairs, and turned round.
 -- Assumes nothing.
 use borrow.Author.Needs.{needs}
 use mathlib.Core.Path.{_≡_, refl, sym}
 use mathlib.Core.List.{List}
 use mathlib.Core.Logic.{inl, inr}
-use Prim.Native.Nat.{ℕ, _≤_}
+use Prim.Native.Nat.{ℕ, _≤_, _<_}
 use native.Mathlib.Omega.{arith}
-use lib.ListN.{length}
+use lib.ListN.{length, getD}
+use Rattle.tables.specs.Pairs.{span}
 use Rattle.lists.specs.Limits.{componentLimit, connectionLimit}
 use Rattle.lists.specs.Records.{componentCount, portCount}
 use Rattle.lists.proofs.Table.{table-long}
 use Rattle.signals.specs.Keys.{Settled}
-use Rattle.signals.proofs.Graph.{sortable-members}
+use Rattle.signals.proofs.Graph.{settled-small, sortable-members}
+use Rattle.signals.proofs.Turned.{keys-low, turned-keys-of}
 use Rattle.signals.proofs.stages.build_tables.Statement.{statement}
 use Rattle.signals.proofs.stages.build_tables.Tie as tie
 
@@ -64,30 +66,45 @@ signal-keys-requires c κs =
 spare-long : (c : tie.After-signal-keys) → length (c .signal-keys .last .1 .1 .1 .1 .1 .0) ≡ connectionLimit
 spare-long c = c .signal-keys .kept .1 .1 .1 .1 .1 .0
 
-share : tie.Need-slice-aggregate-signal-keys-2
-share c = sym (spare-long (c .before .before .before .before .before .before .before))
+abbrev forward : tie.After-signal-keys → List ℕ
+forward c = c .signal-keys .last .1 .1 .1 .1 .0
 
-signal-keys-requires-2 : tie.Need-signal-keys-requires-2
-signal-keys-requires-2 c κs =
-    let first = c .before .before .before .before .before .before .before in
-    let e = first .before .before .before .before .before .before .before in (
-      start e .pre .0 .0,
-      (
-        sortable-members (few e) (sink-members e) (source-members e) (sinks-long e) (sources-long e),
-        (start e .pre .1 .1 .1, omega (arith, start e .pre .0 .0 .few, spare-long first)),
-      ),
+abbrev both : tie.After-signal-keys → tie.After-settle2
+both c = c .before .before .before .before .before .before .before
+
+-- both ends of each connection are below the span
+sources-low : (c : tie.After-settle2) (k : ℕ) → k < count c → getD (sources c) k 0 < span
+sources-low c k h = omega (arith, settled-small (few c) (source-members c) k h)
+
+sinks-low : (c : tie.After-settle2) (k : ℕ) → k < count c → getD (sinks c) k 0 < span
+sinks-low c k h = omega (arith, settled-small (few c) (sink-members c) k h)
+
+turned-keys-requires : tie.Need-turned-keys-requires
+turned-keys-requires c κs =
+    let f = c .before .before .before .before .before .before in
+    let e = both f in
+    let long = f .signal-keys .kept .1 .1 .1 .1 .0 in
+    let keys = f .signal-keys .ensures in (
+      (omega (arith, long, start e .pre .1 .1), omega (arith, long, start e .pre .1 .1 .0, start e .pre .0 .0 .few, spare-long f)),
+      (keys .sorted .ascending, keys-low keys (sources-low e) (sinks-low e)),
     )
 
-abbrev ended : tie.After-spare4 → tie.After-settle2
-ended c = c .before .before .before .before .before .before .before .before .before .before .before .before .before .before .before .before .before .before
+abbrev turned-round : tie.After-spare4 → tie.After-turned-keys
+turned-round c = c .before .before .before
+
+abbrev sorted : tie.After-spare4 → tie.After-signal-keys
+sorted c = turned-round c .before .before .before .before .before .before .before
 
 returns : tie.Need-returns
-returns c cs t = record {
-  source-members = settled (ended c) .settle .ensures cs t;
-  sink-members = ended c .settle2 .ensures cs t;
-  forward-keys = c .before .before .before .before .before .before .before .before .before .before .before .signal-keys .ensures;
-  backward-keys = c .before .before .before .signal-keys2 .ensures;
-}
+returns c cs t =
+    let f = sorted c in
+    let e = both f in
+    record {
+      source-members = settled e .settle .ensures cs t;
+      sink-members = e .settle2 .ensures cs t;
+      forward-keys = f .signal-keys .ensures;
+      backward-keys = turned-keys-of (f .signal-keys .ensures) (sources-low e) (sinks-low e) (turned-round c .turned-keys .ensures);
+    }
 
 pub build-tables-spec : {M : Type 1} → statement M
 build-tables-spec =
@@ -98,10 +115,10 @@ build-tables-spec =
     settle-requires-2
     (λ c. search needs)
     signal-keys-requires
-    share
-    signal-keys-requires-2
-    (λ c. settled (ended c) .settle .kept .1 .1 .1 .0)
-    (λ c. ended c .settle2 .kept .1 .1 .1 .0)
+    (λ c. sym (spare-long (c .before .before .before .before .before .before)))
+    turned-keys-requires
+    (λ c. settled (both (sorted c)) .settle .kept .1 .1 .1 .0)
+    (λ c. both (sorted c) .settle2 .kept .1 .1 .1 .0)
     (λ c. search needs)
     (λ c. search needs)
     returns)
