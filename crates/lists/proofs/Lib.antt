@@ -9,3 +9,4 @@ pub mod Small
 pub mod Ordering
 pub mod Table
 pub mod Members
+pub mod EndLaws

@@ -1,4 +1,5 @@
--- What the functions that check the lists answer, in the parts in which they do it, and what they leave for the work: the table of ids.
+-- What the functions that check the lists answer, in the parts in which they do it, and what they leave for the work: the table of ids, and
+-- the ends of port connections.
 -- Assumes nothing: these are definitions.
 use Prim.Native.Nat.{ℕ}
 use mathlib.Core.Path.{_≡_}
@@ -11,6 +12,7 @@ use Rattle.lists.specs.Records.{componentCount}
 use Rattle.lists.specs.Ranges.{firstOutOfRange, componentLow, componentHigh, frontierLow, frontierHigh}
 use Rattle.lists.specs.Order.{firstNotAscending, componentOrder}
 use Rattle.lists.specs.Ids.{firstRepeated, IdTable}
+use Rattle.lists.specs.Ends.{SettledEnds}
 use Rattle.lists.specs.Refusals.{refuse, _or-else_, notWhole, tooShort}
 use Rattle.lists.specs.declared.Found.{Found}
 use Rattle.lists.specs.declared.Checked.{Checked}
@@ -51,3 +53,8 @@ pub record Ordered (cs : List ℤ) (keys : List ℕ) (r : Checked) : Type 0 wher
 pub record CheckedBy (checks : Checked) (cs : List ℤ) (keys : List ℕ) (r : Checked) : Type 0 where
   pub answer : r ≡ checks
   pub table : r ≡ Accepted → IdTable cs (take (componentCount cs) keys)
+
+-- and so are the ends of the port connections settled
+pub record LivenessChecked (checks : Checked) (cs ps : List ℤ) (keys sources sinks : List ℕ) (r : Checked) : Type 0 where
+  pub lists : CheckedBy checks cs keys r
+  pub ends : r ≡ Accepted → SettledEnds cs ps sources sinks

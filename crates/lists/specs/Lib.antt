@@ -7,6 +7,7 @@ pub mod Ranges
 pub mod Within
 pub mod Order
 pub mod Ids
+pub mod Ends
 pub mod Refusals
 pub mod Checks
 pub mod Slices

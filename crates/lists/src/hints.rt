@@ -8,7 +8,7 @@ ghost use lib.IntN.{ℤ};
 ghost use lib.ListN.{length};
 ghost use Rattle.tables.specs.Order.{LowerBound};
 ghost use Rattle.tables.specs.Pairs.{span};
-ghost use Rattle.lists.specs.Ids.{placeOf, hasComponent, IdTable, smallerIds};
+ghost use Rattle.lists.specs.Ids.{placeOf, IdTable, smallerIds};
 use super::Found;
 
 const SLOTS: usize = 1 << 12;
@@ -69,18 +69,6 @@ pub fn place_near(keys: &[u64], hints: &[u16; HINTS], id: u64) -> Found
         }
     }
     Found::Nothing
-}
-
-// What `has_component` gives, by the hints.
-pub fn has_near(keys: &[u64], hints: &[u16; HINTS], id: u64) -> bool
-    requires { ⌜ id < 4294967296 ⌝ }
-    ensures { λ r. ⌜ ((cs : List ℤ) → IdTable cs (now (keys .entry)) → r ≡ hasComponent cs id) ⌝ }
-{
-    let place = place_near(keys, hints, id);
-    match place {
-        Found::At(_) => true,
-        Found::Nothing => false,
-    }
 }
 
 // What `member_of` gives, by the hints.

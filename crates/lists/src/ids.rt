@@ -1,10 +1,6 @@
 // Where an id stands in the list of components: a table of (id, list place), sorted once.
 use super::COMPONENT;
 use super::Found;
-use super::PORT;
-use super::hints::HINTS;
-use super::hints::has_near;
-use super::hints::hint_ids;
 use super::numbers::natural_at;
 use tables::SPAN;
 ghost use mathlib.Core.Path.{_≡_};
@@ -14,9 +10,9 @@ ghost use lib.ListN.{length, take};
 ghost use lib.IntN.{ℤ};
 ghost use mathlib.Core.List.{List};
 ghost use Rattle.tables.specs.Pairs.{pair};
-ghost use Rattle.lists.specs.Records.{component, componentCount, portCount};
-ghost use Rattle.lists.specs.Ids.{placeOf, hasComponent, usedEarlier, firstRepeated, endMissing, firstEndMissing, IdTable, Unrepeated, smallerIds, MemberPlace, MemberId};
-ghost use Rattle.lists.specs.Within.{Components, PortConnections};
+ghost use Rattle.lists.specs.Records.{component, componentCount};
+ghost use Rattle.lists.specs.Ids.{placeOf, hasComponent, usedEarlier, firstRepeated, IdTable, Unrepeated, smallerIds, MemberPlace, MemberId};
+ghost use Rattle.lists.specs.Within.{Components};
 
 // The pair of the id of component k and its place.
 fn id_key(components: &[i64], k: usize) -> u64
@@ -119,37 +115,6 @@ pub fn first_repeated(keys: &[u64], components: &[i64]) -> Found
 
 // Transfer 6, StructuralSupport, makes no signal edge.
 pub const SUPPORT: u64 = 6;
-
-// Whether port connection k is no support and has an end that is no component.
-fn end_missing(keys: &[u64], hints: &[u16; HINTS], ports: &[i64], k: usize) -> bool
-    requires { ⌜ PortConnections (now ports) ⌝ }
-    requires { ⌜ k < portCount (now ports) ⌝ }
-    ensures { λ r. ⌜ ((cs : List ℤ) → IdTable cs (now (keys .entry)) → r ≡ endMissing cs (now (ports .entry)) k) ⌝ }
-{
-    let at = k * PORT;
-    let transfer = natural_at(ports, at + 4);
-    let source = has_near(keys, hints, natural_at(ports, at));
-    let sink = has_near(keys, hints, natural_at(ports, at + 2));
-    !(transfer == SUPPORT) & !(source & sink)
-}
-
-// The first port connection with a missing end.
-pub fn first_end_missing(keys: &[u64], ports: &[i64]) -> Found
-    requires { ⌜ PortConnections (now ports) ⌝ }
-    ensures { λ r. ⌜ ((cs : List ℤ) → IdTable cs (now (keys .entry)) → r ≡ firstEndMissing cs (now (ports .entry))) ⌝ }
-{
-    let mut hints = [0u16; HINTS];
-    hint_ids(keys, &mut hints);
-    let count = ports.len() / PORT;
-    let mut k: usize = 0;
-    while k < count {
-        if end_missing(keys, &hints, ports, k) {
-            return Found::At(k);
-        }
-        k += 1;
-    }
-    Found::Nothing
-}
 
 // The member that stands for the component with the id: how many ids are below it.
 pub fn member_of(keys: &[u64], id: u64) -> usize

@@ -1,4 +1,5 @@
 // The lists of a scene: what they may hold, where an id stands, and the refusal of each entry.
+pub mod ends;
 pub mod hints;
 pub mod ids;
 pub mod numbers;

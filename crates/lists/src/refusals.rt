@@ -9,7 +9,8 @@ use super::FRONTIERS;
 use super::Found;
 use super::PORT;
 use super::Refusal;
-use super::ids::first_end_missing;
+use super::ends::first_end_missing;
+use super::ends::settle_ends;
 use super::ids::first_repeated;
 use super::ids::id_table;
 use super::order::first_component_not_ascending;
@@ -23,7 +24,7 @@ ghost use Prim.Native.Nat.{_≤_, _<_};
 ghost use lib.ListN.{length, take};
 ghost use Rattle.lists.specs.Limits.{componentLimit, connectionLimit, frontierLimit, componentWidth, frontierWidth};
 ghost use Rattle.lists.specs.Refusals.{refuse, _or-else_, notWhole, roomFor, tooShort, groupingLists, livenessLists, Small, packed};
-ghost use Rattle.lists.specs.Checks.{lengthsOf, rangesOf, sceneOf, Ordered, CheckedBy};
+ghost use Rattle.lists.specs.Checks.{lengthsOf, rangesOf, sceneOf, Ordered, CheckedBy, LivenessChecked};
 ghost use Rattle.lists.specs.Records.{componentCount};
 ghost use Rattle.lists.specs.Within.{Components};
 
@@ -172,16 +173,19 @@ pub fn grouping_lists(
     )
 }
 
-// The checks of the liveness entry and of the input query. Where they accept, `keys` begins with the table of ids.
+// The checks of the liveness entry and of the input query. Where they accept, `keys` begins with the table of ids, and the ends of the port
+// connections are settled.
 pub fn liveness_lists(
     components: &[i64],
     ports: &[i64],
     frontiers: &[i64],
     enough: bool,
     keys: &mut [u64],
+    sources: &mut [usize],
+    sinks: &mut [usize],
 ) -> Checked
-    requires { ⌜ componentLimit ≤ length (now keys) ⌝ }
-    ensures { λ r. ⌜ CheckedBy (livenessLists (now (components .entry)) (now (ports .entry)) (now (frontiers .entry)) enough) (now (components .entry)) (now (keys .exit)) r ⌝ }
+    requires { ⌜ (componentLimit ≤ length (now keys)) × ((connectionLimit ≤ length (now sources)) × (connectionLimit ≤ length (now sinks))) ⌝ }
+    ensures { λ r. ⌜ LivenessChecked (livenessLists (now (components .entry)) (now (ports .entry)) (now (frontiers .entry)) enough) (now (components .entry)) (now (ports .entry)) (now (keys .exit)) (now (sources .exit)) (now (sinks .exit)) r ⌝ }
 {
     let found = first_port_connection_out_of_range(ports);
     let scene = refuse_scene(
@@ -197,7 +201,12 @@ pub fn liveness_lists(
         return scene;
     };
     let count = components.len() / COMPONENT;
-    refuse_at(7, 1, first_end_missing(&keys[..count], ports))
+    settle_ends(&keys[..count], ports, sources, sinks);
+    refuse_at(
+        7,
+        1,
+        first_end_missing(&keys[..count], ports, sources, sinks),
+    )
 }
 
 // An answer as one number: 0 where the checks accept, else the number, the list and the item, from the lowest digits on.

@@ -47,7 +47,8 @@ use Rattle.regions.proofs.Theorems.{keys-reach}
 use Rattle.signals.specs.Signals.{isSignal, sourceMember, sinkMember, signals}
 use Rattle.signals.specs.Drive.{membersWhere}
 use Rattle.signals.specs.Verdicts.{isRequired}
-use Rattle.signals.specs.Keys.{Settled, Slots, KeysOf, slot, ports}
+use Rattle.lists.specs.Ends.{Settled}
+use Rattle.signals.specs.Keys.{Slots, KeysOf, slot, ports}
 use Rattle.signals.specs.Flags.{Flags}
 use Rattle.liveness.specs.Sets.{SetWhere}
 use Rattle.signals.specs.Rows.{SlotWithin, slotFed}

@@ -23,7 +23,7 @@ use Rattle.lists.proofs.Members.{member-below, member-inj}
 use Rattle.regions.specs.Graph.{marked, at}
 use Rattle.signals.specs.Signals.{isSignal, sourceMember, sinkMember}
 use Rattle.signals.specs.Regions.{labels, isPassive, kindAt, fedFromOutside}
-use Rattle.signals.specs.Keys.{Settled}
+use Rattle.lists.specs.Ends.{Settled}
 use Rattle.signals.specs.Flags.{Flags, Numbers, Gathered}
 use Rattle.signals.specs.Seen.{outsideAt}
 use Rattle.liveness.specs.Scene.{Scene}

@@ -15,6 +15,7 @@ use Rattle.sets.specs.Members.{memberLimit, memberOf}
 use Rattle.lists.specs.Limits.{componentLimit}
 use Rattle.lists.specs.Records.{componentCount, portCount}
 use Rattle.lists.specs.Ids as Ids
+use Rattle.lists.specs.Ends.{Settled}
 use Rattle.lists.specs.declared.Found.{Found}
 use Rattle.lists.specs.declared.Checked.the-variants.{Accepted}
 use Rattle.regions.specs.Graph.{Edges, flip, at, marked}
@@ -25,7 +26,7 @@ use Rattle.regions.specs.Search.{Zeros}
 use Rattle.signals.specs.Signals.{signals}
 use Rattle.signals.specs.Regions.{labels, isInferred}
 use Rattle.signals.specs.Drive.{membersWhere}
-use Rattle.signals.specs.Keys.{Settled, slot, ports}
+use Rattle.signals.specs.Keys.{slot, ports}
 use Rattle.signals.specs.Stages.{FedTable}
 use Rattle.signals.specs.Upstream.{tableWords, inRow, UpstreamRows}
 use Rattle.liveness.specs.Sets.{SetWhere}
@@ -45,9 +46,7 @@ pub record Inputs (cs ps fs : List ℤ) (sources sinks backward labelled : List 
   pub stack-zeros : Zeros stack
 
 -- room for them
-pub record InputsRoom (cs ps : List ℤ) (sources sinks forward backward labelled : List ℕ) (inferred : List Bool) (stack : List ℕ) : Type 0 where
-  pub sources-room : portCount ps ≤ length sources
-  pub sinks-room : portCount ps ≤ length sinks
+pub record InputsRoom (cs ps : List ℤ) (forward backward labelled : List ℕ) (inferred : List Bool) (stack : List ℕ) : Type 0 where
   pub forward-room : length forward ≡ portCount ps
   pub backward-room : length backward ≡ portCount ps
   pub labels-room : length labelled ≡ componentCount cs

@@ -10,6 +10,7 @@ use Rattle.sets.specs.Members.{SetOf}
 use Rattle.lists.specs.Limits.{componentLimit, componentWidth}
 use Rattle.lists.specs.Records.{componentCount, portCount}
 use Rattle.lists.specs.Ids.{memberOf, firstRepeated, firstEndMissing}
+use Rattle.lists.specs.Ends.{Settled}
 use Rattle.lists.specs.Order.{firstNotAscending, componentOrder}
 use Rattle.lists.specs.Within.{Components, PortConnections}
 use Rattle.lists.specs.declared.Checked.the-variants.{Accepted}
@@ -19,7 +20,6 @@ use Rattle.signals.specs.Sources.{onFrontier, isDrive}
 use Rattle.signals.specs.Regions.{labels, regionCount, regionAt, hasDrive, isInferred}
 use Rattle.signals.specs.Drive.{drive, potential}
 use Rattle.signals.specs.Flags.{Flags, Numbers}
-use Rattle.signals.specs.Keys.{Settled}
 use Rattle.signals.specs.Stages.{Tables}
 use Rattle.liveness.specs.Sets.{SetWhere}
 use Rattle.liveness.specs.declared.Analysis.{Analysis}
@@ -70,9 +70,7 @@ pub record Alive (cs ps fs : List ℤ) (driven possible : List Bool) : Type 0 wh
 
 -- ---- room in the arrays that are lent
 
-pub record PreparedRoom (cs ps : List ℤ) (sources sinks forward backward labelled members regionOf stack : List ℕ) : Type 0 where
-  pub sources-room : portCount ps ≤ length sources
-  pub sinks-room : portCount ps ≤ length sinks
+pub record PreparedRoom (cs ps : List ℤ) (forward backward labelled members regionOf stack : List ℕ) : Type 0 where
   pub forward-room : length forward ≡ portCount ps
   pub backward-room : length backward ≡ portCount ps
   pub labels-room : length labelled ≡ componentCount cs

@@ -2,7 +2,7 @@
 use super::InputSources;
 use super::query::find_inputs;
 use super::query::no_sources;
-use super::query::row_place;
+use super::row::row_place;
 use lists::COMPONENTS;
 use lists::CONNECTIONS;
 use lists::Checked;
@@ -25,6 +25,7 @@ ghost use Rattle.tables.specs.Order.{Ascending};
 ghost use Rattle.lists.specs.Limits.{componentLimit};
 ghost use Rattle.lists.specs.Records.{componentCount, portCount};
 ghost use Rattle.lists.specs.Ids.{IdTable};
+ghost use Rattle.lists.specs.Ends.{SettledEnds};
 ghost use Rattle.lists.specs.declared.Checked.the-variants.{Accepted};
 ghost use Rattle.regions.specs.Search.{Zeros};
 ghost use Rattle.signals.specs.Flags.{Indices};
@@ -34,28 +35,28 @@ ghost use Rattle.liveness.specs.Query.{rowPlace};
 ghost use Rattle.liveness.specs.Scene.{Scene};
 ghost use Rattle.liveness.specs.Inputs.{Ready, SlotSets, PortSets};
 
-// Fills what the ports of an accepted scene are asked by: its edges by the port that they feed, the regions of its members, and the rows of
-// the inferred inputs upstream of each region, which are empty before. Leaves the stack zero. The
+// Fills what the ports of an accepted scene are asked by, given its settled ends: its edges by the port that they feed, the regions of its
+// members, and the rows of the inferred inputs upstream of each region, which are empty before. Leaves the stack zero. The
 // edges forward and backward stand where those by port and the pairs of regions are sorted after them.
 pub fn make_ready(
     keys: &[u64],
     components: &[i64],
     ports: &[i64],
     frontiers: &[i64],
+    source_at: &[usize],
+    sink_at: &[usize],
     fed: &mut [u64],
     labels: &mut [usize],
     upstream: &mut [u64],
     stack: &mut [usize],
 )
-    requires { ⌜ Scene (now components) (now ports) × IdTable (now components) (now keys) ⌝ }
+    requires { ⌜ Scene (now components) (now ports) × (IdTable (now components) (now keys) × SettledEnds (now components) (now ports) (now «source_at») (now «sink_at»)) ⌝ }
     requires { ⌜ (length (now fed) ≡ portCount (now ports)) × ((length (now labels) ≡ componentCount (now components)) × (2 * componentCount (now components) ≤ length (now stack))) ⌝ }
     requires { ⌜ (length (now upstream) ≡ tableWords) × Zeros (now upstream) ⌝ }
     ensures { λ _. ⌜ Ready (now (components .entry)) (now (ports .entry)) (now (frontiers .entry)) (now (fed .exit)) (now (labels .exit)) (now (upstream .exit)) × Zeros (now (stack .exit)) ⌝ }
 {
     let n = keys.len();
     let m = ports.len() / PORT;
-    let mut source_at = [0usize; CONNECTIONS];
-    let mut sink_at = [0usize; CONNECTIONS];
     let mut pairs = [0u64; CONNECTIONS];
     let mut inferred = [false; COMPONENTS];
     find_inputs(
@@ -63,16 +64,16 @@ pub fn make_ready(
         components,
         ports,
         frontiers,
-        &mut source_at,
-        &mut sink_at,
+        source_at,
+        sink_at,
         fed,
         &mut pairs[..m],
         labels,
         &mut inferred[..n],
         stack,
     );
-    build_fed(ports, &source_at, &sink_at, fed);
-    let count = find_crossings(ports, &source_at, &sink_at, labels, &mut pairs);
+    build_fed(ports, source_at, sink_at, fed);
+    let count = find_crossings(ports, source_at, sink_at, labels, &mut pairs);
     upstream_rows(&pairs[..count], labels, &inferred[..n], upstream);
 }
 

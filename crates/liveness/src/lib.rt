@@ -3,10 +3,12 @@ mod alive;
 pub mod asked;
 mod infer;
 mod query;
+mod row;
 pub mod steps;
 
 use lists::COMPONENT;
 use lists::COMPONENTS;
+use lists::CONNECTIONS;
 use lists::Checked;
 use lists::Refusal;
 use lists::refusals::liveness_lists;
@@ -73,11 +75,21 @@ pub fn analyze_signal_liveness(
     ensures { λ r. ⌜ Analyzed (now (components .entry)) (now (ports .entry)) (now (frontiers .entry)) (now (regions .entry)) (now (regions .exit)) (now (sources .entry)) (now (sources .exit)) (now (inputs .entry)) (now (inputs .exit)) (now (stack .entry)) (now (stack .exit)) r ⌝ }
 {
     let mut keys = [0u64; COMPONENTS];
+    let mut source_at = [0usize; CONNECTIONS];
+    let mut sink_at = [0usize; CONNECTIONS];
     let count = components.len() / COMPONENT;
     let enough = room_for(count, 1, regions.len())
         & (room_for(count * 2, 2, sources.len())
             & (room_for(count * 4, 3, inputs.len()) & room_for(count, 2, stack.len())));
-    let checked = liveness_lists(components, ports, frontiers, enough, &mut keys);
+    let checked = liveness_lists(
+        components,
+        ports,
+        frontiers,
+        enough,
+        &mut keys,
+        &mut source_at,
+        &mut sink_at,
+    );
     match checked {
         Checked::Refused(refusal) => refused(refusal),
         Checked::Accepted => analyze(
@@ -85,6 +97,8 @@ pub fn analyze_signal_liveness(
             components,
             ports,
             frontiers,
+            &source_at,
+            &sink_at,
             regions,
             sources,
             inputs,
@@ -106,9 +120,19 @@ pub fn required_input(
     ensures { λ r. ⌜ Answered (now (components .entry)) (now (ports .entry)) (now (frontiers .entry)) id port (now (stack .entry)) (now (stack .exit)) r ⌝ }
 {
     let mut keys = [0u64; COMPONENTS];
+    let mut source_at = [0usize; CONNECTIONS];
+    let mut sink_at = [0usize; CONNECTIONS];
     let count = components.len() / COMPONENT;
     let enough = room_for(count, 2, stack.len());
-    let checked = liveness_lists(components, ports, frontiers, enough, &mut keys);
+    let checked = liveness_lists(
+        components,
+        ports,
+        frontiers,
+        enough,
+        &mut keys,
+        &mut source_at,
+        &mut sink_at,
+    );
     match checked {
         Checked::Refused(refusal) => refused_input(refusal),
         Checked::Accepted => query_scene(
@@ -116,6 +140,8 @@ pub fn required_input(
             components,
             ports,
             frontiers,
+            &source_at,
+            &sink_at,
             id,
             port,
             stack,

@@ -1,5 +1,6 @@
 // The input query: the immediate sources of a port, and the inferred inputs among these and all upstream of them.
 use super::InputSources;
+use super::row::row_place;
 use super::steps::flag_drive;
 use super::steps::flag_inferred;
 use super::steps::prepare;
@@ -11,30 +12,25 @@ use lists::Found;
 use lists::PORT;
 use lists::Refusal;
 use lists::ids::member_of;
-use lists::ids::place_of;
 use lists::numbers::natural_at;
 use sets::ComponentSet;
 use signals::edges::PORTS;
 use signals::flags::and_flags;
 use signals::flags::gather;
 use signals::stages::build_fed;
-use signals::verdicts::first_required;
-use signals::verdicts::required_count;
 use signals::verdicts::slot_fed;
 use tables::SPAN;
 ghost use mathlib.Core.Path.{_≡_};
-ghost use mathlib.Core.Bool.{_&&_};
 ghost use mathlib.Core.List.{List};
-ghost use Prim.Native.Nat.{ℕ, _+_, _*_, _^_, _≤_, _<_};
-ghost use lib.Dec.{leb, ltb};
+ghost use Prim.Native.Nat.{ℕ, _*_, _^_, _≤_, _<_};
 ghost use lib.ListN.{length};
 ghost use lib.IntN.{ℤ};
 ghost use Rattle.tables.specs.Order.{Ascending, member};
 ghost use Rattle.tables.specs.Pairs.{pair, span};
 ghost use Rattle.lists.specs.Records.{componentCount, portCount};
-ghost use Rattle.lists.specs.Within.{Components};
 ghost use Rattle.lists.specs.First.{isFound};
 ghost use Rattle.lists.specs.Ids.{IdTable};
+ghost use Rattle.lists.specs.Ends.{SettledEnds};
 ghost use Rattle.lists.specs.Refusals.{refuse, tooShort};
 ghost use Rattle.lists.specs.declared.Found.{Found};
 ghost use Rattle.lists.specs.declared.Found.the-variants.{At, Nothing};
@@ -43,9 +39,9 @@ ghost use Rattle.regions.specs.Search.{Zeros};
 ghost use Rattle.regions.specs.Keys.{edges};
 ghost use Rattle.signals.specs.Regions.{isInferred};
 ghost use Rattle.signals.specs.Drive.{membersWhere};
-ghost use Rattle.liveness.specs.Query.{withRow, rowPlace, InputsBy};
+ghost use Rattle.liveness.specs.Query.{rowPlace, InputsBy};
 ghost use Rattle.signals.specs.Flags.{Flags};
-ghost use Rattle.signals.specs.Rows.{firstRequired, requiredCount, slotFed, SlotWithin};
+ghost use Rattle.signals.specs.Rows.{slotFed, SlotWithin};
 ghost use Rattle.liveness.specs.Scene.{Scene, Prepared};
 ghost use Rattle.liveness.specs.Inputs.{Inputs, InputsRoom, SlotOf, Walkable, UpstreamRoom, UpstreamSet};
 
@@ -141,46 +137,6 @@ pub(crate) fn row_sources(
     }
 }
 
-// ---- the port asked for
-
-// Ids are below this; the table of ids has no key past it.
-const IDS: u64 = 1 << 32;
-
-// Whether a port of a kind has a verdict row.
-fn has_row(kind: u64, port: u64) -> bool
-    ensures { λ r. ⌜ r ≡ (leb (firstRequired kind) port && ltb port (firstRequired kind + requiredCount kind)) ⌝ }
-{
-    let first = first_required(kind) as u64;
-    (first <= port) & (port < first + required_count(kind) as u64)
-}
-
-// The place, where the port of its component has a verdict row.
-fn with_row(components: &[i64], port: u64, p: usize) -> Found
-    requires { ⌜ Components (now components) × (p < componentCount (now components)) ⌝ }
-    ensures { λ r. ⌜ r ≡ withRow (now (components .entry)) port (At p) ⌝ }
-{
-    let kind = natural_at(components, p * COMPONENT + 4);
-    if has_row(kind, port) {
-        return Found::At(p);
-    }
-    Found::Nothing
-}
-
-// Where the component of the port asked for stands, if the port has a verdict row.
-pub(crate) fn row_place(keys: &[u64], components: &[i64], id: u64, port: u64) -> Found
-    requires { ⌜ Components (now components) × IdTable (now components) (now keys) ⌝ }
-    ensures { λ r. ⌜ r ≡ rowPlace (now (components .entry)) id port ⌝ }
-{
-    if IDS <= id {
-        return Found::Nothing;
-    }
-    let place = place_of(keys, id);
-    match place {
-        Found::At(p) => with_row(components, port, p),
-        Found::Nothing => Found::Nothing,
-    }
-}
-
 // ---- the query of an accepted scene
 
 // Flags the inferred inputs of a prepared scene, by member.
@@ -235,23 +191,23 @@ pub(crate) fn inferred_members(
     );
 }
 
-// Prepares an accepted scene, given its table of ids, and flags its inferred inputs by member. Leaves the stack zero.
+// Prepares an accepted scene, given its table of ids and its settled ends, and flags its inferred inputs by member. Leaves the stack zero.
 pub(crate) fn find_inputs(
     keys: &[u64],
     components: &[i64],
     ports: &[i64],
     frontiers: &[i64],
-    source_at: &mut [usize],
-    sink_at: &mut [usize],
+    source_at: &[usize],
+    sink_at: &[usize],
     forward: &mut [u64],
     backward: &mut [u64],
     labels: &mut [usize],
     inferred: &mut [bool],
     stack: &mut [usize],
 )
-    requires { ⌜ Scene (now components) (now ports) × IdTable (now components) (now keys) ⌝ }
-    requires { ⌜ InputsRoom (now components) (now ports) (now «source_at») (now «sink_at») (now forward) (now backward) (now labels) (now inferred) (now stack) ⌝ }
-    ensures { λ _. ⌜ Inputs (now (components .entry)) (now (ports .entry)) (now (frontiers .entry)) (now («source_at» .exit)) (now («sink_at» .exit)) (now (backward .exit)) (now (labels .exit)) (now (inferred .exit)) (now (stack .exit)) ⌝ }
+    requires { ⌜ Scene (now components) (now ports) × (IdTable (now components) (now keys) × SettledEnds (now components) (now ports) (now «source_at») (now «sink_at»)) ⌝ }
+    requires { ⌜ InputsRoom (now components) (now ports) (now forward) (now backward) (now labels) (now inferred) (now stack) ⌝ }
+    ensures { λ _. ⌜ Inputs (now (components .entry)) (now (ports .entry)) (now (frontiers .entry)) (now («source_at» .entry)) (now («sink_at» .entry)) (now (backward .exit)) (now (labels .exit)) (now (inferred .exit)) (now (stack .exit)) ⌝ }
 {
     let mut members = [0usize; COMPONENTS];
     let mut region_at = [0usize; COMPONENTS];
@@ -284,53 +240,55 @@ pub(crate) fn find_inputs(
     );
 }
 
-// Fills what one port of an accepted scene is asked by: its edges by the port that they feed, its edges backward, and the inferred inputs by
-// member. Leaves the stack zero. The edges forward stand where those by port are sorted after them.
+// Fills what one port of an accepted scene is asked by, given its settled ends: its edges by the port that they feed, its edges backward, and
+// the inferred inputs by member. Leaves the stack zero. The edges forward stand where those by port are sorted after them.
 fn walk_tables(
     keys: &[u64],
     components: &[i64],
     ports: &[i64],
     frontiers: &[i64],
+    source_at: &[usize],
+    sink_at: &[usize],
     fed: &mut [u64],
     backward: &mut [u64],
     inferred: &mut [bool],
     stack: &mut [usize],
 )
-    requires { ⌜ Scene (now components) (now ports) × IdTable (now components) (now keys) ⌝ }
+    requires { ⌜ Scene (now components) (now ports) × (IdTable (now components) (now keys) × SettledEnds (now components) (now ports) (now «source_at») (now «sink_at»)) ⌝ }
     requires { ⌜ (length (now fed) ≡ portCount (now ports)) × ((length (now backward) ≡ portCount (now ports)) × ((length (now inferred) ≡ componentCount (now components)) × (2 * componentCount (now components) ≤ length (now stack)))) ⌝ }
     ensures { λ _. ⌜ Walkable (now (components .entry)) (now (ports .entry)) (now (frontiers .entry)) (now (fed .exit)) (now (backward .exit)) (now (inferred .exit)) × Zeros (now (stack .exit)) ⌝ }
 {
     let n = keys.len();
-    let mut source_at = [0usize; CONNECTIONS];
-    let mut sink_at = [0usize; CONNECTIONS];
     let mut labels = [0usize; COMPONENTS];
     find_inputs(
         keys,
         components,
         ports,
         frontiers,
-        &mut source_at,
-        &mut sink_at,
+        source_at,
+        sink_at,
         fed,
         backward,
         &mut labels[..n],
         inferred,
         stack,
     );
-    build_fed(ports, &source_at, &sink_at, fed);
+    build_fed(ports, source_at, sink_at, fed);
 }
 
-// The sets of a port of the component at p, of an accepted scene, given its table of ids.
+// The sets of a port of the component at p, of an accepted scene, given its table of ids and its settled ends.
 fn input_sources(
     keys: &[u64],
     components: &[i64],
     ports: &[i64],
     frontiers: &[i64],
+    source_at: &[usize],
+    sink_at: &[usize],
     p: usize,
     port: usize,
     stack: &mut [usize],
 ) -> InputSources
-    requires { ⌜ Scene (now components) (now ports) × IdTable (now components) (now keys) ⌝ }
+    requires { ⌜ Scene (now components) (now ports) × (IdTable (now components) (now keys) × SettledEnds (now components) (now ports) (now «source_at») (now «sink_at»)) ⌝ }
     requires { ⌜ (p < componentCount (now components)) × ((port < 2 ^ 8) × (2 * componentCount (now components) ≤ length (now stack))) ⌝ }
     ensures { λ r. ⌜ InputsBy Accepted (now (components .entry)) (now (ports .entry)) (now (frontiers .entry)) (At p) port (now (stack .entry)) (now (stack .exit)) r ⌝ }
 {
@@ -344,6 +302,8 @@ fn input_sources(
         components,
         ports,
         frontiers,
+        source_at,
+        sink_at,
         &mut fed[..m],
         &mut backward[..m],
         &mut inferred[..n],
@@ -364,23 +324,35 @@ pub(crate) fn refused_input(refusal: Refusal) -> InputSources
     }
 }
 
-// The query of an accepted scene, given its table of ids; 8 where the port asked for has no verdict row.
+// The query of an accepted scene, given its table of ids and its settled ends; 8 where the port asked for has no verdict row.
 pub(crate) fn query_scene(
     keys: &[u64],
     components: &[i64],
     ports: &[i64],
     frontiers: &[i64],
+    source_at: &[usize],
+    sink_at: &[usize],
     id: u64,
     port: u64,
     stack: &mut [usize],
 ) -> InputSources
-    requires { ⌜ Scene (now components) (now ports) × IdTable (now components) (now keys) ⌝ }
+    requires { ⌜ Scene (now components) (now ports) × (IdTable (now components) (now keys) × SettledEnds (now components) (now ports) (now «source_at») (now «sink_at»)) ⌝ }
     requires { ⌜ 2 * componentCount (now components) ≤ length (now stack) ⌝ }
     ensures { λ r. ⌜ InputsBy (refuse 8 3 (tooShort (isFound (rowPlace (now (components .entry)) id port)))) (now (components .entry)) (now (ports .entry)) (now (frontiers .entry)) (rowPlace (now (components .entry)) id port) port (now (stack .entry)) (now (stack .exit)) r ⌝ }
 {
     let place = row_place(keys, components, id, port);
     match place {
-        Found::At(p) => input_sources(keys, components, ports, frontiers, p, port as usize, stack),
+        Found::At(p) => input_sources(
+            keys,
+            components,
+            ports,
+            frontiers,
+            source_at,
+            sink_at,
+            p,
+            port as usize,
+            stack,
+        ),
         Found::Nothing => refused_input(Refusal {
             number: 8,
             list: 3,

@@ -26,6 +26,7 @@ ghost use lib.IntN.{ℤ};
 ghost use Rattle.lists.specs.Limits.{componentLimit};
 ghost use Rattle.lists.specs.Records.{componentCount, portCount};
 ghost use Rattle.lists.specs.Ids.{IdTable};
+ghost use Rattle.lists.specs.Ends.{SettledEnds};
 ghost use Rattle.lists.specs.Within.{PortConnections};
 ghost use Rattle.lists.specs.First.{tabulate};
 ghost use Rattle.lists.specs.Slices.{laid};
@@ -44,13 +45,13 @@ pub(crate) struct RowCounts {
     pub inputs: usize,
 }
 
-// Builds the tables of a scene and finds its regions; answers how many there are.
+// Builds the tables of a scene, given its settled ends, and finds its regions; answers how many there are.
 pub(crate) fn prepare(
     keys: &[u64],
     components: &[i64],
     ports: &[i64],
-    sources: &mut [usize],
-    sinks: &mut [usize],
+    sources: &[usize],
+    sinks: &[usize],
     forward: &mut [u64],
     backward: &mut [u64],
     labels: &mut [usize],
@@ -58,11 +59,11 @@ pub(crate) fn prepare(
     region_at: &mut [usize],
     stack: &mut [usize],
 ) -> usize
-    requires { ⌜ Scene (now components) (now ports) × IdTable (now components) (now keys) ⌝ }
-    requires { ⌜ PreparedRoom (now components) (now ports) (now sources) (now sinks) (now forward) (now backward) (now labels) (now members) (now «region_at») (now stack) ⌝ }
-    ensures { λ r. ⌜ Prepares (now (components .entry)) (now (ports .entry)) (now (sources .exit)) (now (sinks .exit)) (now (forward .exit)) (now (backward .exit)) (now (labels .exit)) (now (members .exit)) (now («region_at» .exit)) (now (stack .exit)) r ⌝ }
+    requires { ⌜ Scene (now components) (now ports) × (IdTable (now components) (now keys) × SettledEnds (now components) (now ports) (now sources) (now sinks)) ⌝ }
+    requires { ⌜ PreparedRoom (now components) (now ports) (now forward) (now backward) (now labels) (now members) (now «region_at») (now stack) ⌝ }
+    ensures { λ r. ⌜ Prepares (now (components .entry)) (now (ports .entry)) (now (sources .entry)) (now (sinks .entry)) (now (forward .exit)) (now (backward .exit)) (now (labels .exit)) (now (members .exit)) (now («region_at» .exit)) (now (stack .exit)) r ⌝ }
 {
-    build_tables(keys, ports, sources, sinks, forward, backward);
+    build_tables(ports, sources, sinks, forward, backward);
     let count = find_regions(forward, backward, labels, stack);
     place_members(keys, members);
     place_labels(labels.len(), members, labels, region_at);
@@ -299,25 +300,25 @@ fn report(
     )
 }
 
-// Analyzes an accepted scene, given its table of ids.
+// Analyzes an accepted scene, given its table of ids and its settled ends.
 pub fn analyze(
     keys: &[u64],
     components: &[i64],
     ports: &[i64],
     frontiers: &[i64],
+    source_at: &[usize],
+    sink_at: &[usize],
     regions: &mut [u64],
     sources: &mut [u64],
     inputs: &mut [u64],
     stack: &mut [usize],
 ) -> Analysis
-    requires { ⌜ Scene (now components) (now ports) × IdTable (now components) (now keys) ⌝ }
+    requires { ⌜ Scene (now components) (now ports) × (IdTable (now components) (now keys) × SettledEnds (now components) (now ports) (now «source_at») (now «sink_at»)) ⌝ }
     requires { ⌜ RowsRoom (now components) (now regions) (now sources) (now inputs) (now stack) ⌝ }
     ensures { λ r. ⌜ AnalyzedBy Accepted (now (components .entry)) (now (ports .entry)) (now (frontiers .entry)) (now (regions .entry)) (now (regions .exit)) (now (sources .entry)) (now (sources .exit)) (now (inputs .entry)) (now (inputs .exit)) (now (stack .entry)) (now (stack .exit)) r ⌝ }
 {
     let n = keys.len();
     let m = ports.len() / PORT;
-    let mut source_at = [0usize; CONNECTIONS];
-    let mut sink_at = [0usize; CONNECTIONS];
     let mut forward = [0u64; CONNECTIONS];
     let mut backward = [0u64; CONNECTIONS];
     let mut labels = [0usize; COMPONENTS];
@@ -328,8 +329,8 @@ pub fn analyze(
         keys,
         components,
         ports,
-        &mut source_at,
-        &mut sink_at,
+        source_at,
+        sink_at,
         &mut forward[..m],
         &mut backward[..m],
         &mut labels[..n],
@@ -341,8 +342,8 @@ pub fn analyze(
         components,
         ports,
         frontiers,
-        &source_at,
-        &sink_at,
+        source_at,
+        sink_at,
         &forward[..m],
         &backward[..m],
         &labels[..n],

@@ -21,10 +21,10 @@ use Rattle.tables.specs.Radix.{RisingBy}
 use Rattle.lists.specs.Limits.{componentLimit}
 use Rattle.lists.specs.Records.{portCount}
 use Rattle.lists.specs.First.{firstFrom, some}
+use Rattle.lists.specs.Ends.{Settled}
 use Rattle.lists.proofs.Search.{never, both, some-more}
 use Rattle.regions.specs.Carry.{Crossings, KeysBelow}
 use Rattle.signals.specs.Signals.{isSignal, sourceMember, sinkMember, signals}
-use Rattle.signals.specs.Keys.{Settled}
 use Rattle.signals.specs.Flags.{Indices}
 use Rattle.signals.specs.Seen.{SignalEnds}
 use Rattle.signals.specs.Crossings.{regionKey, isCrossing, CrossingKeys}

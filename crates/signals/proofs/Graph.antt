@@ -27,13 +27,14 @@ use Rattle.lists.specs.Limits.{componentLimit, portWidth}
 use Rattle.lists.specs.Records.{naturalAt, portConnection, componentCount, portCount}
 use Rattle.lists.specs.First.{isFound, some}
 use Rattle.lists.specs.Ids.{memberOf}
+use Rattle.lists.specs.Ends.{Settled}
 use Rattle.lists.specs.Within.{PortConnections}
 use Rattle.lists.proofs.Search.{first-nothing}
 use Rattle.lists.proofs.Fields.{field-most}
 use Rattle.lists.proofs.Members.{member-below}
 use Rattle.regions.specs.Keys.{edges, Reversed}
 use Rattle.signals.specs.Signals.{isSignal, sourceMember, sinkMember, signals}
-use Rattle.signals.specs.Keys.{Settled, Slots, Sortable, KeysOf, signalKey, slot, ports}
+use Rattle.signals.specs.Keys.{Slots, Sortable, KeysOf, signalKey, slot, ports}
 use Rattle.signals.proofs.Tabulated.{member-tab, first-cong}
 use Rattle.signals.proofs.Ends.{members-small, EndsWithin}
 

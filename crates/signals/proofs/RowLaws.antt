@@ -16,12 +16,12 @@ use borrow.Author.Tests.{eq-eqb, not-true}
 use Rattle.lists.specs.Limits.{componentLimit}
 use Rattle.lists.specs.Records.{component, componentCount, portCount}
 use Rattle.lists.specs.Ids.{memberOf, firstEndMissing}
+use Rattle.lists.specs.Ends.{Settled}
 use Rattle.lists.specs.declared.Found.the-variants.{Nothing}
 use Rattle.lists.specs.First.{isFound}
 use Rattle.lists.proofs.Members.{member-below}
 use Rattle.lists.proofs.Search.{never, both, or-true}
 use Rattle.regions.specs.Graph.{marked}
-use Rattle.signals.specs.Keys.{Settled}
 use Rattle.signals.specs.Flags.{Flags, Numbers, Indices}
 use Rattle.signals.specs.Sources.{sourceKind, onFrontier, isDrive}
 use Rattle.signals.specs.Regions.{wire, isInferred, hasDrive, regionAt, neighbours, fedFromOutside}

@@ -20,6 +20,7 @@ use Rattle.lists.specs.Limits.{componentLimit}
 use Rattle.lists.specs.Records.{componentCount, portCount}
 use Rattle.lists.specs.First.{isFound, some, tabulate}
 use Rattle.lists.specs.Ids.{memberOf}
+use Rattle.lists.specs.Ends.{Settled}
 use Rattle.lists.proofs.Members.{member-below}
 use Rattle.regions.specs.Graph.{Edges, at}
 use Rattle.regions.specs.Keys.{edges}
@@ -29,7 +30,6 @@ use Rattle.regions.proofs.Theorems.{keys-regions}
 use Rattle.signals.specs.Signals.{isSignal, sourceMember, sinkMember, signals}
 use Rattle.signals.specs.Regions.{labels, regionCount, regionAt, isCyclic}
 use Rattle.signals.specs.Drive.{membersWhere}
-use Rattle.signals.specs.Keys.{Settled}
 use Rattle.signals.specs.Flags.{Flags, Numbers, Gathered, Indices}
 use Rattle.signals.specs.Seen.{SignalEnds}
 use Rattle.signals.specs.Stages.{selfAt, cyclicAt}

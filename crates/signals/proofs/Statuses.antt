@@ -21,13 +21,14 @@ use Rattle.lists.specs.Limits.{componentLimit}
 use Rattle.lists.specs.Records.{component, portConnection, componentCount, portCount}
 use Rattle.lists.specs.First.{isFound, some}
 use Rattle.lists.specs.Ids.{memberOf, firstEndMissing}
+use Rattle.lists.specs.Ends.{Settled}
 use Rattle.lists.specs.Within.{PortConnections}
 use Rattle.lists.specs.declared.Found.the-variants.{Nothing}
 use Rattle.lists.proofs.Search.{both}
 use Rattle.lists.proofs.Members.{member-below}
 use Rattle.regions.specs.Graph.{marked}
 use Rattle.signals.specs.Signals.{isSignal, sourceMember, sinkMember}
-use Rattle.signals.specs.Keys.{Settled, Slots, KeysOf, slot, ports}
+use Rattle.signals.specs.Keys.{Slots, KeysOf, slot, ports}
 use Rattle.signals.specs.Flags.{GatheredBy}
 use Rattle.signals.specs.Verdicts.{feedsPort, fedBy, statusOf}
 use Rattle.signals.specs.Rows.{slotFed, FedWithin}

@@ -3,11 +3,10 @@
 --     keys-of                 the keys of all port connections, sorted
 --     member-tab              a value is a member where the function has it at some place
 --     first-cong              a search by a test that is the same
---     end-range               source and sink are ids
 -- Assumes nothing.
 use mathlib.Core.Path.{_≡_, refl, sym, _∙_}
 use mathlib.Core.Bool.{Bool}
-use mathlib.Core.Logic.{_⊎_, ⊎-elim}
+use mathlib.Core.Logic.{⊎-elim}
 use mathlib.Core.List.{List, [], _∷_}
 use Prim.Native.Nat.{ℕ, zero, suc, _+_, _≤_, _<_}
 use native.Mathlib.Nat.{eq-or-lt-of-le, le-of-suc-le-suc}
@@ -15,13 +14,11 @@ use native.Mathlib.Omega.{arith}
 use lib.ListN.{length, getD, length-append, List·getD-append}
 use lib.Seq.{getD-at, ext-getD}
 use lib.Dec.{eqb}
-use lib.IntN.{ℤ, pos}
+use lib.IntN.{ℤ}
 use borrow.Author.Tests.{eqb-true, eqb-false}
 use Rattle.tables.specs.Order.{Sorted, member}
 use Rattle.tables.specs.Laws.{at-member, member-none}
 use Rattle.lists.specs.Records.{portCount}
-use Rattle.lists.specs.Signed.{at}
-use Rattle.lists.specs.Ranges.{portLow, portHigh}
 use Rattle.lists.specs.First.{firstFrom, isFound, some, tabulate}
 use Rattle.lists.specs.declared.Found.{Found}
 use Rattle.lists.specs.declared.Found.the-variants.{At, Nothing}
@@ -78,6 +75,3 @@ keys-of ps firsts seconds nowhere {keys} {keys′} long each s =
     let key : ℕ → ℕ = λ k. signalKey (isSignal ps k) (getD firsts k 0) (getD seconds k 0) nowhere in
     let same : keys ≡ tabulate key n = ext-getD 0 keys (tabulate key n) (long ∙ sym (tab-length key n)) (λ k h. each k (omega arith) ∙ sym (tab-at key n k (omega arith))) in
     record { sorted = rw same at s }
-
-pub end-range : (f : ℕ) → (f ≡ 0) ⊎ (f ≡ 2) → (f < 5) × ((at portLow f ≡ pos 0) × (at portHigh f ≡ pos 4294967295))
-end-range f = ⊎-elim (λ e. rw e (omega arith, (refl, refl))) (λ e. rw e (omega arith, (refl, refl)))

@@ -11,9 +11,9 @@ use Rattle.tables.specs.Order.{member}
 use Rattle.tables.specs.Pairs.{span, pair}
 use Rattle.lists.specs.Limits.{componentLimit}
 use Rattle.lists.specs.First.{some}
+use Rattle.lists.specs.Ends.{Settled}
 use Rattle.regions.specs.Carry.{Crossings, KeysBelow}
 use Rattle.signals.specs.Signals.{isSignal, signals}
-use Rattle.signals.specs.Keys.{Settled}
 
 -- the pair of the regions at the ends of connection k, or of 0 and 0 for a support
 abbrev pub regionKey : List ℤ → List ℕ → List ℕ → List ℕ → ℕ → ℕ

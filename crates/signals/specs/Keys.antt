@@ -8,15 +8,10 @@ use lib.ListN.{length, getD}
 use lib.IntN.{ℤ}
 use Rattle.tables.specs.Order.{Sorted}
 use Rattle.tables.specs.Pairs.{pair, span}
-use Rattle.lists.specs.Limits.{componentLimit, portWidth}
-use Rattle.lists.specs.Records.{naturalAt, portConnection, portCount}
+use Rattle.lists.specs.Limits.{componentLimit}
+use Rattle.lists.specs.Records.{portConnection, portCount}
 use Rattle.lists.specs.First.{tabulate}
-use Rattle.lists.specs.Ids.{smallerIds}
 use Rattle.signals.specs.Signals.{isSignal}
-
--- the member of field f of each port connection
-pub record Settled (cs ps : List ℤ) (f : ℕ) (members : List ℕ) : Type 0 where
-  pub at : (k : ℕ) → k < portCount ps → getD members k 0 ≡ smallerIds cs (naturalAt ps (k * portWidth + f))
 
 -- ports are 0 to 255
 abbrev pub ports : ℕ

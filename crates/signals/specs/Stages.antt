@@ -10,11 +10,12 @@ use Rattle.sets.specs.Members.{countBelow}
 use Rattle.lists.specs.Limits.{componentLimit}
 use Rattle.lists.specs.Records.{component, portCount}
 use Rattle.lists.specs.First.{some}
+use Rattle.lists.specs.Ends.{Settled}
 use Rattle.regions.specs.Graph.{marked}
 use Rattle.regions.specs.Keys.{edges}
 use Rattle.signals.specs.Regions.{wire}
 use Rattle.signals.specs.Signals.{isSignal}
-use Rattle.signals.specs.Keys.{Settled, Slots, KeysOf, ports}
+use Rattle.signals.specs.Keys.{Slots, KeysOf, ports}
 
 -- the members at the ends of each port connection, and the sorted tables of the signal edges, forward and backward
 pub record Tables (cs ps : List ℤ) (sources sinks forward backward : List ℕ) : Type 0 where

@@ -1,8 +1,6 @@
 // The signal edges of a scene as sorted tables of keys: forward, backward, and by the port that they feed.
 use lists::COMPONENTS;
 use lists::PORT;
-use lists::hints::HINTS;
-use lists::hints::member_near;
 use lists::ids::SUPPORT;
 use lists::numbers::natural_at;
 use tables::SPAN;
@@ -10,31 +8,14 @@ ghost use mathlib.Core.Path.{_≡_};
 ghost use mathlib.Core.List.{List, map};
 ghost use mathlib.Core.Bool.{cond};
 ghost use Prim.Native.Nat.{ℕ, _+_, _*_, _/_, _^_, _≤_, _<_};
-ghost use mathlib.Core.Logic.{_⊎_};
 ghost use lib.ListN.{length, getD, take};
-ghost use lib.IntN.{ℤ};
 ghost use Rattle.tables.specs.Pairs.{pair, span};
 ghost use Rattle.tables.specs.Order.{All, Ascending, Sorted};
-ghost use Rattle.lists.specs.Records.{naturalAt, portCount};
+ghost use Rattle.lists.specs.Records.{portCount};
 ghost use Rattle.lists.specs.Limits.{componentLimit};
-ghost use Rattle.lists.specs.Ids.{IdTable, smallerIds};
 ghost use Rattle.lists.specs.Within.{PortConnections};
 ghost use Rattle.signals.specs.Signals.{isSignal};
-ghost use Rattle.signals.specs.Keys.{Settled, Slots, signalKey, turned, KeysOf, Sortable};
-
-// The member of field f of each port connection, 0 the sources and 2 the sinks.
-pub fn settle(keys: &[u64], ports: &[i64], f: usize, members: &mut [usize], hints: &[u16; HINTS])
-    requires { ⌜ PortConnections (now ports) ⌝ }
-    requires { ⌜ ((f ≡ 0) ⊎ (f ≡ 2)) × (portCount (now ports) ≤ length (now members)) ⌝ }
-    ensures { λ _. ⌜ ((cs : List ℤ) → IdTable cs (now (keys .entry)) → Settled cs (now (ports .entry)) f (now (members .exit))) ⌝ }
-{
-    let count = ports.len() / PORT;
-    let mut k: usize = 0;
-    while k < count {
-        members[k] = member_near(keys, hints, natural_at(ports, k * PORT + f));
-        k += 1;
-    }
-}
+ghost use Rattle.signals.specs.Keys.{Slots, signalKey, turned, KeysOf, Sortable};
 
 // A port of a member: ports are 0 to 255.
 pub const PORTS: usize = 1 << 8;

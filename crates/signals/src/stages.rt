@@ -1,6 +1,5 @@
 // The stages of the analysis over local arrays: tables of edges, regions.
 use super::edges::PORTS;
-use super::edges::settle;
 use super::edges::settle_slots;
 use super::edges::signal_keys;
 use super::edges::turned_keys;
@@ -10,8 +9,6 @@ use super::inferred::sink_region;
 use lists::COMPONENTS;
 use lists::CONNECTIONS;
 use lists::PORT;
-use lists::hints::HINTS;
-use lists::hints::hint_ids;
 use lists::ids::place_at;
 ghost use mathlib.Core.Path.{_≡_};
 ghost use mathlib.Core.Bool.{_||_};
@@ -24,6 +21,7 @@ ghost use Rattle.tables.specs.Order.{Ascending};
 ghost use Rattle.lists.specs.Limits.{componentLimit};
 ghost use Rattle.lists.specs.Records.{componentCount, portCount};
 ghost use Rattle.lists.specs.Ids.{IdTable, IsIdTable, memberOf, firstRepeated};
+ghost use Rattle.lists.specs.Ends.{Settled, SettledEnds};
 ghost use Rattle.lists.specs.Within.{PortConnections};
 ghost use Rattle.lists.specs.First.{some};
 ghost use Rattle.lists.specs.declared.Found.the-variants.{Nothing};
@@ -32,27 +30,20 @@ ghost use Rattle.regions.specs.Graph.{marked};
 ghost use Rattle.regions.specs.Search.{Zeros, Regions};
 ghost use Rattle.signals.specs.Flags.{Flags, Numbers, Indices};
 ghost use Rattle.signals.specs.Seen.{SignalEnds};
-ghost use Rattle.signals.specs.Keys.{Settled};
 ghost use Rattle.signals.specs.Stages.{Tables, FedTable, selfAt, cyclicAt};
 
-// Settles the ends of the port connections and sorts the signal edges into a table, forward; backward are the same edges turned round.
+// Sorts the signal edges into a table, forward, given their settled ends; backward are the same edges turned round.
 pub fn build_tables(
-    keys: &[u64],
     ports: &[i64],
-    sources: &mut [usize],
-    sinks: &mut [usize],
+    sources: &[usize],
+    sinks: &[usize],
     forward: &mut [u64],
     backward: &mut [u64],
 )
-    requires { ⌜ PortConnections (now ports) × IsIdTable (now keys) ⌝ }
-    requires { ⌜ (length (now keys) ≤ componentLimit) × ((portCount (now ports) ≤ length (now sources)) × (portCount (now ports) ≤ length (now sinks))) ⌝ }
+    requires { ⌜ PortConnections (now ports) × ((cs : List ℤ) × ((componentCount cs ≤ componentLimit) × SettledEnds cs (now ports) (now sources) (now sinks))) ⌝ }
     requires { ⌜ (length (now forward) ≡ portCount (now ports)) × (length (now backward) ≡ portCount (now ports)) ⌝ }
-    ensures { λ _. ⌜ ((cs : List ℤ) → IdTable cs (now (keys .entry)) → Tables cs (now (ports .entry)) (now (sources .exit)) (now (sinks .exit)) (now (forward .exit)) (now (backward .exit))) ⌝ }
+    ensures { λ _. ⌜ ((cs : List ℤ) → SettledEnds cs (now (ports .entry)) (now (sources .entry)) (now (sinks .entry)) → Tables cs (now (ports .entry)) (now (sources .entry)) (now (sinks .entry)) (now (forward .exit)) (now (backward .exit))) ⌝ }
 {
-    let mut hints = [0u16; HINTS];
-    hint_ids(keys, &mut hints);
-    settle(keys, ports, 0, sources, &hints);
-    settle(keys, ports, 2, sinks, &hints);
     let mut spare = [0u64; CONNECTIONS];
     signal_keys(ports, sources, sinks, COMPONENTS, forward, &mut spare);
     turned_keys(forward, backward, &mut spare);

@@ -2,28 +2,21 @@
 -- left; its regions are those of demand 3.
 -- Assumes nothing.
 use borrow.Author.Needs.{needs}
-use mathlib.Core.Path.{_≡_, sym, ap, _∙_}
+use mathlib.Core.Path.{_≡_, sym, _∙_}
 use mathlib.Core.Bool.{Bool, _&&_}
-use mathlib.Core.List.{List, _++_}
-use Prim.Native.Nat.{ℕ, _+_, _*_, _/_, _≤_}
+use mathlib.Core.List.{List}
+use Prim.Native.Nat.{ℕ, _*_, _/_, _≤_}
 use native.Mathlib.Omega.{arith}
-use lib.ListN.{length, take, drop}
+use lib.ListN.{length}
 use lib.Seq.{length-take-le}
-use lib.IntN.{ℤ}
 use borrow.Author.Tests.{leb-true}
 use Rattle.lists.specs.Records.{componentCount}
 use Rattle.lists.specs.Refusals.{roomFor, livenessLists, livenessRefusal}
 use Rattle.lists.specs.declared.Checked.{Checked}
-use Rattle.lists.specs.declared.Checked.the-variants.{Accepted, Refused}
+use Rattle.lists.specs.declared.Checked.the-variants.{Accepted}
 use Rattle.lists.proofs.Search.{both}
-use Rattle.lists.proofs.Chain.{refused-not}
 use Rattle.lists.proofs.Accepted.{LivenessScene, liveness-accept, room-places}
-use Rattle.signals.specs.Regions.{regionsOf}
 use Rattle.liveness.specs.Scene.{Scene, RowsRoom}
-use Rattle.liveness.specs.Entry.{AnalyzedBy, Analyzed}
-use Rattle.liveness.specs.Demand.{RegionsOfScene}
-use Rattle.liveness.specs.declared.Analysis.{Analysis}
-use Rattle.liveness.proofs.Demands.{demand-3}
 use Rattle.liveness.proofs.Answers.{scene-of, analyzed-accepted, analyzed-refused}
 use Rattle.liveness.proofs.analyze_signal_liveness.Statement.{statement}
 use Rattle.liveness.proofs.analyze_signal_liveness.Tie as tie
@@ -31,7 +24,7 @@ use Rattle.liveness.proofs.analyze_signal_liveness.Tie as tie
 -- ---- the checks
 
 abbrev start : tie.After-liveness-lists → tie.Start
-start c = c .before .before .before .before .before .before .before .before .before .before
+start c = c .before .before .before .before .before .before .before .before .before .before .before .before
 
 abbrev refusal : tie.Start → Checked
 refusal s =
@@ -45,8 +38,8 @@ by-rooms f p q r s = rw (p, q, r, s)
 answer : (c : tie.After-liveness-lists) → c .liveness-lists .result ≡ refusal (start c)
 answer c =
     let a = start c .args in
-    c .liveness-lists .ensures .answer
-    ∙ by-rooms (livenessLists (a .components .now) (a .ports .now) (a .frontiers .now)) (c .before .before .before .before .before .room-for .ensures) (c .before .before .before .before .room-for2 .ensures) (c .before .before .before .room-for3 .ensures) (c .before .before .room-for4 .ensures)
+    c .liveness-lists .ensures .lists .answer
+    ∙ by-rooms (livenessLists (a .components .now) (a .ports .now) (a .frontiers .now)) (c .before .before .before .before .before .before .before .room-for .ensures) (c .before .before .before .before .before .before .room-for2 .ensures) (c .before .before .before .before .before .room-for3 .ensures) (c .before .before .before .before .room-for4 .ensures)
 
 abbrev enough : tie.Start → Bool
 enough s =
@@ -55,7 +48,7 @@ enough s =
     && (roomFor (n * 2) 2 (length (s .args .sources .now)) && (roomFor (n * 4) 3 (length (s .args .inputs .now)) && roomFor n 2 (length (s .args .stack .now))))
 
 abbrev checked : tie.After-enum-told → tie.After-liveness-lists
-checked c = c .before .before .before
+checked c = c .before .before .before .before .before
 
 accepted : (c : tie.After-enum-told) → refusal (start (checked c)) ≡ Accepted
 accepted c = sym (answer (checked c)) ∙ c .enum-told .given .1
@@ -95,12 +88,14 @@ long c = omega (arith, live c .components .few, checked c .liveness-lists .kept 
 
 analyze-requires : tie.Need-analyze-requires
 analyze-requires c κs =
-    let told = c .before .before .before .before .before in
-    ((scene told, checked told .liveness-lists .ensures .table (told .enum-told .given .1)), room told)
+    let told = c .before .before .before .before .before .before .before in
+    let accepted = told .enum-told .given .1 in
+    let left = checked told .liveness-lists .ensures in
+    ((scene told, (left .lists .table accepted, left .ends accepted)), room told)
 
 returns : tie.Need-returns
 returns c =
-    let l = c .before .before .before .before .before in
+    let l = c .before .before .before .before .before .before .before in
     let s = start l in
     let a = s .args in
     let e = sym (answer l) ∙ c .before .before .checked .given .1 in
@@ -108,7 +103,7 @@ returns c =
 
 returns-2 : tie.Need-returns-2
 returns-2 c =
-    let told = c .before .before .before .before .before .before .before .before .before .before .before .before .before .before in
+    let told = c .before .before .before .before .before .before .before .before .before .before .before .before .before .before .before .before in
     analyzed-accepted (accepted told) (scene told) (c .before .before .before .before .before .before .before .before .analyze .ensures)
 
 pub analyze-signal-liveness-spec : {M : Type 1} → statement M
@@ -122,12 +117,16 @@ analyze-signal-liveness-spec =
     (λ c κs. search needs)
     (λ c κs. search needs)
     (λ c. search needs)
+    (λ c. search needs)
+    (λ c. search needs)
     (λ c κs. search needs)
     (λ c. search needs)
     (λ c κs. search needs)
     (λ c. search needs)
     (λ c. long c)
     (λ c. sym (length-take-le _ (keys (c .before)) (long (c .before))))
+    (λ c. search needs)
+    (λ c. search needs)
     analyze-requires
     returns
     (λ c. search needs)

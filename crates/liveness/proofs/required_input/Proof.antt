@@ -21,7 +21,7 @@ use Rattle.liveness.proofs.required_input.Tie as tie
 -- ---- the checks
 
 abbrev start : tie.After-liveness-lists → tie.Start
-start c = c .before .before .before .before
+start c = c .before .before .before .before .before .before
 
 abbrev refusal : tie.Start → Checked
 refusal s = let a = s .args in queryRefusal (a .components .now) (a .ports .now) (a .frontiers .now) (length (a .stack .now))
@@ -30,10 +30,10 @@ refusal s = let a = s .args in queryRefusal (a .components .now) (a .ports .now)
 answer : (c : tie.After-liveness-lists) → c .liveness-lists .result ≡ refusal (start c)
 answer c =
     let a = start c .args in
-    c .liveness-lists .ensures .answer ∙ ap (livenessLists (a .components .now) (a .ports .now) (a .frontiers .now)) (c .before .before .room-for .ensures)
+    c .liveness-lists .ensures .lists .answer ∙ ap (livenessLists (a .components .now) (a .ports .now) (a .frontiers .now)) (c .before .before .before .before .room-for .ensures)
 
 abbrev checked : tie.After-enum-told → tie.After-liveness-lists
-checked c = c .before .before .before
+checked c = c .before .before .before .before .before
 
 accepted : (c : tie.After-enum-told) → refusal (start (checked c)) ≡ Accepted
 accepted c = sym (answer (checked c)) ∙ c .enum-told .given .1
@@ -58,18 +58,20 @@ long c = omega (arith, live c .components .few, checked c .liveness-lists .kept 
 
 query-scene-requires : tie.Need-query-scene-requires
 query-scene-requires c κs =
-    let told = c .before .before in
-    ((scene-of (live told), checked told .liveness-lists .ensures .table (told .enum-told .given .1)), room told)
+    let told = c .before .before .before .before in
+    let accepted = told .enum-told .given .1 in
+    let left = checked told .liveness-lists .ensures in
+    ((scene-of (live told), (left .lists .table accepted, left .ends accepted)), room told)
 
 returns : tie.Need-returns
 returns c =
-    let l = c .before .before .before .before .before in
+    let l = c .before .before .before .before .before .before .before in
     let a = start l .args in
     inputs-checked (a .id) (sym (answer l) ∙ c .before .before .checked .given .1)
     (c .refused-input .ensures (a .components .now) (a .ports .now) (a .frontiers .now) _ (a .port) (a .stack .now))
 
 returns-2 : tie.Need-returns-2
-returns-2 c = let told = c .before .before .before .before .before in inputs-checked (start (checked told) .args .id) (accepted told) (c .before .before .query-scene .ensures)
+returns-2 c = let told = c .before .before .before .before .before .before .before in inputs-checked (start (checked told) .args .id) (accepted told) (c .before .before .query-scene .ensures)
 
 pub required-input-spec : {M : Type 1} → statement M
 required-input-spec =
@@ -77,13 +79,17 @@ required-input-spec =
     (tie.spec
     (λ c κs. search needs)
     (λ c. search needs)
+    (λ c. search needs)
+    (λ c. search needs)
     (λ c κs. search needs)
     (λ c. search needs)
     (λ c κs. search needs)
     (λ c. search needs)
     (λ c. long c)
     (λ c. sym (length-take-le _ (keys (c .before)) (long (c .before))))
+    (λ c. search needs)
+    (λ c. search needs)
     query-scene-requires
     returns
-    (λ c. c .before .before .query-scene .kept .1 .1 .1 .1 .1 .1 .0)
+    (λ c. c .before .before .query-scene .kept .1 .1 .1 .1 .1 .1 .1 .1 .0)
     returns-2)

@@ -1,7 +1,6 @@
 -- `liveness::asked::make_ready` meets its contract: the scene is prepared, with local arrays for what is not asked later; its edges are sorted
 -- by the port that they feed; then the rows are filled along the pairs of regions.
 -- Assumes nothing.
-use borrow.Author.Needs.{needs}
 use mathlib.Core.Path.{_≡_, sym, subst, _∙_}
 use mathlib.Core.Bool.{Bool, false}
 use mathlib.Core.List.{List, _++_}
@@ -37,7 +36,7 @@ abbrev nodes : tie.Start → ℕ
 nodes s = length (s .args .keys .now)
 
 all : (s : tie.Start) → nodes s ≡ componentCount (cs s)
-all s = table-long (s .pre .0 .1)
+all s = table-long (s .pre .0 .1 .0)
 
 edges-few : (s : tie.Start) → edgeCount s ≤ connectionLimit
 edges-few s = s .pre .0 .0 .connections .few
@@ -60,8 +59,6 @@ find-inputs-requires c κs =
     let room = s .pre .1 .0 in (
       s .pre .0,
       record {
-        sources-room = edges-few s;
-        sinks-room = edges-few s;
         forward-room = room .0;
         backward-room = keys-lent s;
         labels-room = room .1 .0;
@@ -102,10 +99,10 @@ lent-long c =
 
 build-fed-requires : tie.Need-build-fed-requires
 build-fed-requires c κs =
-    let s = c .before .before .before .before .before .before .before .before .before .before .before .before .before .before .before .before .before .before .before .before .before .before .before .before .before .before in
-    let p = c .before .before .before .before .before .before .before .before .before .before .before .before .before .find-inputs .ensures .prepared in (
+    let s = c .before .before .before .before .before .before .before .before .before .before .before .before .before .before .before .before .before .before .before .before .before .before in
+    let p = c .before .before .before .before .before .before .before .before .before .find-inputs .ensures .prepared in (
       (s .pre .0 .0 .connections, (cs s, (few s, (p .tables .source-members, p .tables .sink-members)))),
-      (p .sources-long, (p .sinks-long, c .before .before .before .before .before .before .before .before .before .before .before .before .before .find-inputs .kept .1 .1 .1 .1 .1 .1 .0 ∙ s .pre .1 .0 .0)),
+      (p .sources-long, (p .sinks-long, c .before .before .before .before .before .before .before .before .before .find-inputs .kept .1 .1 .1 .1 .1 .1 .0 ∙ s .pre .1 .0 .0)),
     )
 
 ends-as : {n m : ℕ} {l : List ℤ} {members : List ℕ} → n ≡ m → SignalEnds m l members → SignalEnds n l members
@@ -119,8 +116,8 @@ labels-below c =
 
 find-crossings-requires : tie.Need-find-crossings-requires
 find-crossings-requires c κs =
-    let f = c .before .before .before .before .before .before .before .before .before .before .before .before .before .before .before .before .before .before .before .before in
-    let s = c .before .before .before .before .before .before .before .before .before .before .before .before .before .before .before .before .before .before .before .before .before .before .before .before .before .before .before .before .before .before .before .before .before in
+    let f = c .before .before .before .before .before .before .before .before .before .before .before .before .before .before in
+    let s = c .before .before .before .before .before .before .before .before .before .before .before .before .before .before .before .before .before .before .before .before .before .before .before .before .before .before .before in
     let p = f .find-inputs .ensures .prepared in
     let t = p .tables in
     let ends = ends-within (cs s) (ps s) (s .pre .0 .0 .ends) in (
@@ -136,8 +133,8 @@ find-crossings-requires c κs =
 
 upstream-rows-requires : tie.Need-upstream-rows-requires
 upstream-rows-requires c κs =
-    let f = c .before .before .before .before .before .before .before .before .before .before .before .before .before .before .before .before .before .before .before .before .before .before .before .before .before .before in
-    let s = c .before .before .before .before .before .before .before .before .before .before .before .before .before .before .before .before .before .before .before .before .before .before .before .before .before .before .before .before .before .before .before .before .before .before .before .before .before .before .before in (
+    let f = c .before .before .before .before .before .before .before .before .before .before .before .before .before .before .before .before .before .before .before .before in
+    let s = c .before .before .before .before .before .before .before .before .before .before .before .before .before .before .before .before .before .before .before .before .before .before .before .before .before .before .before .before .before .before .before .before .before in (
       (
         labels-below f,
         (omega (arith, labels-long f, few s), omega (arith, labels-long f, all s, front-length _ (flags f) (flags-rest f) (flags-long f))),
@@ -147,14 +144,14 @@ upstream-rows-requires c κs =
 
 returns : tie.Need-returns
 returns c =
-    let f = c .before .before .before .before .before .before .before .before .before .before .before .before .before .before .before .before .before .before .before .before .before .before .before .before .before .before .before .before .before in
-    let s = c .before .before .before .before .before .before .before .before .before .before .before .before .before .before .before .before .before .before .before .before .before .before .before .before .before .before .before .before .before .before .before .before .before .before .before .before .before .before .before .before .before .before in
+    let f = c .before .before .before .before .before .before .before .before .before .before .before .before .before .before .before .before .before .before .before .before .before .before .before in
+    let s = c .before .before .before .before .before .before .before .before .before .before .before .before .before .before .before .before .before .before .before .before .before .before .before .before .before .before .before .before .before .before .before .before .before .before .before .before in
     let e = f .find-inputs .ensures in
     let p = e .prepared in
     let crossed = c .before .before .before .before .before .before .before .before .find-crossings in
     let up = c .before .before .upstream-rows in (
       record {
-        fed-scene = fed-scene (s .pre .0 .0) p (c .before .before .before .before .before .before .before .before .before .before .before .before .before .before .before .build-fed .ensures);
+        fed-scene = fed-scene (s .pre .0 .0) p (c .before .before .before .before .before .before .before .before .before .before .before .before .before .build-fed .ensures);
         labels-are = p .labels-are;
         keys = take (crossed .result) (crossed .last .1 .1 .1 .1 .0);
         pairs = pairs-as (p .labels-are) (crossed .ensures .pairs (cs s) (p .tables .source-members) (p .tables .sink-members));
@@ -168,27 +165,21 @@ pub make-ready-spec : {M : Type 1} → statement M
 make-ready-spec =
     tie.close
     (tie.spec
-    (λ c. search needs)
-    (λ c. search needs)
     (λ c. edges-few (c .before .before .before .before .before .before .before .before))
     (λ c. sym (keys-lent (c .before .before .before .before .before .before .before .before .before)))
     (λ c. nodes-few (c .before .before .before .before .before .before .before .before .before .before))
     (λ c. sym (flags-lent (c .before .before .before .before .before .before .before .before .before .before .before)))
     find-inputs-requires
-    (λ c. search needs)
-    (λ c. search needs)
     build-fed-requires
-    (λ c. search needs)
-    (λ c. search needs)
-    (λ c. sym (lent-long (c .before .before .before .before .before .before .before .before .before .before .before .before .before .before .before .before .before .before .before .before)))
+    (λ c. sym (lent-long (c .before .before .before .before .before .before .before .before .before .before .before .before .before .before)))
     find-crossings-requires
     (λ c. c .before .find-crossings .ensures .few)
     (λ c. sym (length-take-le _ _ (c .before .before .find-crossings .ensures .few)))
-    (λ c. let f = c .before .before .before .before .before .before .before .before .before .before .before .before .before .before .before .before .before .before .before .before .before .before .before .before in front-long _ (flags f) (flags-rest f) (flags-long f))
-    (λ c. let f = c .before .before .before .before .before .before .before .before .before .before .before .before .before .before .before .before .before .before .before .before .before .before .before .before .before in front-length _ (flags f) (flags-rest f) (flags-long f))
+    (λ c. let f = c .before .before .before .before .before .before .before .before .before .before .before .before .before .before .before .before .before .before in front-long _ (flags f) (flags-rest f) (flags-long f))
+    (λ c. let f = c .before .before .before .before .before .before .before .before .before .before .before .before .before .before .before .before .before .before .before in front-length _ (flags f) (flags-rest f) (flags-long f))
     upstream-rows-requires
-    (λ c. c .before .before .before .before .before .before .before .before .before .before .before .before .before .before .before .build-fed .kept .1 .1 .1 .0 ∙ c .before .before .before .before .before .before .before .before .before .before .before .before .before .before .before .before .before .before .before .before .before .before .before .before .before .before .before .before .before .find-inputs .kept .1 .1 .1 .1 .1 .1 .0)
-    (λ c. c .before .before .before .before .before .before .before .before .before .before .before .before .before .before .before .before .before .before .before .before .before .before .before .before .before .before .before .before .before .find-inputs .kept .1 .1 .1 .1 .1 .1 .1 .1 .0)
+    (λ c. c .before .before .before .before .before .before .before .before .before .before .before .before .before .build-fed .kept .1 .1 .1 .0 ∙ c .before .before .before .before .before .before .before .before .before .before .before .before .before .before .before .before .before .before .before .before .before .before .before .find-inputs .kept .1 .1 .1 .1 .1 .1 .0)
+    (λ c. c .before .before .before .before .before .before .before .before .before .before .before .before .before .before .before .before .before .before .before .before .before .before .before .find-inputs .kept .1 .1 .1 .1 .1 .1 .1 .1 .0)
     (λ c. c .before .before .upstream-rows .kept .1 .1 .1 .0)
-    (λ c. c .before .before .before .before .before .before .before .before .before .before .before .before .before .before .before .before .before .before .before .before .before .before .before .before .before .before .before .before .before .find-inputs .kept .1 .1 .1 .1 .1 .1 .1 .1 .1 .1 .0)
+    (λ c. c .before .before .before .before .before .before .before .before .before .before .before .before .before .before .before .before .before .before .before .before .before .before .before .find-inputs .kept .1 .1 .1 .1 .1 .1 .1 .1 .1 .1 .0)
     returns)

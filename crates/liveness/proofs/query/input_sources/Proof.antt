@@ -32,7 +32,7 @@ abbrev nodes : tie.Start → ℕ
 nodes s = length (s .args .keys .now)
 
 all : (s : tie.Start) → nodes s ≡ componentCount (cs s)
-all s = table-long (s .pre .0 .1)
+all s = table-long (s .pre .0 .1 .0)
 
 edges-few : (s : tie.Start) → edgeCount s ≤ connectionLimit
 edges-few s = s .pre .0 .0 .connections .few
@@ -49,16 +49,16 @@ flags-lent s = length-take-le _ _ (nodes-few s)
 -- ---- after the tables are filled: what was lent stands at the front of each array
 
 abbrev start : tie.After-walk-tables → tie.Start
-start c = c .before .before .before .before .before .before .before
+start c = c .before .before .before .before .before .before .before .before .before
 
 abbrev fed : tie.After-walk-tables → List ℕ
-fed c = c .walk-tables .last .1 .1 .1 .1 .0
+fed c = c .walk-tables .last .1 .1 .1 .1 .1 .1 .0
 
 abbrev backward : tie.After-walk-tables → List ℕ
-backward c = c .walk-tables .last .1 .1 .1 .1 .1 .0
+backward c = c .walk-tables .last .1 .1 .1 .1 .1 .1 .1 .0
 
 abbrev flags : tie.After-walk-tables → List Bool
-flags c = c .walk-tables .last .1 .1 .1 .1 .1 .1 .0
+flags c = c .walk-tables .last .1 .1 .1 .1 .1 .1 .1 .1 .0
 
 abbrev keys-rest : tie.After-walk-tables → List ℕ
 keys-rest c = drop (edgeCount (start c)) (replicate connectionLimit 0)
@@ -67,17 +67,17 @@ abbrev flags-rest : tie.After-walk-tables → List Bool
 flags-rest c = drop (nodes (start c)) (replicate componentLimit false)
 
 fed-long : (c : tie.After-walk-tables) → length (fed c) ≡ edgeCount (start c)
-fed-long c = c .walk-tables .kept .1 .1 .1 .1 .0 ∙ keys-lent (start c)
+fed-long c = c .walk-tables .kept .1 .1 .1 .1 .1 .1 .0 ∙ keys-lent (start c)
 
 backward-long : (c : tie.After-walk-tables) → length (backward c) ≡ edgeCount (start c)
-backward-long c = c .walk-tables .kept .1 .1 .1 .1 .1 .0 ∙ keys-lent (start c)
+backward-long c = c .walk-tables .kept .1 .1 .1 .1 .1 .1 .1 .0 ∙ keys-lent (start c)
 
 flags-long : (c : tie.After-walk-tables) → length (flags c) ≡ nodes (start c)
-flags-long c = c .walk-tables .kept .1 .1 .1 .1 .1 .1 .0 ∙ flags-lent (start c)
+flags-long c = c .walk-tables .kept .1 .1 .1 .1 .1 .1 .1 .1 .0 ∙ flags-lent (start c)
 
 -- the stack is as long as it was
-stack-long : (c : tie.After-walk-tables) → length (c .walk-tables .last .1 .1 .1 .1 .1 .1 .1 .0) ≡ length (start c .args .stack .now)
-stack-long c = c .walk-tables .kept .1 .1 .1 .1 .1 .1 .1 .0
+stack-long : (c : tie.After-walk-tables) → length (c .walk-tables .last .1 .1 .1 .1 .1 .1 .1 .1 .1 .0) ≡ length (start c .args .stack .now)
+stack-long c = c .walk-tables .kept .1 .1 .1 .1 .1 .1 .1 .1 .1 .0
 
 -- ---- the port by its slot
 
@@ -96,7 +96,7 @@ abbrev ready : tie.After-member-of → tie.After-walk-tables
 ready c = c .before .before .before .before .before .before .before
 
 member-is : (c : tie.After-member-of) → let s = start (ready c) in c .member-of .result ≡ memberOf (cs s) (s .args .p)
-member-is c = let s = start (ready c) in c .member-of .ensures (cs s) (s .pre .0 .1) ∙ ap (smallerIds (cs s)) (c .before .natural-at .ensures)
+member-is c = let s = start (ready c) in c .member-of .ensures (cs s) (s .pre .0 .1 .0) ∙ ap (smallerIds (cs s)) (c .before .natural-at .ensures)
 
 member-small : (c : tie.After-member-of) → c .member-of .result < componentLimit
 member-small c =
@@ -146,13 +146,13 @@ pub input-sources-spec : {M : Type 1} → statement M
 input-sources-spec =
     tie.close
     (tie.spec
-    (λ c. edges-few (c .before .before))
-    (λ c. sym (keys-lent (c .before .before .before)))
-    (λ c. edges-few (c .before .before .before))
-    (λ c. sym (keys-lent (c .before .before .before .before)))
-    (λ c. nodes-few (c .before .before .before .before))
-    (λ c. sym (flags-lent (c .before .before .before .before .before)))
-    (λ c κs. let s = c .before .before .before .before .before .before in (s .pre .0, (keys-lent s, (keys-lent s, (flags-lent s ∙ all s, s .pre .1 .1 .1)))))
+    (λ c. edges-few (c .before .before .before .before))
+    (λ c. sym (keys-lent (c .before .before .before .before .before)))
+    (λ c. edges-few (c .before .before .before .before .before))
+    (λ c. sym (keys-lent (c .before .before .before .before .before .before)))
+    (λ c. nodes-few (c .before .before .before .before .before .before))
+    (λ c. sym (flags-lent (c .before .before .before .before .before .before .before)))
+    (λ c κs. let s = c .before .before .before .before .before .before .before .before in (s .pre .0, (keys-lent s, (keys-lent s, (flags-lent s ∙ all s, s .pre .1 .1 .1)))))
     (λ c. let s = start (c .before .before .before .before .before) in omega (arith, s .pre .1 .0, s .pre .0 .0 .components .few))
     natural-at-requires
     member-of-requires

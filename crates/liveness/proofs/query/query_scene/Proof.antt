@@ -8,7 +8,7 @@ use Rattle.liveness.proofs.query.query_scene.Statement.{statement}
 use Rattle.liveness.proofs.query.query_scene.Tie as tie
 
 abbrev start : tie.After-row-place → tie.Start
-start c = c .before .before .before
+start c = c .before .before .before .before .before
 
 -- what the search for the row says
 looked : (c : tie.After-row-place) → let a = start c .args in c .row-place .result ≡ rowPlace (a .components .now) (a .id) (a .port)
@@ -38,11 +38,11 @@ pub query-scene-spec : {M : Type 1} → statement M
 query-scene-spec =
     tie.close
     (tie.spec
-    (λ c κs. let s = c .before .before in (s .pre .0 .0 .components, s .pre .0 .1))
+    (λ c κs. let s = c .before .before .before .before in (s .pre .0 .0 .components, s .pre .0 .1 .0))
     (λ c. search needs)
     input-sources-requires
     (λ c. search needs)
     (λ c κs. search needs)
-    (λ c. c .before .before .input-sources .kept .1 .1 .1 .1 .1 .1 .0)
+    (λ c. c .before .before .input-sources .kept .1 .1 .1 .1 .1 .1 .1 .1 .0)
     returns
     returns-2)

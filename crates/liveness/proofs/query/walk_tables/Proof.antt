@@ -1,7 +1,6 @@
 -- `liveness::query::walk_tables` meets its contract: the scene is prepared, with local arrays for what is not asked later; then its edges are
 -- sorted by the port that they feed.
 -- Assumes nothing.
-use borrow.Author.Needs.{needs}
 use mathlib.Core.Path.{_≡_, sym, _∙_}
 use Prim.Native.Nat.{ℕ, _≤_}
 use native.Mathlib.Omega.{arith}
@@ -18,7 +17,7 @@ abbrev nodes : tie.Start → ℕ
 nodes s = length (s .args .keys .now)
 
 all : (s : tie.Start) → nodes s ≡ componentCount (s .args .components .now)
-all s = table-long (s .pre .0 .1)
+all s = table-long (s .pre .0 .1 .0)
 
 nodes-few : (s : tie.Start) → nodes s ≤ componentLimit
 nodes-few s = omega (arith, all s, s .pre .0 .0 .components .few)
@@ -32,8 +31,6 @@ find-inputs-requires c κs =
     let room = s .pre .1 in (
       s .pre .0,
       record {
-        sources-room = s .pre .0 .0 .connections .few;
-        sinks-room = s .pre .0 .0 .connections .few;
         forward-room = room .0;
         backward-room = room .1 .0;
         labels-room = labels-lent s ∙ all s;
@@ -44,8 +41,8 @@ find-inputs-requires c κs =
 
 build-fed-requires : tie.Need-build-fed-requires
 build-fed-requires c κs =
-    let found = c .before .before .before .before .before .before .before .before .before .before .before .before .before .before in
-    let s = c .before .before .before .before .before .before .before .before .before .before .before .before .before .before .before .before .before .before .before .before .before .before .before .before .before .before .before in
+    let found = c .before .before .before .before .before .before .before .before .before .before in
+    let s = c .before .before .before .before .before .before .before .before .before .before .before .before .before .before .before .before .before .before .before .before .before .before .before in
     let p = found .find-inputs .ensures .prepared in (
       (s .pre .0 .0 .connections, (s .args .components .now, (s .pre .0 .0 .components .few, (p .tables .source-members, p .tables .sink-members)))),
       (p .sources-long, (p .sinks-long, found .find-inputs .kept .1 .1 .1 .1 .1 .1 .0 ∙ s .pre .1 .0)),
@@ -53,8 +50,8 @@ build-fed-requires c κs =
 
 returns : tie.Need-returns
 returns c =
-    let s = c .before .before .before .before .before .before .before .before .before .before .before .before .before .before .before .before .before .before .before .before .before .before .before .before .before .before .before .before .before .before in
-    let e = c .before .before .before .before .before .before .before .before .before .before .before .before .before .before .before .before .before .find-inputs .ensures in
+    let s = c .before .before .before .before .before .before .before .before .before .before .before .before .before .before .before .before .before .before .before .before .before .before .before .before .before .before in
+    let e = c .before .before .before .before .before .before .before .before .before .before .before .before .before .find-inputs .ensures in
     let t = e .prepared .tables in (
       record {
         fed-scene = fed-scene (s .pre .0 .0) (e .prepared) (c .before .before .build-fed .ensures);
@@ -69,16 +66,12 @@ pub walk-tables-spec : {M : Type 1} → statement M
 walk-tables-spec =
     tie.close
     (tie.spec
-    (λ c. search needs)
-    (λ c. search needs)
     (λ c. nodes-few (c .before .before .before .before .before .before .before .before .before))
     (λ c. sym (labels-lent (c .before .before .before .before .before .before .before .before .before .before)))
     find-inputs-requires
-    (λ c. search needs)
-    (λ c. search needs)
     build-fed-requires
-    (λ c. c .before .before .build-fed .kept .1 .1 .1 .0 ∙ c .before .before .before .before .before .before .before .before .before .before .before .before .before .before .before .before .before .find-inputs .kept .1 .1 .1 .1 .1 .1 .0)
-    (λ c. c .before .before .before .before .before .before .before .before .before .before .before .before .before .before .before .before .before .find-inputs .kept .1 .1 .1 .1 .1 .1 .1 .0)
-    (λ c. c .before .before .before .before .before .before .before .before .before .before .before .before .before .before .before .before .before .find-inputs .kept .1 .1 .1 .1 .1 .1 .1 .1 .1 .0)
-    (λ c. c .before .before .before .before .before .before .before .before .before .before .before .before .before .before .before .before .before .find-inputs .kept .1 .1 .1 .1 .1 .1 .1 .1 .1 .1 .0)
+    (λ c. c .before .before .build-fed .kept .1 .1 .1 .0 ∙ c .before .before .before .before .before .before .before .before .before .before .before .before .before .find-inputs .kept .1 .1 .1 .1 .1 .1 .0)
+    (λ c. c .before .before .before .before .before .before .before .before .before .before .before .before .before .find-inputs .kept .1 .1 .1 .1 .1 .1 .1 .0)
+    (λ c. c .before .before .before .before .before .before .before .before .before .before .before .before .before .find-inputs .kept .1 .1 .1 .1 .1 .1 .1 .1 .1 .0)
+    (λ c. c .before .before .before .before .before .before .before .before .before .before .before .before .before .find-inputs .kept .1 .1 .1 .1 .1 .1 .1 .1 .1 .1 .0)
     returns)

@@ -21,19 +21,16 @@ use Rattle.liveness.proofs.steps.prepare.Tie as tie
 
 build-tables-requires : tie.Need-build-tables-requires
 build-tables-requires c κs =
-    let s = c .before .before .before .before .before .before .before .before .before .before .before .before .before in
+    let s = c .before .before .before .before .before .before .before .before .before .before .before in
     let room = s .pre .1 in (
-      (s .pre .0 .0 .connections, (s .args .components .now, s .pre .0 .1)),
-      (
-        (omega (arith, table-long (s .pre .0 .1), s .pre .0 .0 .components .few), (room .sources-room, room .sinks-room)),
-        (room .forward-room, room .backward-room),
-      ),
+      (s .pre .0 .0 .connections, (s .args .components .now, (s .pre .0 .0 .components .few, s .pre .0 .1 .1))),
+      (room .forward-room, room .backward-room),
     )
 
 -- ---- after the tables are built
 
 abbrev start : tie.After-build-tables → tie.Start
-start c = c .before .before .before .before .before .before .before .before .before .before .before .before .before .before
+start c = c .before .before .before .before .before .before .before .before .before .before .before .before
 
 abbrev cs : tie.After-build-tables → List ℤ
 cs c = start c .args .components .now
@@ -42,11 +39,11 @@ abbrev ps : tie.After-build-tables → List ℤ
 ps c = start c .args .ports .now
 
 abbrev forward : tie.After-build-tables → List ℕ
-forward c = c .build-tables .last .1 .1 .1 .1 .0
+forward c = c .build-tables .last .1 .1 .1 .0
 
 tables : (c : tie.After-build-tables)
-    → Tables (cs c) (ps c) (c .build-tables .last .1 .1 .0) (c .build-tables .last .1 .1 .1 .0) (forward c) (c .build-tables .last .1 .1 .1 .1 .1 .0)
-tables c = c .build-tables .ensures (cs c) (start c .pre .0 .1)
+    → Tables (cs c) (ps c) (start c .args .sources .now) (start c .args .sinks .now) (forward c) (c .build-tables .last .1 .1 .1 .1 .0)
+tables c = c .build-tables .ensures (cs c) (start c .pre .0 .1 .1)
 
 few : (c : tie.After-build-tables) → componentCount (cs c) ≤ componentLimit
 few c = start c .pre .0 .0 .components .few
@@ -58,7 +55,7 @@ graph c =
 
 find-regions-requires : tie.Need-find-regions-requires
 find-regions-requires c κs =
-    let b = c .before .before .before .before .before .before .before .before .before .before .before .before in
+    let b = c .before .before .before .before .before .before .before .before in
     let room = start b .pre .1 in
     let t = tables b in (
       (
@@ -72,7 +69,7 @@ find-regions-requires c κs =
     )
 
 place-members-requires : tie.Need-place-members-requires
-place-members-requires c κs = let s = c .before .before .before .before .before .before .before .before .before .before .before .before .before .before .before .before .before .before .before .before .before .before .before .before .before .before .before .before .before .before .before .before in ((s .args .components .now, s .pre .0 .1), omega (arith, table-long (s .pre .0 .1), s .pre .1 .members-room))
+place-members-requires c κs = let s = c .before .before .before .before .before .before .before .before .before .before .before .before .before .before .before .before .before .before .before .before .before .before .before .before .before .before in ((s .args .components .now, s .pre .0 .1 .0), omega (arith, table-long (s .pre .0 .1 .0), s .pre .1 .members-room))
 
 -- the members of all components are nodes
 indices-at : {n m k : ℕ} {index : List ℕ} → n ≡ k → m ≡ k → Indices k k index → Indices n m index
@@ -82,26 +79,26 @@ place-labels-requires : tie.Need-place-labels-requires
 place-labels-requires c κs =
     let placed = c .before .before .before .before .before in
     let found = c .before .before .before .before .before .before .before .before .before .before .before in
-    let b = c .before .before .before .before .before .before .before .before .before .before .before .before .before .before .before .before .before .before .before .before .before .before .before .before in
+    let b = c .before .before .before .before .before .before .before .before .before .before .before .before .before .before .before .before .before .before .before .before in
     let room = start b .pre .1 in
     let long = found .find-regions .kept .1 .1 .0 ∙ room .labels-room in
-    (indices-at long long (members-below (cs b) (placed .place-members .ensures (cs b) (start b .pre .0 .1) (start b .pre .0 .0 .distinct))), omega (arith, long, room .regions-room))
+    (indices-at long long (members-below (cs b) (placed .place-members .ensures (cs b) (start b .pre .0 .1 .0) (start b .pre .0 .0 .distinct))), omega (arith, long, room .regions-room))
 
 returns : tie.Need-returns
 returns c =
     let labelled = c .before .before in
     let placed = c .before .before .before .before .before .before .before .before in
     let found = c .before .before .before .before .before .before .before .before .before .before .before .before .before .before in
-    let b = c .before .before .before .before .before .before .before .before .before .before .before .before .before .before .before .before .before .before .before .before .before .before .before .before .before .before .before in
+    let b = c .before .before .before .before .before .before .before .before .before .before .before .before .before .before .before .before .before .before .before .before .before .before .before in
     let room = start b .pre .1 in
     let long = found .find-regions .kept .1 .1 .0 ∙ room .labels-room in
     let regions = regions-are (cs b) (ps b) (forward b) (graph b) (rw (room .labels-room) at (found .find-regions .ensures)) in
-    let numbers = placed .place-members .ensures (cs b) (start b .pre .0 .1) (start b .pre .0 .0 .distinct) in
+    let numbers = placed .place-members .ensures (cs b) (start b .pre .0 .1 .0) (start b .pre .0 .0 .distinct) in
     record {
       prepared = record {
         tables = tables b;
-        sources-long = omega (arith, b .build-tables .kept .1 .1 .0, room .sources-room);
-        sinks-long = omega (arith, b .build-tables .kept .1 .1 .1 .0, room .sinks-room);
+        sources-long = start b .pre .0 .1 .1 .sources-long;
+        sinks-long = start b .pre .0 .1 .1 .sinks-long;
         labels-are = regions .0;
         members-are = numbers;
         regions-are = labels-placed (cs b) numbers (ps b) (rw (long, regions .0) at (labelled .place-labels .ensures));
@@ -118,8 +115,6 @@ prepare-spec =
     find-regions-requires
     place-members-requires
     place-labels-requires
-    (λ c. search needs)
-    (λ c. search needs)
     (λ c. search needs)
     (λ c. search needs)
     (λ c. search needs)

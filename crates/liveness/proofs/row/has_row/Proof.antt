@@ -1,9 +1,9 @@
--- `liveness::query::has_row` meets its contract.
+-- `liveness::row::has_row` meets its contract.
 -- Assumes nothing.
 use borrow.Author.Needs.{needs}
 use native.Mathlib.Omega.{arith}
-use Rattle.liveness.proofs.query.has_row.Statement.{statement}
-use Rattle.liveness.proofs.query.has_row.Tie as tie
+use Rattle.liveness.proofs.row.has_row.Statement.{statement}
+use Rattle.liveness.proofs.row.has_row.Tie as tie
 
 returns : tie.Need-returns
 returns c = rw (c .before .first-required .ensures .0, c .required-count .ensures .0)

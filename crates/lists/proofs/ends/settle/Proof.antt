@@ -1,4 +1,4 @@
--- `liveness::signals::settle` meets its contract: each member up to the present one is settled.
+-- `lists::ends::settle` meets its contract: each member up to the present one is settled.
 -- Assumes nothing.
 use mathlib.Core.Path.{_≡_, refl, ap, _∙_}
 use mathlib.Core.List.{List}
@@ -9,14 +9,14 @@ use Prim.Native.Nat.{ℕ, _+_, _*_, _-_, _≤_, _<_}
 use lib.ListN.{length, getD, length-set}
 use lib.Seq.{getD-set-same, getD-set-other}
 use lib.IntN.{ℤ}
 use Rattle.lists.specs.Limits.{portWidth}
 use Rattle.lists.specs.Records.{naturalAt}
 use Rattle.lists.specs.Ids.{smallerIds, IdTable}
 use Rattle.lists.proofs.Search.{record-within}
 use Rattle.lists.proofs.Fields.{field-nonNeg, field-most}
-use Rattle.signals.proofs.Tabulated.{end-range}
-use Rattle.signals.proofs.edges.settle.Statement.{statement}
-use Rattle.signals.proofs.edges.settle.Tie as tie
+use Rattle.lists.proofs.EndLaws.{end-range}
+use Rattle.lists.proofs.ends.settle.Statement.{statement}
+use Rattle.lists.proofs.ends.settle.Tie as tie
 
 abbrev Inv-loop : tie.InvT-loop
 Inv-loop keys ports f members₀ hints count k₀ members k =

@@ -1,4 +1,4 @@
--- `liveness::query::with_row` meets its contract: the required ports of a kind are those of its components.
+-- `liveness::row::with_row` meets its contract: the required ports of a kind are those of its components.
 -- Assumes nothing.
 use borrow.Author.Needs.{needs}
 use mathlib.Core.Path.{_≡_, refl, sym, ap, _∙_}
@@ -15,8 +15,8 @@ use Rattle.faces.specs.Ports.{portsOf}
 use Rattle.signals.specs.Verdicts.{isRequired}
 use Rattle.signals.specs.Rows.{firstRequired, requiredCount}
 use Rattle.signals.proofs.Required.{row-of}
-use Rattle.liveness.proofs.query.with_row.Statement.{statement}
-use Rattle.liveness.proofs.query.with_row.Tie as tie
+use Rattle.liveness.proofs.row.with_row.Statement.{statement}
+use Rattle.liveness.proofs.row.with_row.Tie as tie
 
 within : (s : tie.Start) → s .args .p * 8 + 8 ≤ length (s .args .components .now)
 within s = record-within (s .args .p) _ 8 (s .pre .1)

@@ -1,4 +1,4 @@
--- `liveness::query::row_place` meets its contract: no id is past the greatest; else the table has its place.
+-- `liveness::row::row_place` meets its contract: no id is past the greatest; else the table has its place.
 -- Assumes nothing.
 use borrow.Author.Needs.{needs}
 use mathlib.Core.Path.{_≡_, sym, _∙_}
@@ -6,8 +6,8 @@ use native.Mathlib.Omega.{arith}
 use Rattle.lists.specs.Ids.{placeOf}
 use Rattle.lists.proofs.Accepted.{id-past}
 use Rattle.liveness.proofs.Inputs.{place-below, row-place}
-use Rattle.liveness.proofs.query.row_place.Statement.{statement}
-use Rattle.liveness.proofs.query.row_place.Tie as tie
+use Rattle.liveness.proofs.row.row_place.Statement.{statement}
+use Rattle.liveness.proofs.row.row_place.Tie as tie
 
 returns : tie.Need-returns
 returns c =
