@@ -49,10 +49,10 @@ turned-keys-requires c κs =
       (keys .sorted .ascending, keys-low keys (sources-low s) (sinks-low s)),
     )
 
-abbrev turned-round : tie.After-spare2 → tie.After-turned-keys
+abbrev turned-round : tie.After-spare4 → tie.After-turned-keys
 turned-round c = c .before .before .before
 
-abbrev sorted : tie.After-spare2 → tie.After-signal-keys
+abbrev sorted : tie.After-spare4 → tie.After-signal-keys
 sorted c = turned-round c .before .before .before .before .before .before .before
 
 returns : tie.Need-returns
