@@ -181,7 +181,17 @@ fn refuse_short(components: &[i64], ports: &[i64], frontiers: &[i64]) -> u64
     ensures { λ r. ⌜ r ≡ packed (livenessLists (now (components .entry)) (now (ports .entry)) (now (frontiers .entry)) false) ⌝ }
 {
     let mut keys = [0u64; COMPONENTS];
-    pack(liveness_lists(components, ports, frontiers, false, &mut keys))
+    let mut source_at = [0usize; CONNECTIONS];
+    let mut sink_at = [0usize; CONNECTIONS];
+    pack(liveness_lists(
+        components,
+        ports,
+        frontiers,
+        false,
+        &mut keys,
+        &mut source_at,
+        &mut sink_at,
+    ))
 }
 
 // The liveness of a scene as bytes.

@@ -12,6 +12,7 @@ ghost use Rattle.probe.specs.Places.{IsPlace, answerOf, placeAmong, Memb
 use lists::COMPONENT;
 use lists::COMPONENTS;
 use lists::CONNECTION;
+use lists::CONNECTIONS;
 use lists::Checked;
 use lists::Found;
 use lists::PORT;
@@ -75,7 +76,17 @@ pub extern "C" fn probe_liveness_refusal(
     let enough = room_for(count, 1, regions)
         & (room_for(count * 2, 2, sources)
             & (room_for(count * 4, 3, inputs) & room_for(count, 2, stack)));
-    pack(liveness_lists(components, ports, frontiers, enough, &mut keys))
+    let mut source_at = [0usize; CONNECTIONS];
+    let mut sink_at = [0usize; CONNECTIONS];
+    pack(liveness_lists(
+        components,
+        ports,
+        frontiers,
+        enough,
+        &mut keys,
+        &mut source_at,
+        &mut sink_at,
+    ))
 }
 
 #[no_mangle]
@@ -89,7 +100,17 @@ pub extern "C" fn probe_query_refusal(
 {
     let mut keys = [0u64; COMPONENTS];
     let enough = room_for(components.len() / COMPONENT, 2, stack);
-    pack(liveness_lists(components, ports, frontiers, enough, &mut keys))
+    let mut source_at = [0usize; CONNECTIONS];
+    let mut sink_at = [0usize; CONNECTIONS];
+    pack(liveness_lists(
+        components,
+        ports,
+        frontiers,
+        enough,
+        &mut keys,
+        &mut source_at,
+        &mut sink_at,
+    ))
 }
 
 #[no_mangle]

@@ -211,11 +211,21 @@ fn replay_liveness(
     frontiers: &[i64],
 ) -> Tally {
     let mut keys = [0u64; COMPONENTS];
+    let mut source_at = [0usize; CONNECTIONS];
+    let mut sink_at = [0usize; CONNECTIONS];
     let mut regions = [0u64; COMPONENTS];
     let mut sources = [0u64; SOURCES * 2];
     let mut inputs = [0u64; INPUTS * 3];
     let mut stack = [0usize; 2 * COMPONENTS];
-    liveness_lists(components, ports, frontiers, true, &mut keys);
+    liveness_lists(
+        components,
+        ports,
+        frontiers,
+        true,
+        &mut keys,
+        &mut source_at,
+        &mut sink_at,
+    );
     let answer = analyze_signal_liveness(
         components,
         ports,

@@ -18,6 +18,7 @@ use lists::Checked;
 use lists::Found;
 use lists::PORT;
 use lists::Refusal;
+use lists::ends::settle_ends;
 use lists::refusals::grouping_lists;
 use liveness::Analysis;
 use liveness::asked::make_ready;
@@ -30,6 +31,7 @@ ghost use Prim.Native.Nat.{_+_, _*_, _≤_};
 ghost use lib.ListN.{length};
 ghost use lib.IntN.{ℤ};
 ghost use Rattle.lists.specs.Ids.{IdTable};
+ghost use Rattle.lists.specs.Ends.{SettledEnds};
 ghost use Rattle.lists.specs.Records.{componentCount};
 ghost use Rattle.lines.specs.Wrote.{Put};
 ghost use Rattle.liveness.specs.Inputs.{Ready};
@@ -194,6 +196,8 @@ fn print_ready(
     scene: &[i64],
     ports: &[i64],
     frontiers: &[i64],
+    source_at: &[usize],
+    sink_at: &[usize],
     nets: &[u64],
     fragments: &[u64],
     regions: &[u64],
@@ -204,6 +208,7 @@ fn print_ready(
     out: &mut [u8],
 ) -> Printed
     requires { ⌜ ((ps : List ℤ) × (Accepts (now scene) ps (now frontiers) (now keys) × Gathered (now scene) ps (now ports) (now nets) (now fragments))) ⌝ }
+    requires { ⌜ SettledEnds (now scene) (now ports) (now «source_at») (now «sink_at») ⌝ }
     requires { ⌜ Analyzed (now scene) (now ports) (now frontiers) (now regions) (now sources) (now inputs) found ⌝ }
     requires { ⌜ 2 * componentCount (now scene) ≤ length (now stack) ⌝ }
     ensures { λ r. ⌜ ((ps : List ℤ) → Accepts (now (scene .entry)) ps (now (frontiers .entry)) (now (keys .entry)) →
@@ -220,6 +225,8 @@ fn print_ready(
         scene,
         ports,
         frontiers,
+        source_at,
+        sink_at,
         &mut fed[..m],
         &mut labels[..n],
         &mut upstream,
@@ -257,15 +264,20 @@ fn print_kept(
         Gathered (now (scene .entry)) ps (now (ports .entry)) (now (nets .entry)) (now (fragments .entry)) →
         PrintedBy (fits (reportOf (now (scene .entry)) ps (now (frontiers .entry))) (length (now (out .entry)))) (reportOf (now (scene .entry)) ps (now (frontiers .entry))) (now (out .entry)) (now (out .exit)) r) ⌝ }
 {
+    let mut source_at = [0usize; CONNECTIONS];
+    let mut sink_at = [0usize; CONNECTIONS];
     let mut regions = [0u64; COMPONENTS];
     let mut sources = [0u64; SOURCE_ROWS];
     let mut inputs = [0u64; INPUT_ROWS];
     let mut stack = [0usize; STACK];
+    settle_ends(keys, ports, &mut source_at, &mut sink_at);
     let found = analyze(
         keys,
         scene,
         ports,
         frontiers,
+        &source_at,
+        &sink_at,
         &mut regions,
         &mut sources,
         &mut inputs,
@@ -278,6 +290,8 @@ fn print_kept(
         scene,
         ports,
         frontiers,
+        &source_at,
+        &sink_at,
         nets,
         fragments,
         &regions,

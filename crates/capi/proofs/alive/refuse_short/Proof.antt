@@ -13,16 +13,18 @@ small-as {a} {b} e h = subst (λ (x : Checked). Small x) (sym e) h
 
 pack-requires : tie.Need-pack-requires
 pack-requires c κs =
-    let args = c .before .before .before .args in
-    small-as (c .before .liveness-lists .ensures .answer) (liveness-small (args .components .now) (args .ports .now) (args .frontiers .now) false)
+    let args = c .before .before .before .before .before .before .before .args in
+    small-as (c .before .before .before .liveness-lists .ensures .lists .answer) (liveness-small (args .components .now) (args .ports .now) (args .frontiers .now) false)
 
 returns : tie.Need-returns
-returns c = c .pack .ensures ∙ ap packed (c .before .before .liveness-lists .ensures .answer)
+returns c = c .pack .ensures ∙ ap packed (c .before .before .before .before .liveness-lists .ensures .lists .answer)
 
 pub refuse-short-spec : {M : Type 1} → statement M
 refuse-short-spec =
     tie.close
     (tie.spec
+    (λ c. search needs)
+    (λ c. search needs)
     (λ c. search needs)
     (λ c κs. search needs)
     pack-requires
