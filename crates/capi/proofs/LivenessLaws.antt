@@ -35,7 +35,7 @@ use Rattle.regions.proofs.Theorems.{region-laws}
 use Rattle.signals.specs.Signals.{signals}
 use Rattle.signals.specs.Regions.{regionCount, regionAt, regionsOf}
 use Rattle.signals.specs.Drive.{drive, potential}
-use Rattle.signals.specs.Verdicts.{sourceRows, inputRows}
+use Rattle.assessment.specs.Verdicts.{sourceRows, inputRows}
 use Rattle.liveness.specs.Sets.{SetWhere}
 use Rattle.liveness.specs.Entry.{AnalyzedBy}
 use Rattle.liveness.specs.declared.Analysis.{Analysis}

@@ -21,7 +21,7 @@ use Rattle.lists.specs.Slices.{leftOf, workOf}
 use Rattle.regions.specs.Graph.{marked}
 use Rattle.signals.specs.Regions.{regionCount, regionsOf, isCyclic, hasDrive}
 use Rattle.signals.specs.Drive.{drive, potential}
-use Rattle.signals.specs.Verdicts.{sourceRows, inputRows}
+use Rattle.assessment.specs.Verdicts.{sourceRows, inputRows}
 use Rattle.encoding.specs.Bytes.{numberBytes, numbers, bytesOf}
 
 -- 1: the bytes of the three lists are whole records within their limits

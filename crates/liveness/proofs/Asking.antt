@@ -35,10 +35,11 @@ use Rattle.signals.specs.Signals.{signals}
 use Rattle.signals.specs.Regions.{labels, isInferred}
 use Rattle.signals.specs.Drive.{membersWhere}
 use Rattle.signals.specs.Flags.{Indices}
-use Rattle.signals.specs.Upstream.{inRow, UpstreamRows}
+use Rattle.assessment.specs.Upstream.{inRow, UpstreamRows}
 use Rattle.signals.proofs.Tabulated.{tabulated-at}
-use Rattle.signals.proofs.Fed.{here, outside, and-true}
-use Rattle.signals.proofs.Statuses.{same-truth}
+use Rattle.lists.proofs.Some.{and-true}
+use Rattle.assessment.proofs.Fed.{here, outside}
+use Rattle.assessment.proofs.Statuses.{same-truth}
 use Rattle.signals.proofs.Within.{signals-within, scene-regions, labels-count, labels-under}
 use Rattle.liveness.specs.Sets.{SetWhere}
 use Rattle.liveness.specs.Query.{isImmediate, upstream, isInferredFor, rowPlace}

@@ -36,8 +36,8 @@ use Rattle.liveness.specs.Scene.{Scene}
 use Rattle.liveness.specs.Demand.{Chain, nil, link, RegionsOfScene}
 use Rattle.signals.proofs.Tabulated.{tab-length, tab-at}
 use Rattle.signals.proofs.Ends.{found-place, ends-below, ends-within, source-is}
-use Rattle.signals.proofs.Fed.{some-at}
-use Rattle.signals.proofs.Fed.{some-found}
+use Rattle.lists.proofs.Some.{some-at}
+use Rattle.lists.proofs.Some.{some-found}
 
 -- ---- every member stands for a component
 

@@ -46,12 +46,12 @@ use Rattle.regions.specs.Kosaraju.{reached}
 use Rattle.regions.proofs.Theorems.{keys-reach}
 use Rattle.signals.specs.Signals.{isSignal, sourceMember, sinkMember, signals}
 use Rattle.signals.specs.Drive.{membersWhere}
-use Rattle.signals.specs.Verdicts.{isRequired}
+use Rattle.assessment.specs.Verdicts.{isRequired}
 use Rattle.lists.specs.Ends.{Settled}
 use Rattle.signals.specs.Keys.{Slots, KeysOf, slot, ports}
 use Rattle.signals.specs.Flags.{Flags}
 use Rattle.liveness.specs.Sets.{SetWhere}
-use Rattle.signals.specs.Rows.{SlotWithin, slotFed}
+use Rattle.assessment.specs.Rows.{SlotWithin, slotFed}
 use Rattle.liveness.specs.Query.{isImmediate, upstream, isInferredFor, withRow, rowPlace, InputsBy, Answered}
 use Rattle.liveness.specs.Scene.{Scene, Prepared}
 use Rattle.signals.specs.Stages.{Tables, FedTable}
@@ -61,8 +61,8 @@ use Rattle.signals.proofs.Tabulated.{first-cong, tabulated-length, tabulated-at
 use Rattle.signals.proofs.Ends.{ends-within, sink-is}
 use Rattle.signals.proofs.Graph.{noSlot, fed-at, edges-back, and-assoc}
 use Rattle.signals.proofs.Marks.{set-marked}
-use Rattle.signals.proofs.Fed.{here, outside}
-use Rattle.signals.proofs.Statuses.{same-truth, fed-within}
+use Rattle.assessment.proofs.Fed.{here, outside}
+use Rattle.assessment.proofs.Statuses.{same-truth, fed-within}
 use Rattle.liveness.proofs.Answers.{set-where, set-same, set-below}
 
 -- ---- the keys of a slot

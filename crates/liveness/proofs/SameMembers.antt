@@ -20,12 +20,12 @@ use Rattle.regions.specs.Kosaraju.{regionOf, count, reached}
 use Rattle.signals.specs.Signals.{signals}
 use Rattle.signals.specs.Regions.{labels, regionAt, isCyclic, hasDrive, isPassive, kindAt, fedFromOutside, neighbours, isInferred}
 use Rattle.signals.specs.Drive.{drive, potential}
-use Rattle.signals.specs.Verdicts.{fedBy, statusOf, portRows, verdictRows, sourcesAt, sourceRowsBelow}
+use Rattle.assessment.specs.Verdicts.{fedBy, statusOf, portRows, verdictRows, sourcesAt, sourceRowsBelow}
 use Rattle.liveness.specs.Query.{isImmediate, upstream, isInferredFor}
 use Rattle.liveness.specs.Demand.{SameConnections, SameAnswer}
-use Rattle.signals.proofs.Fed.{some-at}
-use Rattle.signals.proofs.Fed.{some-found}
-use Rattle.signals.proofs.Statuses.{same-truth}
+use Rattle.lists.proofs.Some.{some-at}
+use Rattle.lists.proofs.Some.{some-found}
+use Rattle.assessment.proofs.Statuses.{same-truth}
 
 -- ---- a test
 

@@ -16,7 +16,7 @@ use Rattle.lists.specs.Records.{component, portConnection, componentCount, port
 use Rattle.signals.specs.Signals.{isSignal}
 use Rattle.signals.specs.Regions.{regionCount, regionsOf, isCyclic, hasDrive}
 use Rattle.signals.specs.Drive.{drive, potential}
-use Rattle.signals.specs.Verdicts.{sourceRows, inputRows}
+use Rattle.assessment.specs.Verdicts.{sourceRows, inputRows}
 use Rattle.liveness.specs.Query.{isImmediate, isInferredFor}
 
 -- from the id at its start to the id at its end; the empty chain leads only from an id to itself

@@ -14,7 +14,7 @@ use Rattle.lists.specs.declared.Checked.the-variants.{Accepted}
 use Rattle.regions.specs.Graph.{marked}
 use Rattle.signals.specs.Regions.{regionCount, regionsOf, isCyclic, hasDrive}
 use Rattle.signals.specs.Drive.{drive, potential}
-use Rattle.signals.specs.Verdicts.{sourceRows, inputRows}
+use Rattle.assessment.specs.Verdicts.{sourceRows, inputRows}
 use Rattle.liveness.specs.Sets.{SetWhere, counted}
 use Rattle.liveness.specs.Demand.{RegionsOfScene}
 use Rattle.liveness.specs.declared.Analysis.{Analysis}

@@ -28,7 +28,7 @@ use Rattle.signals.specs.Regions.{labels, isInferred}
 use Rattle.signals.specs.Drive.{membersWhere}
 use Rattle.signals.specs.Keys.{slot, ports}
 use Rattle.signals.specs.Stages.{FedTable}
-use Rattle.signals.specs.Upstream.{tableWords, inRow, UpstreamRows}
+use Rattle.assessment.specs.Upstream.{tableWords, inRow, UpstreamRows}
 use Rattle.liveness.specs.Sets.{SetWhere}
 use Rattle.liveness.specs.Query.{isImmediate, isInferredFor, atPlace}
 use Rattle.liveness.specs.Scene.{Scene, Prepared}

@@ -24,7 +24,7 @@ use Rattle.regions.specs.Kosaraju.{reached}
 use Rattle.signals.specs.Signals.{signals, sourceMember}
 use Rattle.signals.specs.Regions.{isInferred}
 use Rattle.signals.specs.Drive.{membersWhere}
-use Rattle.signals.specs.Verdicts.{feedsPort, isRequired}
+use Rattle.assessment.specs.Verdicts.{feedsPort, isRequired}
 use Rattle.liveness.specs.Sets.{SetWhere, counted}
 use Rattle.liveness.specs.declared.InputSources.{InputSources}
 

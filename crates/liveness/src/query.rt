@@ -18,7 +18,7 @@ use signals::edges::PORTS;
 use signals::flags::and_flags;
 use signals::flags::gather;
 use signals::stages::build_fed;
-use signals::verdicts::slot_fed;
+use assessment::verdicts::slot_fed;
 use tables::SPAN;
 ghost use mathlib.Core.Path.{_≡_};
 ghost use mathlib.Core.List.{List};
@@ -41,7 +41,7 @@ ghost use Rattle.signals.specs.Regions.{isInferred};
 ghost use Rattle.signals.specs.Drive.{membersWhere};
 ghost use Rattle.liveness.specs.Query.{rowPlace, InputsBy};
 ghost use Rattle.signals.specs.Flags.{Flags};
-ghost use Rattle.signals.specs.Rows.{slotFed, SlotWithin};
+ghost use Rattle.assessment.specs.Rows.{slotFed, SlotWithin};
 ghost use Rattle.liveness.specs.Scene.{Scene, Prepared};
 ghost use Rattle.liveness.specs.Inputs.{Inputs, InputsRoom, SlotOf, Walkable, UpstreamRoom, UpstreamSet};
 

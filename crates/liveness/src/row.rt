@@ -3,8 +3,8 @@ use lists::COMPONENT;
 use lists::Found;
 use lists::ids::place_of;
 use lists::numbers::natural_at;
-use signals::verdicts::first_required;
-use signals::verdicts::required_count;
+use assessment::verdicts::first_required;
+use assessment::verdicts::required_count;
 ghost use mathlib.Core.Path.{_≡_};
 ghost use mathlib.Core.Bool.{_&&_};
 ghost use Prim.Native.Nat.{_+_, _<_};
@@ -13,7 +13,7 @@ ghost use Rattle.lists.specs.Records.{componentCount};
 ghost use Rattle.lists.specs.Within.{Components};
 ghost use Rattle.lists.specs.Ids.{IdTable};
 ghost use Rattle.lists.specs.declared.Found.the-variants.{At};
-ghost use Rattle.signals.specs.Rows.{firstRequired, requiredCount};
+ghost use Rattle.assessment.specs.Rows.{firstRequired, requiredCount};
 ghost use Rattle.liveness.specs.Query.{withRow, rowPlace};
 
 // Ids are below this; the table of ids has no key past it.

@@ -16,7 +16,7 @@ use Rattle.lines.specs.Text.{ascii}
 use Rattle.lines.specs.Decimal.{lineOf}
 use Rattle.scene.specs.Kept.{keptRows}
 use Rattle.signals.specs.Regions.{regionCount}
-use Rattle.signals.specs.Verdicts.{sourceRows, inputRows}
+use Rattle.assessment.specs.Verdicts.{sourceRows, inputRows}
 use Rattle.liveness.specs.declared.Analysis.{Analysis}
 use Rattle.blocks.specs.Blocks.{blockText}
 use Rattle.report.specs.Report.{allRows, keptList, componentRows, regionRows, inputBlock, reportOf}

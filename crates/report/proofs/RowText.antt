@@ -18,7 +18,7 @@ use lib.Signed.{nonNeg}
 use Rattle.sets.specs.Members.{asNat, memberOf}
 use Rattle.lists.specs.Signed.{at}
 use Rattle.lists.specs.Records.{naturalAt}
-use Rattle.signals.specs.Rows.{Put}
+use Rattle.assessment.specs.Rows.{Put}
 use Rattle.report.specs.Report.{allRows}
 
 pub six-puts : (a b c d e f : ℕ) (l : List ℕ) (i : ℕ) → i + 6 ≤ length l

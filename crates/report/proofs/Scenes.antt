@@ -25,7 +25,7 @@ use Rattle.scene.specs.Kept.{keptRows}
 use Rattle.scene.proofs.KeptEnds.{kept-whole, kept-no-missing}
 use Rattle.scene.proofs.KeptWithin.{kept-within}
 use Rattle.signals.specs.Regions.{regionAt, regionsOf}
-use Rattle.signals.specs.Verdicts.{sourceRows, inputRows}
+use Rattle.assessment.specs.Verdicts.{sourceRows, inputRows}
 use Rattle.signals.proofs.Tabulated.{tab-length}
 use Rattle.signals.proofs.Within.{scene-regions}
 use Rattle.liveness.specs.Scene.{Scene}

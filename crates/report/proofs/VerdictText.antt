@@ -19,7 +19,7 @@ use Rattle.lists.specs.declared.Found.the-variants.{At, Nothing}
 use Rattle.lists.proofs.Search.{first-is}
 use Rattle.lists.proofs.Members.{ids-distinct}
 use Rattle.faces.specs.Ports.{portsOf}
-use Rattle.signals.specs.Verdicts.{statusOf, isRequired, portRows, verdictRows, inputRows}
+use Rattle.assessment.specs.Verdicts.{statusOf, isRequired, portRows, verdictRows, inputRows}
 use Rattle.liveness.specs.Query.{rowPlace}
 use Rattle.liveness.specs.Inputs.{PortSets}
 use Rattle.liveness.specs.declared.InputSources.{InputSources}

@@ -22,7 +22,7 @@ use Rattle.liveness.specs.Query.{rowPlace, atPlace, isImmediate, isInferredFor}
 use Rattle.regions.specs.Graph.{marked}
 use Rattle.signals.specs.Regions.{regionCount, regionsOf, isCyclic, hasDrive}
 use Rattle.signals.specs.Drive.{drive, potential}
-use Rattle.signals.specs.Verdicts.{sourceRows, inputRows}
+use Rattle.assessment.specs.Verdicts.{sourceRows, inputRows}
 use Rattle.liveness.specs.Sets.{SetWhere}
 use Rattle.liveness.specs.declared.Analysis.{Analysis}
 use Rattle.lists.specs.Records.{component, componentCount}

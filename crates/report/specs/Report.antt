@@ -26,7 +26,7 @@ use Rattle.scene.specs.Kept.{keptRows}
 use Rattle.regions.specs.Graph.{marked}
 use Rattle.signals.specs.Regions.{regionAt, regionCount, isCyclic, hasDrive}
 use Rattle.signals.specs.Drive.{drive, potential}
-use Rattle.signals.specs.Verdicts.{statusOf, isRequired, sourceRows, inputRows}
+use Rattle.assessment.specs.Verdicts.{statusOf, isRequired, sourceRows, inputRows}
 use Rattle.liveness.specs.Query.{isImmediate, isInferredFor}
 
 -- ---- numbers

@@ -14,7 +14,7 @@ ghost use Rattle.lists.specs.Records.{componentCount};
 ghost use Rattle.lists.specs.Ids.{IdTable};
 ghost use Rattle.lists.specs.Within.{Components};
 ghost use Rattle.lists.specs.Slices.{laid};
-ghost use Rattle.signals.specs.Rows.{Put};
+ghost use Rattle.assessment.specs.Rows.{Put};
 ghost use Rattle.report.specs.Report.{allRows};
 ghost use Rattle.report.specs.Printing.{componentRowBy, regionRowBy, AllNatural};
 

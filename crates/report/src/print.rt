@@ -24,7 +24,7 @@ use liveness::Analysis;
 use liveness::asked::make_ready;
 use liveness::steps::analyze;
 use scene::connections::keep_all;
-use signals::upstream::TABLE;
+use assessment::upstream::TABLE;
 ghost use mathlib.Core.Path.{_≡_};
 ghost use mathlib.Core.List.{List};
 ghost use Prim.Native.Nat.{_+_, _*_, _≤_};

@@ -28,7 +28,7 @@ use Rattle.signals.specs.Signals.{isSignal, sourceMember, sinkMember, si
 use Rattle.signals.specs.Flags.{Indices}
 use Rattle.signals.specs.Seen.{SignalEnds}
 use Rattle.signals.specs.Crossings.{regionKey, isCrossing, CrossingKeys}
-use Rattle.signals.proofs.Fed.{some-at, some-found, and-true}
+use Rattle.lists.proofs.Some.{some-at, some-found, and-true}
 use Rattle.signals.proofs.Within.{signal-at, at-signal}
 
 -- ---- a key

@@ -27,7 +27,7 @@ use Rattle.signals.specs.Signals.{isSignal, sourceMember, sinkMember, si
 use Rattle.signals.specs.Regions.{labels, regionAt}
 use Rattle.signals.specs.Flags.{Numbers, Indices}
 use Rattle.signals.proofs.Ends.{ends-within}
-use Rattle.signals.proofs.Fed.{some-at, some-found}
+use Rattle.lists.proofs.Some.{some-at, some-found}
 
 -- ---- an edge is a signal connection
 

@@ -3,12 +3,8 @@ pub mod Signals
 pub mod Sources
 pub mod Regions
 pub mod Drive
-pub mod Verdicts
 pub mod Keys
 pub mod Flags
 pub mod Seen
-pub mod Rows
-pub mod Places
 pub mod Stages
 pub mod Crossings
-pub mod Upstream

@@ -25,7 +25,7 @@ use Rattle.signals.specs.Signals.{signals}
 use Rattle.signals.specs.Sources.{sourceKind, firstAt, onFrontier}
 use Rattle.signals.specs.Regions.{isCyclic, hasDrive, fedFromOutside, neighbours, isInferred}
 use Rattle.signals.specs.Drive.{membersWhere, drive, potential}
-use Rattle.signals.specs.Verdicts.{fedBy, statusOf, portRows, verdictRows, sourcesAt, sourceRowsBelow}
+use Rattle.assessment.specs.Verdicts.{fedBy, statusOf, portRows, verdictRows, sourcesAt, sourceRowsBelow}
 use Rattle.report.specs.Report.{allRows, verdictLines, reportOf}
 use Rattle.worked.specs.Plots.{dust, Answers, groupingChecks, idsOf, three, expected, Worked, w1, w2, w3, w4, w5, w6, w7, w8, w9, w10, w11, w12}
 

@@ -28,7 +28,7 @@ use Rattle.faces.specs.Select.{selectPort}
 use Rattle.scene.specs.Kept.{keptRows, keptCount}
 use Rattle.regions.specs.Graph.{range, filter}
 use Rattle.signals.specs.Regions.{regionsOf, regionCount, isCyclic}
-use Rattle.signals.specs.Verdicts.{sourceRows, inputRows}
+use Rattle.assessment.specs.Verdicts.{sourceRows, inputRows}
 use Rattle.report.specs.Report.{reportOf}
 
 -- ---- components and connections

@@ -24,7 +24,7 @@ use Rattle.signals.proofs.Ends.{ends-within}
 use Rattle.signals.proofs.Lent.{indices-same}
 use Rattle.signals.proofs.Staged.{source-ends, sink-ends}
 use Rattle.signals.proofs.Within.{labels-count, labels-under, places-under}
-use Rattle.signals.proofs.Reached.{drive-is, potential-is}
+use Rattle.assessment.proofs.Reached.{drive-is, potential-is}
 use Rattle.liveness.specs.Scene.{SceneRegions}
 use Rattle.liveness.proofs.alive.flag_alive.Statement.{statement}
 use Rattle.liveness.proofs.alive.flag_alive.Tie as tie

@@ -12,9 +12,9 @@ use Rattle.lists.specs.declared.Found.the-variants.{At, Nothing}
 use Rattle.lists.proofs.Search.{record-within}
 use Rattle.lists.proofs.Fields.{field-nonNeg}
 use Rattle.faces.specs.Ports.{portsOf}
-use Rattle.signals.specs.Verdicts.{isRequired}
-use Rattle.signals.specs.Rows.{firstRequired, requiredCount}
-use Rattle.signals.proofs.Required.{row-of}
+use Rattle.assessment.specs.Verdicts.{isRequired}
+use Rattle.assessment.specs.Rows.{firstRequired, requiredCount}
+use Rattle.assessment.proofs.Required.{row-of}
 use Rattle.liveness.proofs.row.with_row.Statement.{statement}
 use Rattle.liveness.proofs.row.with_row.Tie as tie
 

@@ -9,8 +9,8 @@ use native.Mathlib.Numerals.{add-one}
 use native.Mathlib.Omega.{arith}
 use lib.ListN.{length, getD, length-set}
 use Rattle.lists.specs.First.{tabulate}
-use Rattle.signals.specs.Rows.{Put}
-use Rattle.signals.proofs.Written.{one-put, put-nothing, put-more}
+use Rattle.assessment.specs.Rows.{Put}
+use Rattle.assessment.proofs.Written.{one-put, put-nothing, put-more}
 use Rattle.liveness.proofs.steps.put_regions.Statement.{statement}
 use Rattle.liveness.proofs.steps.put_regions.Tie as tie
 

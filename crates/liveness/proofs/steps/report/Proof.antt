@@ -18,15 +18,15 @@ use Rattle.regions.proofs.Fill.{zeros-cleared}
 use Rattle.signals.specs.Signals.{signals}
 use Rattle.signals.specs.Regions.{regionAt, regionsOf}
 use Rattle.signals.specs.Drive.{drive, potential}
-use Rattle.signals.specs.Verdicts.{sourceRowsBelow}
-use Rattle.signals.specs.Rows.{sourcesBelow}
+use Rattle.assessment.specs.Verdicts.{sourceRowsBelow}
+use Rattle.assessment.specs.Rows.{sourcesBelow}
 use Rattle.signals.specs.Seen.{SignalEnds}
 use Rattle.signals.specs.Stages.{cyclicAt}
 use Rattle.signals.proofs.Lent.{front, front-long}
 use Rattle.signals.proofs.Ends.{ends-within}
 use Rattle.signals.proofs.Graph.{edges-signals}
 use Rattle.signals.proofs.Staged.{labels-long, labels-below, regions-few, cyclic-is, sink-ends}
-use Rattle.signals.proofs.RowLaws.{sources-are, inferred-alone}
+use Rattle.assessment.proofs.RowLaws.{sources-are, inferred-alone}
 use Rattle.liveness.proofs.Answers.{set-all, set-where, set-same, tabulated-same}
 use Rattle.liveness.proofs.steps.report.Statement.{statement}
 use Rattle.liveness.proofs.steps.report.Tie as tie

@@ -9,7 +9,7 @@ use lib.ListN.{length}
 use Rattle.lists.specs.Ids.{smallerIds}
 use Rattle.lists.proofs.Search.{record-within}
 use Rattle.lists.proofs.Fields.{first-nonNeg, first-most}
-use Rattle.signals.proofs.Devices.{RowsPut, below-none, below-more, below-all}
+use Rattle.assessment.proofs.Devices.{RowsPut, below-none, below-more, below-all}
 use Rattle.report.specs.Report.{allRows}
 use Rattle.report.specs.Printing.{componentRowBy}
 use Rattle.report.proofs.RowText.{row-read, flag-read}

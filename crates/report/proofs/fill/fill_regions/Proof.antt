@@ -5,7 +5,7 @@ use mathlib.Core.Path.{refl}
 use mathlib.Core.List.{List, []}
 use Prim.Native.Nat.{ℕ, _-_}
 use native.Mathlib.Omega.{arith}
-use Rattle.signals.proofs.Devices.{RowsPut, below-none, below-more, below-all}
+use Rattle.assessment.proofs.Devices.{RowsPut, below-none, below-more, below-all}
 use Rattle.report.specs.Report.{allRows}
 use Rattle.report.specs.Printing.{regionRowBy}
 use Rattle.report.proofs.RowText.{pair-read, flag-read}

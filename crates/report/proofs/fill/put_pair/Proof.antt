@@ -3,7 +3,7 @@
 use borrow.Author.Needs.{needs}
 use native.Mathlib.Omega.{arith}
 use lib.ListN.{length-set}
-use Rattle.signals.proofs.Written.{two-puts}
+use Rattle.assessment.proofs.Written.{two-puts}
 use Rattle.report.proofs.fill.put_pair.Statement.{statement}
 use Rattle.report.proofs.fill.put_pair.Tie as tie
 

@@ -8,7 +8,7 @@ use native.Mathlib.Omega.{arith}
 use lib.ListN.{length}
 use lib.Seq.{length-take-le}
 use Rattle.lists.specs.Ends.{SettledEnds}
-use Rattle.signals.specs.Verdicts.{sourceRows, inputRows}
+use Rattle.assessment.specs.Verdicts.{sourceRows, inputRows}
 use Rattle.liveness.specs.Scene.{Scene}
 use Rattle.report.proofs.Scenes.{kept-scene, front-long, analyzed}
 use Rattle.report.proofs.print.print_kept.Statement.{statement}

@@ -11,7 +11,7 @@ use Rattle.sets.proofs.Words.{getD-zeros}
 use Rattle.lists.specs.Limits.{componentLimit, connectionLimit}
 use Rattle.lists.specs.Records.{componentCount, portCount}
 use Rattle.lists.proofs.Table.{table-long}
-use Rattle.signals.specs.Upstream.{tableWords}
+use Rattle.assessment.specs.Upstream.{tableWords}
 use Rattle.signals.proofs.Lent.{front, front-long, front-length}
 use Rattle.liveness.specs.Scene.{Scene}
 use Rattle.liveness.specs.Inputs.{Ready}
