@@ -21,13 +21,13 @@ use Rattle.lists.specs.Records.{componentCount}
 use Rattle.lists.specs.Ranges.{firstOutOfRange, componentLow, componentHigh, connectionLow, connectionHigh, portLow, portHigh, frontierLow, frontierHigh}
 use Rattle.lists.specs.Order.{firstNotAscending, componentOrder, connectionOrder}
 use Rattle.lists.specs.Ids.{firstRepeated, firstEndMissing}
-use Rattle.lists.specs.Refusals.{refuse, _or-else_, notWhole, tooShort, roomFor, groupingLists, livenessLists, livenessRoom, Small}
+use Rattle.checks.specs.Refusals.{refuse, _or-else_, notWhole, tooShort, roomFor, groupingLists, livenessLists, livenessRoom, Small}
 use Rattle.lists.specs.declared.Refusal.{Refusal}
 use Rattle.lists.specs.declared.Found.{Found}
 use Rattle.lists.specs.declared.Found.the-variants.{At, Nothing}
 use Rattle.lists.specs.declared.Checked.{Checked}
 use Rattle.lists.specs.declared.Checked.the-variants.{Accepted, Refused}
-use Rattle.lists.proofs.Small.{small-or-else, grouping-small, liveness-small}
+use Rattle.checks.proofs.Small.{small-or-else, grouping-small, liveness-small}
 use Rattle.encoding.specs.Bytes.{numberBytes, littleEndian, signed, firstNumbers, numbers, lowBytes, bytesOf}
 use Rattle.encoding.specs.Entry.{groupsWhole, groupsRefusal, groupsNumber, GroupsByBytes}
 use Rattle.capi.specs.Liveness.{setCount, livenessWhole, livenessBytesRefusal, livenessNumber, LivenessByBytes}

@@ -22,15 +22,15 @@ use Rattle.sets.proofs.Words.{true-not-false}
 use Rattle.sets.proofs.Unique.{set-unique}
 use Rattle.lists.specs.Limits.{componentLimit, connectionLimit, frontierLimit, componentWidth, portWidth, frontierWidth}
 use Rattle.lists.specs.Records.{componentCount}
-use Rattle.lists.specs.Refusals.{refuse, _or-else_, notWhole, roomFor, livenessLists, livenessRoom, livenessRefusal, Small, packed}
+use Rattle.checks.specs.Refusals.{refuse, _or-else_, notWhole, roomFor, livenessLists, livenessRoom, livenessRefusal, Small, packed}
 use Rattle.lists.specs.Slices.{laid}
 use Rattle.lists.specs.declared.Refusal.{Refusal}
 use Rattle.lists.specs.declared.Checked.{Checked}
 use Rattle.lists.specs.declared.Checked.the-variants.{Accepted, Refused}
-use Rattle.lists.proofs.Chain.{both-accept}
-use Rattle.lists.proofs.Accepts.{refuse-none, whole-few, whole-all}
-use Rattle.lists.proofs.Small.{small-or-else, whole-small}
-use Rattle.lists.proofs.Accepted.{liveness-accept}
+use Rattle.checks.proofs.Chain.{both-accept}
+use Rattle.checks.proofs.Accepts.{refuse-none, whole-few, whole-all}
+use Rattle.checks.proofs.Small.{small-or-else, whole-small}
+use Rattle.checks.proofs.Accepted.{liveness-accept}
 use Rattle.regions.proofs.Theorems.{region-laws}
 use Rattle.signals.specs.Signals.{signals}
 use Rattle.signals.specs.Regions.{regionCount, regionAt, regionsOf}

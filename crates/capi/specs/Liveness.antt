@@ -14,7 +14,7 @@ use lib.IntN.{ℤ}
 use Rattle.sets.specs.Members.{wordCount, setWords}
 use Rattle.lists.specs.Limits.{componentLimit, connectionLimit, frontierLimit, componentWidth, portWidth, frontierWidth}
 use Rattle.lists.specs.Records.{componentCount}
-use Rattle.lists.specs.Refusals.{refuse, _or-else_, notWhole, roomFor, livenessLists, livenessRoom, packed}
+use Rattle.checks.specs.Refusals.{refuse, _or-else_, notWhole, roomFor, livenessLists, livenessRoom, packed}
 use Rattle.lists.specs.declared.Checked.{Checked}
 use Rattle.lists.specs.declared.Checked.the-variants.{Accepted, Refused}
 use Rattle.lists.specs.Slices.{leftOf, workOf}

@@ -4,6 +4,10 @@ mod alive;
 
 ghost use Rattle.encoding.specs.Entry.{GroupsByBytes};
 ghost use Rattle.capi.specs.Liveness.{LivenessByBytes};
+use checks::refusals::not_whole;
+use checks::refusals::or_else;
+use checks::refusals::pack;
+use checks::refusals::refuse_at;
 use encoding::bytes::NUMBER;
 use lists::COMPONENT;
 use lists::COMPONENTS;
@@ -13,10 +17,6 @@ use lists::Checked;
 use lists::FRONTIER;
 use lists::FRONTIERS;
 use lists::PORT;
-use lists::refusals::not_whole;
-use lists::refusals::or_else;
-use lists::refusals::pack;
-use lists::refusals::refuse_at;
 
 // The number of each component's net and fragment, at the front of the lent slices.
 #[no_mangle]

@@ -15,7 +15,7 @@ use lib.IntN.{ℤ}
 use Rattle.lists.specs.Records.{connection, componentCount, connectionCount}
 use Rattle.lists.specs.First.{firstFrom, isFound}
 use Rattle.lists.specs.Ids.{placeOf}
-use Rattle.lists.specs.Refusals.{groupingRefusal, refusalNumbers, numbersBy}
+use Rattle.checks.specs.Refusals.{groupingRefusal, refusalNumbers, numbersBy}
 use Rattle.lists.specs.Slices.{laid, leftOf}
 use Rattle.lists.specs.declared.Found.{Found}
 use Rattle.lists.specs.declared.Found.the-variants.{At, Nothing}

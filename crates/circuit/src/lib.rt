@@ -9,12 +9,12 @@ ghost use lib.Dec.{eqb};
 ghost use Rattle.sets.specs.Members.{memberOf};
 ghost use Rattle.lists.specs.Limits.{componentLimit};
 ghost use Rattle.circuit.specs.Topology.{Grouped, sharesMember};
+use checks::refusals::grouping_lists;
+use checks::refusals::room_for;
 use lists::COMPONENT;
 use lists::COMPONENTS;
 use lists::Checked;
 use lists::Refusal;
-use lists::refusals::grouping_lists;
-use lists::refusals::room_for;
 use sets::ComponentSet;
 
 // How many nets and fragments a scene has.

@@ -18,16 +18,16 @@ use lib.IntN.{ℤ}
 use borrow.Author.Tests.{leb-true, leb-false, le-leb, lt-leb}
 use Rattle.lists.specs.Limits.{componentLimit, connectionLimit, componentWidth, connectionWidth}
 use Rattle.lists.specs.Records.{componentCount}
-use Rattle.lists.specs.Refusals.{refuse, notWhole, roomFor, groupingRefusal, Small, packed}
+use Rattle.checks.specs.Refusals.{refuse, notWhole, roomFor, groupingRefusal, Small, packed}
 use Rattle.lists.specs.Slices.{laid}
 use Rattle.lists.specs.declared.Refusal.{Refusal}
 use Rattle.lists.specs.declared.Checked.{Checked}
 use Rattle.lists.specs.declared.Checked.the-variants.{Accepted, Refused as CheckRefused}
 use Rattle.lists.proofs.Search.{both}
-use Rattle.lists.proofs.Chain.{both-accept}
-use Rattle.lists.proofs.Accepts.{refuse-none, whole-few, whole-all}
-use Rattle.lists.proofs.Small.{small-or-else, whole-small}
-use Rattle.lists.proofs.Accepted.{grouping-accept, room-places}
+use Rattle.checks.proofs.Chain.{both-accept}
+use Rattle.checks.proofs.Accepts.{refuse-none, whole-few, whole-all}
+use Rattle.checks.proofs.Small.{small-or-else, whole-small}
+use Rattle.checks.proofs.Accepted.{grouping-accept, room-places}
 use Rattle.lists.specs.Slices.{leftOf}
 use Rattle.circuit.specs.Topology.{answerOf, netsOf, fragmentsOf, netCount, fragmentCount}
 use Rattle.circuit.specs.declared.Counts.{Counts}

@@ -10,7 +10,7 @@ use mathlib.Core.List.{List}
 use lib.ListN.{length}
 use lib.IntN.{ℤ}
 use Rattle.lists.specs.Limits.{componentLimit, connectionLimit, componentWidth, connectionWidth}
-use Rattle.lists.specs.Refusals.{refuse, _or-else_, notWhole, groupingRefusal, packed}
+use Rattle.checks.specs.Refusals.{refuse, _or-else_, notWhole, groupingRefusal, packed}
 use Rattle.lists.specs.declared.Checked.{Checked}
 use Rattle.lists.specs.declared.Checked.the-variants.{Accepted, Refused}
 use Rattle.lists.specs.Slices.{leftOf}

@@ -4,7 +4,7 @@ ghost use Prim.Native.Nat.{_+_, _*_, _/_, _≤_};
 ghost use lib.ListN.{length};
 ghost use Rattle.lists.specs.Limits.{componentLimit};
 ghost use Rattle.lists.specs.Records.{componentCount};
-ghost use Rattle.lists.specs.Refusals.{groupingRefusal};
+ghost use Rattle.checks.specs.Refusals.{groupingRefusal};
 ghost use Rattle.lists.specs.declared.Checked.the-variants.{Accepted};
 ghost use Rattle.encoding.specs.Bytes.{numberBytes, numbers};
 ghost use Rattle.encoding.specs.Entry.{groupsWhole, GroupsLaid, GroupsByBytes};
@@ -12,6 +12,7 @@ use super::bytes::NUMBER;
 use super::bytes::decode;
 use super::bytes::encode;
 use super::bytes::places;
+use checks::refusals::pack;
 use circuit::Grouping;
 use circuit::from_parts;
 use lists::COMPONENT;
@@ -19,7 +20,6 @@ use lists::COMPONENTS;
 use lists::CONNECTION;
 use lists::CONNECTIONS;
 use lists::Checked;
-use lists::refusals::pack;
 
 // The counts of an accepted scene as one number.
 fn pack_counts(nets: usize, fragments: usize) -> u64

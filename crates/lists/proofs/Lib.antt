@@ -3,10 +3,6 @@ pub mod Search
 pub mod Some
 pub mod Signed
 pub mod Fields
-pub mod Chain
-pub mod Accepts
-pub mod Accepted
-pub mod Small
 pub mod Ordering
 pub mod Table
 pub mod Members

@@ -8,6 +8,4 @@ pub mod Within
 pub mod Order
 pub mod Ids
 pub mod Ends
-pub mod Refusals
-pub mod Checks
 pub mod Slices

@@ -1,11 +1,10 @@
-// The lists of a scene: what they may hold, where an id stands, and the refusal of each entry.
+// The lists of a scene: what they may hold, where an id stands, the ends of port connections. Their refusals are crate checks.
 pub mod ends;
 pub mod hints;
 pub mod ids;
 pub mod numbers;
-mod order;
-mod ranges;
-pub mod refusals;
+pub mod order;
+pub mod ranges;
 
 // ---- limits: nothing else in the product repeats these numbers
 

@@ -19,11 +19,11 @@ use lib.IntN.{ℤ}
 use Rattle.sets.specs.Members.{memberOf, SetOf}
 use Rattle.tables.specs.Laws.{order?}
 use Rattle.lists.specs.First.{tabulate}
-use Rattle.lists.specs.Refusals.{livenessRefusal}
+use Rattle.checks.specs.Refusals.{livenessRefusal}
 use Rattle.lists.specs.declared.Refusal.{Refusal}
 use Rattle.lists.specs.declared.Checked.the-variants.{Accepted, Refused}
-use Rattle.lists.proofs.Chain.{refused-not}
-use Rattle.lists.proofs.Accepted.{LivenessScene}
+use Rattle.checks.proofs.Chain.{refused-not}
+use Rattle.checks.proofs.Accepted.{LivenessScene}
 use Rattle.regions.specs.Graph.{marked}
 use Rattle.signals.specs.Flags.{Flags}
 use Rattle.liveness.specs.Sets.{SetWhere}

@@ -32,7 +32,7 @@ use Rattle.lists.specs.Ids.{placeBelow, placeOf, smallerIds, memberOf, firstEnd
 use Rattle.lists.specs.Within.{Components, PortConnections}
 use Rattle.lists.specs.declared.Found.{Found}
 use Rattle.lists.specs.declared.Found.the-variants.{At, Nothing}
-use Rattle.lists.specs.Refusals.{refuse, tooShort, _or-else_, queryRefusal}
+use Rattle.checks.specs.Refusals.{refuse, tooShort, _or-else_, queryRefusal}
 use Rattle.lists.specs.declared.Checked.{Checked}
 use Rattle.lists.specs.declared.Checked.the-variants.{Accepted}
 use Rattle.lists.proofs.Search.{never, both, or-true, none-found, found-at}

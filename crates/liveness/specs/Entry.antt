@@ -7,7 +7,7 @@ use mathlib.Core.List.{List}
 use lib.ListN.{length}
 use lib.IntN.{ℤ}
 use Rattle.lists.specs.Records.{componentCount}
-use Rattle.lists.specs.Refusals.{livenessRefusal}
+use Rattle.checks.specs.Refusals.{livenessRefusal}
 use Rattle.lists.specs.Slices.{leftOf, workOf}
 use Rattle.lists.specs.declared.Checked.{Checked}
 use Rattle.lists.specs.declared.Checked.the-variants.{Accepted}

@@ -13,7 +13,7 @@ use lib.IntN.{ℤ}
 use Rattle.lists.specs.Records.{component, componentCount, portCount}
 use Rattle.lists.specs.First.{isFound, some, tabulate}
 use Rattle.lists.specs.Ids.{placeOf}
-use Rattle.lists.specs.Refusals.{refuse, tooShort, _or-else_, queryRefusal}
+use Rattle.checks.specs.Refusals.{refuse, tooShort, _or-else_, queryRefusal}
 use Rattle.lists.specs.Slices.{workOf}
 use Rattle.lists.specs.declared.Found.{Found}
 use Rattle.lists.specs.declared.Found.the-variants.{At, Nothing}

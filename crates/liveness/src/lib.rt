@@ -6,13 +6,13 @@ mod query;
 mod row;
 pub mod steps;
 
+use checks::refusals::liveness_lists;
+use checks::refusals::room_for;
 use lists::COMPONENT;
 use lists::COMPONENTS;
 use lists::CONNECTIONS;
 use lists::Checked;
 use lists::Refusal;
-use lists::refusals::liveness_lists;
-use lists::refusals::room_for;
 use query::query_scene;
 use query::refused_input;
 use sets::ComponentSet;

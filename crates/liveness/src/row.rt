@@ -1,10 +1,10 @@
 // The port asked for: where its component stands, if the port has a verdict row.
+use assessment::verdicts::first_required;
+use assessment::verdicts::required_count;
 use lists::COMPONENT;
 use lists::Found;
 use lists::ids::place_of;
 use lists::numbers::natural_at;
-use assessment::verdicts::first_required;
-use assessment::verdicts::required_count;
 ghost use mathlib.Core.Path.{_≡_};
 ghost use mathlib.Core.Bool.{_&&_};
 ghost use Prim.Native.Nat.{_+_, _<_};

@@ -12,11 +12,11 @@ use lib.Dec.{leb, ltb}
 use lib.IntN.{pos}
 use lib.ListN.{length, length-append}
 use borrow.Author.Tests.{le-leb, lt-leb, leb-true}
-use Rattle.lists.specs.Refusals.{refuse, tooShort, sheetRefusal, _or-else_}
+use Rattle.checks.specs.Refusals.{refuse, tooShort, sheetRefusal, _or-else_}
 use Rattle.lists.specs.declared.Checked.{Checked}
 use Rattle.lists.specs.declared.Checked.the-variants as checked
 use Rattle.lists.specs.declared.Refusal.{Refusal}
-use Rattle.lists.proofs.Chain.{both-accept}
+use Rattle.checks.proofs.Chain.{both-accept}
 use Rattle.lines.specs.Text.{ascii}
 use Rattle.lines.specs.Decimal.{digitsThen, digits, lineOf}
 use Rattle.lines.proofs.Writing.{line-size}

@@ -9,7 +9,7 @@ use mathlib.Core.List.{List}
 use lib.Dec.{leb}
 use lib.ListN.{length}
 use Rattle.lists.specs.Limits.{componentWidth, connectionWidth, frontierWidth}
-use Rattle.lists.specs.Refusals.{refuse, _or-else_}
+use Rattle.checks.specs.Refusals.{refuse, _or-else_}
 use Rattle.lists.specs.declared.Checked.{Checked}
 use Rattle.lists.specs.declared.Found.{Found}
 use Rattle.lists.specs.declared.Found.the-variants.{At, Nothing}

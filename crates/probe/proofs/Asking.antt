@@ -7,10 +7,10 @@ use native.Mathlib.Omega.{arith}
 use lib.IntN.{ℤ}
 use Rattle.lists.specs.Records.{componentCount}
 use Rattle.lists.specs.First.{isFound}
-use Rattle.lists.specs.Refusals.{refuse, tooShort, roomFor, _or-else_, queryRefusal, Small}
+use Rattle.checks.specs.Refusals.{refuse, tooShort, roomFor, _or-else_, queryRefusal, Small}
 use Rattle.lists.specs.declared.Checked.{Checked}
 use Rattle.lists.specs.declared.Checked.the-variants.{Accepted, Refused}
-use Rattle.lists.proofs.Small.{liveness-small}
+use Rattle.checks.proofs.Small.{liveness-small}
 use Rattle.liveness.specs.Query.{inputRefusal, rowPlace}
 
 or-small : (a b : Checked) → Small a → Small b → Small (a or-else b)

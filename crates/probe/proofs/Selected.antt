@@ -8,7 +8,7 @@ use Rattle.lists.specs.declared.Refusal.{Refusal}
 use Rattle.lists.specs.declared.Checked.{Checked}
 use Rattle.lists.specs.declared.Checked.the-variants.{Accepted, Refused}
 use Rattle.scene.specs.Answer.{answerOf}
-use Rattle.lists.specs.Refusals.{numbersBy}
+use Rattle.checks.specs.Refusals.{numbersBy}
 use Rattle.scene.specs.declared.connections.Selected.the-variants as selected
 
 pub kept-accepted : (k : Checked) (count m : ℕ) → answerOf (selected.Kept m) ≡ numbersBy k (count ∷ []) → (k ≡ Accepted) × (m ≡ count)

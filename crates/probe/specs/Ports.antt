@@ -6,7 +6,7 @@ use mathlib.Core.Bool.{Bool, true, false}
 use mathlib.Core.List.{List, [], map}
 use lib.ListN.{length, getD}
 use lib.IntN.{ℤ, pos}
-use Rattle.lists.specs.Refusals.{portsRefusal, packed}
+use Rattle.checks.specs.Refusals.{portsRefusal, packed}
 use Rattle.lists.specs.Slices.{leftOf}
 use Rattle.lists.specs.declared.Checked.{Checked}
 use Rattle.lists.specs.declared.Checked.the-variants.{Accepted, Refused}

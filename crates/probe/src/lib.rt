@@ -7,8 +7,12 @@ mod sheets;
 ghost use mathlib.Core.Path.{_≡_};
 ghost use mathlib.Core.Bool.{true};
 ghost use mathlib.Core.List.{[]};
-ghost use Rattle.lists.specs.Refusals.{groupingLists, groupingRefusal, portsRefusal, livenessRefusal, queryRefusal, sheetRefusal, packed};
+ghost use Rattle.checks.specs.Refusals.{groupingLists, groupingRefusal, portsRefusal, livenessRefusal, queryRefusal, sheetRefusal, packed};
 ghost use Rattle.probe.specs.Places.{IsPlace, answerOf, placeAmong, MemberAnswer};
+use checks::refusals::grouping_lists;
+use checks::refusals::liveness_lists;
+use checks::refusals::pack;
+use checks::refusals::room_for;
 use lists::COMPONENT;
 use lists::COMPONENTS;
 use lists::CONNECTION;
@@ -18,10 +22,6 @@ use lists::Found;
 use lists::PORT;
 use lists::ids::place_at;
 use lists::ids::place_of;
-use lists::refusals::grouping_lists;
-use lists::refusals::liveness_lists;
-use lists::refusals::pack;
-use lists::refusals::room_for;
 
 #[no_mangle]
 pub extern "C" fn probe_grouping_refusal(

@@ -1,9 +1,9 @@
 // Ports, steps and kept connections for the tests from Rust.
+use checks::refusals::pack;
 use faces::ports::port_count;
 use faces::ports::ports_for;
 use faces::step::facing_between;
 use lists::Checked;
-use lists::refusals::pack;
 use scene::connections::Selected;
 use scene::connections::port_connections;
 ghost use mathlib.Core.Path.{_≡_};

@@ -1,5 +1,5 @@
 // The input query for the tests from Rust: its refusal, and its two sets word by word.
-use lists::refusals::pack;
+use checks::refusals::pack;
 use liveness::required_input;
 use sets::ComponentSet;
 use sets::WORDS;
@@ -7,7 +7,7 @@ ghost use mathlib.Core.Path.{_≡_};
 ghost use Prim.Native.Nat.{_≤_, _<_};
 ghost use lib.ListN.{length, getD};
 ghost use Rattle.sets.specs.Members.{wordCount};
-ghost use Rattle.lists.specs.Refusals.{packed};
+ghost use Rattle.checks.specs.Refusals.{packed};
 ghost use Rattle.lists.specs.Slices.{workOf};
 ghost use Rattle.liveness.specs.Query.{inputRefusal, isImmediate, isInferredFor};
 ghost use Rattle.probe.specs.Inputs.{WordOf};

@@ -13,7 +13,7 @@ use lib.ListN.{length}
 use lib.IntN.{ℤ}
 use Rattle.tables.specs.Laws.{order?}
 use Rattle.lists.specs.Limits.{componentLimit, connectionLimit, componentWidth, portWidth}
-use Rattle.lists.specs.Refusals.{refuse, _or-else_, notWhole, livenessLists, livenessRoom}
+use Rattle.checks.specs.Refusals.{refuse, _or-else_, notWhole, livenessLists, livenessRoom}
 use Rattle.lists.specs.declared.Found.{Found}
 use Rattle.lists.specs.declared.Found.the-variants.{At, Nothing}
 use Rattle.lists.specs.declared.Refusal.{Refusal}

@@ -15,7 +15,7 @@ use Rattle.lists.specs.Slices.{laid}
 use Rattle.lists.specs.declared.Refusal.{Refusal}
 use Rattle.lists.specs.declared.Checked.{Checked}
 use Rattle.lists.specs.declared.Checked.the-variants.{Accepted, Refused}
-use Rattle.lists.proofs.Chain.{refused-not}
+use Rattle.checks.proofs.Chain.{refused-not}
 use Rattle.sheet.specs.Sheet.{Parsed, Lists, Faulty, parse}
 use Rattle.sheet.specs.Entry.{componentsOf, connectionsOf, frontiersOf, sheetChecked, countsOf, readingOf, SheetRead}
 use Rattle.sheet.specs.declared.Counts.{Counts}

@@ -15,10 +15,10 @@ use lib.ListN.{length, take, drop, length-append, length-map}
 use lib.Seq.{take-at}
 use Rattle.lists.specs.Limits.{connectionLimit, portWidth}
 use Rattle.lists.specs.Records.{componentCount}
-use Rattle.lists.specs.Refusals.{sheetRefusal}
+use Rattle.checks.specs.Refusals.{sheetRefusal}
 use Rattle.lists.specs.Slices.{laid}
 use Rattle.lists.specs.declared.Checked.the-variants.{Accepted}
-use Rattle.lists.proofs.Accepted.{GroupingScene, grouping-accept}
+use Rattle.checks.proofs.Accepted.{GroupingScene, grouping-accept}
 use Rattle.circuit.specs.Topology.{netKinds, fragmentKinds, forestOf, netsOf, fragmentsOf}
 use Rattle.circuit.proofs.Roots.{length-groups}
 use Rattle.scene.specs.Kept.{keptRows}

@@ -14,7 +14,7 @@ use Rattle.lists.specs.Limits.{componentLimit, connectionLimit, frontierLimit, 
 use Rattle.lists.specs.Ranges.{firstOutOfRange, componentLow, componentHigh, connectionLow, connectionHigh, frontierLow, frontierHigh}
 use Rattle.lists.specs.Order.{firstNotAscending, componentOrder, connectionOrder}
 use Rattle.lists.specs.Ids.{firstRepeated}
-use Rattle.lists.specs.Refusals.{refuse, notWhole, tooShort, groupingLists, sheetRefusal, _or-else_}
+use Rattle.checks.specs.Refusals.{refuse, notWhole, tooShort, groupingLists, sheetRefusal, _or-else_}
 use Rattle.lists.specs.declared.Checked.{Checked}
 use Rattle.lists.specs.declared.Checked.the-variants.{Accepted, Refused}
 use Rattle.lists.specs.declared.Found.{Found}

@@ -10,7 +10,7 @@ use mathlib.Core.List.{List, [], _∷_}
 use lib.Dec.{leb}
 use lib.ListN.{length, replicate}
 use lib.IntN.{ℤ, pos}
-use Rattle.lists.specs.Refusals.{refuse, tooShort, sheetRefusal, _or-else_, refusalNumbers, numbersBy}
+use Rattle.checks.specs.Refusals.{refuse, tooShort, sheetRefusal, _or-else_, refusalNumbers, numbersBy}
 use Rattle.lists.specs.Slices.{leftOf}
 use Rattle.lists.specs.declared.Checked.{Checked}
 use Rattle.lists.specs.declared.Checked.the-variants as checked

@@ -10,7 +10,7 @@ use mathlib.Core.List.{List, [], _∷_, _++_, map}
 use lib.ListN.{length, getD}
 use lib.IntN.{ℤ, pos}
 use Rattle.sets.specs.Members.{asNat, memberOf}
-use Rattle.lists.specs.Refusals.{sheetRefusal}
+use Rattle.checks.specs.Refusals.{sheetRefusal}
 use Rattle.lists.specs.Ids as ids
 use Rattle.lists.specs.Ids.{IdTable}
 use Rattle.lists.specs.Slices.{laid}

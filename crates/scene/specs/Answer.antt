@@ -7,7 +7,7 @@ use mathlib.Core.List.{List, [], _∷_, _++_, map}
 use lib.ListN.{length, take, drop}
 use lib.IntN.{ℤ, pos}
 use Rattle.lists.specs.Limits.{portWidth}
-use Rattle.lists.specs.Refusals.{portsRefusal, refusalNumbers, numbersBy}
+use Rattle.checks.specs.Refusals.{portsRefusal, refusalNumbers, numbersBy}
 use Rattle.lists.specs.Slices.{laid, leftOf}
 use Rattle.lists.specs.declared.Checked.the-variants as checked
 use Rattle.scene.specs.Kept.{keptRows, keptCount}

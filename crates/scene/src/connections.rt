@@ -1,4 +1,6 @@
 // The port connections that are kept of a scene.
+use checks::refusals::grouping_lists;
+use checks::refusals::room_for;
 use faces::ports::port_count;
 use faces::ports::ports_for;
 use faces::select::select_port;
@@ -16,8 +18,6 @@ use lists::hints::HINTS;
 use lists::hints::hint_ids;
 use lists::hints::place_near;
 use lists::numbers::natural_at;
-use lists::refusals::grouping_lists;
-use lists::refusals::room_for;
 ghost use mathlib.Core.Path.{_≡_};
 ghost use Prim.Native.Nat.{_+_, _*_, _≤_, _<_};
 ghost use mathlib.Core.List.{map};

@@ -10,7 +10,7 @@ use lib.ListN.{length}
 use borrow.Author.Tests.{leb-true}
 use Rattle.lists.specs.Limits.{componentWidth, connectionWidth, frontierWidth}
 use Rattle.lists.specs.Records.{componentCount, connectionCount, frontierCount}
-use Rattle.lists.specs.Refusals.{roomFor}
+use Rattle.checks.specs.Refusals.{roomFor}
 use Rattle.lists.specs.declared.Refusal.{Refusal}
 use Rattle.sheet.specs.Sheet.{Parsed, Lists, Faulty}
 use Rattle.sheet.specs.Entry.{enoughRoom, SheetRead}

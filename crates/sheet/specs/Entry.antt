@@ -9,7 +9,7 @@ use lib.IntN.{ℤ}
 use lib.ListN.{length}
 use Rattle.lists.specs.Limits.{componentWidth, connectionWidth, frontierWidth}
 use Rattle.lists.specs.Records.{componentCount, connectionCount, frontierCount}
-use Rattle.lists.specs.Refusals.{refuse, tooShort, roomFor, refusalNumbers, numbersBy}
+use Rattle.checks.specs.Refusals.{refuse, tooShort, roomFor, refusalNumbers, numbersBy}
 use Rattle.lists.specs.Slices.{leftOf}
 use Rattle.lists.specs.declared.Checked.{Checked}
 use Rattle.lists.specs.declared.Checked.the-variants as checked

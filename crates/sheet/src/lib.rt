@@ -4,13 +4,13 @@ mod first_pass;
 mod keys;
 mod second_pass;
 
+use checks::refusals::room_for;
 use first_pass::Outline;
 use first_pass::check_sheet;
 use lists::COMPONENT;
 use lists::CONNECTION;
 use lists::FRONTIER;
 use lists::Refusal;
-use lists::refusals::room_for;
 use second_pass::store_sheet;
 ghost use Rattle.sheet.specs.Sheet.{parse};
 ghost use Rattle.sheet.specs.Entry.{SheetRead};

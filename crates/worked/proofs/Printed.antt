@@ -10,7 +10,7 @@ use Rattle.lists.specs.First.{firstFrom, allFrom, tabulate}
 use Rattle.lists.specs.Ranges.{recordInRange, firstOutOfRange}
 use Rattle.lists.specs.Order.{recordBefore, firstNotAscending}
 use Rattle.lists.specs.Ids.{placeBelow, firstRepeated, smallerIds}
-use Rattle.lists.specs.Refusals.{notWhole, groupingLists, sheetRefusal, _or-else_}
+use Rattle.checks.specs.Refusals.{notWhole, groupingLists, sheetRefusal, _or-else_}
 use Rattle.lists.specs.Slices.{laid, leftOf}
 use Rattle.lists.specs.declared.Checked.{Checked}
 use Rattle.lists.specs.declared.Checked.the-variants.{Accepted}

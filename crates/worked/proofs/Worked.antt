@@ -9,7 +9,7 @@ use Rattle.lists.specs.First.{firstFrom, allFrom, tabulate}
 use Rattle.lists.specs.Ranges.{recordInRange, firstOutOfRange}
 use Rattle.lists.specs.Order.{recordBefore, firstNotAscending}
 use Rattle.lists.specs.Ids.{placeBelow, firstRepeated, firstEndMissing, smallerIds}
-use Rattle.lists.specs.Refusals.{notWhole, groupingLists, livenessLists}
+use Rattle.checks.specs.Refusals.{notWhole, groupingLists, livenessLists}
 use Rattle.lines.specs.Decimal.{digitsThen}
 use Rattle.sheet.specs.Writing.{fieldLines}
 use Rattle.circuit.specs.Forest as forest

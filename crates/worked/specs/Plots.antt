@@ -16,7 +16,7 @@ use lib.IntN.{ℤ, pos, negsuc}
 use Rattle.sets.specs.Members.{asNat}
 use Rattle.lists.specs.First.{tabulate}
 use Rattle.lists.specs.Records.{component, componentCount}
-use Rattle.lists.specs.Refusals.{groupingLists, livenessLists, packed}
+use Rattle.checks.specs.Refusals.{groupingLists, livenessLists, packed}
 use Rattle.lists.specs.declared.Found.{Found}
 use Rattle.lists.specs.declared.Found.the-variants.{At, Nothing}
 use Rattle.lines.specs.Text.{ascii}

@@ -1,7 +1,7 @@
 -- `capi::dustroute_groups` meets its contract: number 1 by bytes, and then the groups of the lists that were read. Assumes nothing.
 use borrow.Author.Needs.{needs}
 use mathlib.Core.Path.{_≡_, sym, ap, _∙_}
-use Rattle.lists.specs.Refusals.{refuse, _or-else_, packed}
+use Rattle.checks.specs.Refusals.{refuse, _or-else_, packed}
 use Rattle.lists.specs.declared.Checked.{Checked}
 use Rattle.encoding.specs.Entry.{groupsWhole}
 use Rattle.encoding.proofs.Answers.{whole-fits, part-laid}

@@ -1,7 +1,7 @@
 -- `capi::dustroute_liveness` meets its contract: number 1 by bytes, and then the liveness of the lists that were read. Assumes nothing.
 use borrow.Author.Needs.{needs}
 use mathlib.Core.Path.{_≡_, sym, ap, _∙_}
-use Rattle.lists.specs.Refusals.{refuse, _or-else_, packed}
+use Rattle.checks.specs.Refusals.{refuse, _or-else_, packed}
 use Rattle.lists.specs.declared.Checked.{Checked}
 use Rattle.capi.specs.Liveness.{livenessWhole}
 use Rattle.capi.proofs.LivenessLaws.{three-fit, part-alive}

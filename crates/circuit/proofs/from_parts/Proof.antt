@@ -9,10 +9,10 @@ use native.Mathlib.Omega.{arith}
 use lib.ListN.{length, take}
 use lib.Seq.{length-take-le}
 use Rattle.lists.specs.Records.{componentCount}
-use Rattle.lists.specs.Refusals.{roomFor, groupingRefusal}
+use Rattle.checks.specs.Refusals.{roomFor, groupingRefusal}
 use Rattle.lists.specs.declared.Checked.the-variants.{Accepted}
 use Rattle.lists.proofs.Search.{both}
-use Rattle.lists.proofs.Accepted.{GroupingScene, grouping-accept, room-places}
+use Rattle.checks.proofs.Accepted.{GroupingScene, grouping-accept, room-places}
 use Rattle.circuit.specs.declared.Counts.{Counts}
 use Rattle.circuit.specs.declared.Grouping.the-variants.{Groups}
 use Rattle.circuit.proofs.from_parts.Statement.{statement}

@@ -11,11 +11,11 @@ use lib.ListN.{length}
 use lib.Seq.{length-take-le}
 use borrow.Author.Tests.{leb-true}
 use Rattle.lists.specs.Records.{componentCount}
-use Rattle.lists.specs.Refusals.{roomFor, livenessLists, livenessRefusal}
+use Rattle.checks.specs.Refusals.{roomFor, livenessLists, livenessRefusal}
 use Rattle.lists.specs.declared.Checked.{Checked}
 use Rattle.lists.specs.declared.Checked.the-variants.{Accepted}
 use Rattle.lists.proofs.Search.{both}
-use Rattle.lists.proofs.Accepted.{LivenessScene, liveness-accept, room-places}
+use Rattle.checks.proofs.Accepted.{LivenessScene, liveness-accept, room-places}
 use Rattle.liveness.specs.Scene.{Scene, RowsRoom}
 use Rattle.liveness.proofs.Answers.{scene-of, analyzed-accepted, analyzed-refused}
 use Rattle.liveness.proofs.analyze_signal_liveness.Statement.{statement}

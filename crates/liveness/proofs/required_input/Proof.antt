@@ -9,10 +9,10 @@ use lib.ListN.{length}
 use lib.Seq.{length-take-le}
 use borrow.Author.Tests.{leb-true}
 use Rattle.lists.specs.Records.{componentCount}
-use Rattle.lists.specs.Refusals.{roomFor, livenessLists, queryRefusal}
+use Rattle.checks.specs.Refusals.{roomFor, livenessLists, queryRefusal}
 use Rattle.lists.specs.declared.Checked.{Checked}
 use Rattle.lists.specs.declared.Checked.the-variants.{Accepted}
-use Rattle.lists.proofs.Accepted.{LivenessScene, liveness-accept}
+use Rattle.checks.proofs.Accepted.{LivenessScene, liveness-accept}
 use Rattle.liveness.proofs.Answers.{scene-of}
 use Rattle.liveness.proofs.Inputs.{inputs-checked}
 use Rattle.liveness.proofs.required_input.Statement.{statement}

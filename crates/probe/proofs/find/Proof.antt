@@ -12,12 +12,12 @@ use lib.Seq.{length-take-le}
 use Rattle.lists.specs.Limits.{componentLimit}
 use Rattle.lists.specs.Records.{componentCount}
 use Rattle.lists.specs.Ids.{placeOf}
-use Rattle.lists.specs.Refusals.{groupingLists}
+use Rattle.checks.specs.Refusals.{groupingLists}
 use Rattle.lists.specs.declared.Found.{Found}
 use Rattle.lists.specs.declared.Found.the-variants.{At, Nothing}
 use Rattle.lists.specs.declared.Checked.the-variants.{Accepted}
 use Rattle.lists.proofs.Table.{place-below}
-use Rattle.lists.proofs.Accepted.{GroupingScene, grouping-accept, id-past}
+use Rattle.checks.proofs.Accepted.{GroupingScene, grouping-accept, id-past}
 use Rattle.probe.specs.Places.{IsPlace}
 use Rattle.probe.proofs.find.Statement.{statement}
 use Rattle.probe.proofs.find.Tie as tie

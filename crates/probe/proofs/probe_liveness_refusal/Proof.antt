@@ -10,8 +10,8 @@ use native.Mathlib.Omega.{arith}
 use lib.ListN.{length}
 use Rattle.lists.specs.Records.{componentCount, connectionCount}
 use Rattle.lists.specs.Limits.{portWidth}
-use Rattle.lists.specs.Refusals.{livenessRefusal, roomFor, Small, packed}
-use Rattle.lists.proofs.Small.{liveness-small}
+use Rattle.checks.specs.Refusals.{livenessRefusal, roomFor, Small, packed}
+use Rattle.checks.proofs.Small.{liveness-small}
 use Rattle.probe.proofs.probe_liveness_refusal.Statement.{statement}
 use Rattle.probe.proofs.probe_liveness_refusal.Tie as tie
 

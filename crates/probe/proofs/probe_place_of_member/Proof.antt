@@ -11,11 +11,11 @@ use lib.ListN.{length, take}
 use lib.Seq.{length-take-le}
 use Rattle.lists.specs.Records.{componentCount}
 use Rattle.lists.specs.Ids.{MemberPlace}
-use Rattle.lists.specs.Refusals.{groupingLists}
+use Rattle.checks.specs.Refusals.{groupingLists}
 use Rattle.lists.specs.declared.Refusal.{Refusal}
 use Rattle.lists.specs.declared.Checked.the-variants.{Accepted, Refused}
-use Rattle.lists.proofs.Chain.{refused-not}
-use Rattle.lists.proofs.Accepted.{GroupingScene, grouping-accept}
+use Rattle.checks.proofs.Chain.{refused-not}
+use Rattle.checks.proofs.Accepted.{GroupingScene, grouping-accept}
 use Rattle.probe.proofs.probe_place_of_member.Statement.{statement}
 use Rattle.probe.proofs.probe_place_of_member.Tie as tie
 

@@ -10,8 +10,8 @@ use native.Mathlib.Omega.{arith}
 use lib.ListN.{length}
 use Rattle.lists.specs.Records.{componentCount, connectionCount}
 use Rattle.lists.specs.Limits.{portWidth}
-use Rattle.lists.specs.Refusals.{sheetRefusal, roomFor, Small, packed}
-use Rattle.lists.proofs.Small.{grouping-small}
+use Rattle.checks.specs.Refusals.{sheetRefusal, roomFor, Small, packed}
+use Rattle.checks.proofs.Small.{grouping-small}
 use Rattle.probe.proofs.probe_sheet_refusal.Statement.{statement}
 use Rattle.probe.proofs.probe_sheet_refusal.Tie as tie
 

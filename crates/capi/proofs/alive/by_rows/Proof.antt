@@ -11,10 +11,10 @@ use mir.Syntax.{w64}
 use denote.Shadow.{shadow}
 use Rattle.sets.specs.declared.ComponentSet.{ComponentSet}
 use Rattle.sets.proofs.ComponentSet.{the-field}
-use Rattle.lists.specs.Refusals.{livenessRefusal, Small, packed}
+use Rattle.checks.specs.Refusals.{livenessRefusal, Small, packed}
 use Rattle.lists.specs.declared.Checked.{Checked}
 use Rattle.lists.specs.declared.Checked.the-variants.{Accepted}
-use Rattle.lists.proofs.Small.{liveness-small}
+use Rattle.checks.proofs.Small.{liveness-small}
 use Rattle.liveness.specs.Entry.{AnalyzedBy}
 use Rattle.capi.proofs.LivenessLaws.{SixteenWords, found, few-regions, regions-there, sources-there, inputs-there, accepted-alive, refused-alive}
 use Rattle.capi.proofs.alive.by_rows.Statement.{statement}

@@ -4,7 +4,7 @@ use mathlib.Core.Path.{_≡_, sym, ap, _∙_}
 use mathlib.Core.Bool.{Bool, false, _&&_}
 use lib.ListN.{length}
 use Prim.Native.Nat.{_/_}
-use Rattle.lists.specs.Refusals.{livenessLists, livenessRoom, packed}
+use Rattle.checks.specs.Refusals.{livenessLists, livenessRoom, packed}
 use Rattle.lists.specs.declared.Checked.{Checked}
 use Rattle.encoding.specs.Bytes.{numberBytes}
 use Rattle.capi.proofs.LivenessLaws.{short-refused, refused-alive}

@@ -2,9 +2,9 @@
 use borrow.Author.Needs.{needs}
 use mathlib.Core.Path.{_≡_, sym, ap, _∙_, subst}
 use mathlib.Core.Bool.{false}
-use Rattle.lists.specs.Refusals.{Small, packed}
+use Rattle.checks.specs.Refusals.{Small, packed}
 use Rattle.lists.specs.declared.Checked.{Checked}
-use Rattle.lists.proofs.Small.{liveness-small}
+use Rattle.checks.proofs.Small.{liveness-small}
 use Rattle.capi.proofs.alive.refuse_short.Statement.{statement}
 use Rattle.capi.proofs.alive.refuse_short.Tie as tie
 

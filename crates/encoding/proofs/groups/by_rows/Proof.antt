@@ -7,10 +7,10 @@ use native.Mathlib.Omega.{arith}
 use lib.ListN.{length, take}
 use lib.Seq.{length-take-le}
 use Rattle.lists.specs.Records.{componentCount}
-use Rattle.lists.specs.Refusals.{groupingRefusal, Small}
+use Rattle.checks.specs.Refusals.{groupingRefusal, Small}
 use Rattle.lists.specs.declared.Checked.{Checked}
 use Rattle.lists.specs.declared.Checked.the-variants.{Refused}
-use Rattle.lists.proofs.Small.{grouping-small}
+use Rattle.checks.proofs.Small.{grouping-small}
 use Rattle.circuit.specs.Topology.{netKinds, fragmentKinds, forestOf, netsOf, fragmentsOf, netCount, fragmentCount}
 use Rattle.circuit.proofs.Roots.{length-groups}
 use Rattle.circuit.proofs.Numbering.{roots-most}

@@ -4,7 +4,7 @@ use borrow.Author.Needs.{needs}
 use mathlib.Core.Path.{_≡_, sym, _∙_}
 use native.Mathlib.Omega.{arith}
 use Rattle.lists.specs.Ids.{placeOf}
-use Rattle.lists.proofs.Accepted.{id-past}
+use Rattle.checks.proofs.Accepted.{id-past}
 use Rattle.liveness.proofs.Inputs.{place-below, row-place}
 use Rattle.liveness.proofs.row.row_place.Statement.{statement}
 use Rattle.liveness.proofs.row.row_place.Tie as tie

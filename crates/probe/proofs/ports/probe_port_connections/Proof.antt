@@ -8,12 +8,12 @@ use native.Mathlib.Omega.{arith}
 use lib.ListN.{length}
 use Rattle.lists.specs.Limits.{connectionLimit}
 use Rattle.lists.specs.Records.{connectionCount}
-use Rattle.lists.specs.Refusals.{portsRefusal, Small}
+use Rattle.checks.specs.Refusals.{portsRefusal, Small}
 use Rattle.lists.specs.declared.Refusal.{Refusal}
 use Rattle.lists.specs.declared.Checked.{Checked}
 use Rattle.lists.specs.declared.Checked.the-variants.{Accepted, Refused}
-use Rattle.lists.proofs.Small.{grouping-small}
-use Rattle.lists.proofs.Accepted.{grouping-accept}
+use Rattle.checks.proofs.Small.{grouping-small}
+use Rattle.checks.proofs.Accepted.{grouping-accept}
 use Rattle.scene.specs.Kept.{keptCount}
 use Rattle.scene.specs.Answer.{answerOf}
 use Rattle.scene.specs.declared.connections.Selected.the-variants as selected

@@ -2,7 +2,7 @@
 -- Assumes nothing.
 use borrow.Author.Needs.{needs}
 use mathlib.Core.Path.{sym, ap, _∙_, subst}
-use Rattle.lists.specs.Refusals.{Small, packed}
+use Rattle.checks.specs.Refusals.{Small, packed}
 use Rattle.lists.specs.declared.Checked.{Checked}
 use Rattle.probe.proofs.Asking.{input-small}
 use Rattle.probe.proofs.query.probe_input_refusal.Statement.{statement}

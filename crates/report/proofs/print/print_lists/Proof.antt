@@ -8,9 +8,9 @@ use native.Mathlib.Omega.{arith}
 use lib.ListN.{length}
 use lib.Seq.{length-take-le}
 use Rattle.lists.specs.Records.{componentCount}
-use Rattle.lists.specs.Refusals.{sheetRefusal}
+use Rattle.checks.specs.Refusals.{sheetRefusal}
 use Rattle.lists.specs.declared.Checked.the-variants as checked
-use Rattle.lists.proofs.Accepted.{GroupingScene, grouping-accept}
+use Rattle.checks.proofs.Accepted.{GroupingScene, grouping-accept}
 use Rattle.report.proofs.print.print_lists.Statement.{statement}
 use Rattle.report.proofs.print.print_lists.Tie as tie
 

@@ -8,7 +8,7 @@ use native.Mathlib.Omega.{arith}
 use lib.ListN.{length, take, length-map}
 use lib.IntN.{pos}
 use lib.Seq.{length-take-le}
-use Rattle.lists.proofs.Accepted.{GroupingScene}
+use Rattle.checks.proofs.Accepted.{GroupingScene}
 use Rattle.lists.proofs.Table.{table-long}
 use Rattle.scene.specs.Kept.{keptRows}
 use Rattle.scene.proofs.KeptEnds.{kept-whole}

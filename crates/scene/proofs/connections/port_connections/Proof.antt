@@ -12,11 +12,11 @@ use Rattle.lists.specs.Limits.{componentLimit, connectionLimit, connectionWidth
 use Rattle.lists.specs.Records.{componentCount, connectionCount}
 use Rattle.lists.specs.Ranges.{firstOutOfRange, componentLow, componentHigh, connectionLow, connectionHigh}
 use Rattle.lists.specs.Order.{firstNotAscending, connectionOrder}
-use Rattle.lists.specs.Refusals.{refuse, roomFor, groupingLists, portsRefusal}
+use Rattle.checks.specs.Refusals.{refuse, roomFor, groupingLists, portsRefusal}
 use Rattle.lists.specs.declared.Checked.the-variants as checked
-use Rattle.lists.proofs.Chain.{both-accept}
+use Rattle.checks.proofs.Chain.{both-accept}
 use Rattle.lists.proofs.Fields.{within}
-use Rattle.lists.proofs.Accepts.{Scene, scene-accept, grouping-parts}
+use Rattle.checks.proofs.Accepts.{Scene, scene-accept, grouping-parts}
 use Rattle.scene.proofs.connections.port_connections.Statement.{statement}
 use Rattle.scene.proofs.connections.port_connections.Tie as tie
 
