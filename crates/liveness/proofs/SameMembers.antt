@@ -22,7 +22,7 @@ use Rattle.signals.specs.Regions.{labels, regionAt, isCyclic, hasDrive, isPassi
 use Rattle.signals.specs.Drive.{drive, potential}
 use Rattle.assessment.specs.Verdicts.{fedBy, statusOf, portRows, verdictRows, sourcesAt, sourceRowsBelow}
 use Rattle.liveness.specs.Query.{isImmediate, upstream, isInferredFor}
-use Rattle.liveness.specs.Demand.{SameConnections, SameAnswer}
+use Rattle.liveness.specs.Same.{SameConnections, SameAnswer}
 use Rattle.lists.proofs.Some.{some-at}
 use Rattle.lists.proofs.Some.{some-found}
 use Rattle.assessment.proofs.Statuses.{same-truth}
