@@ -2,13 +2,8 @@
 --     Outside                           the regions fed from outside
 --     Inferring                         the inferred inputs
 --     Answers                           sets and rows of an answer
---     Inputs                            the port of an input query, its immediate sources and its inferred inputs
---     Asking                            the same by the table of what is upstream of each region
---     Demands, SameMembers              demand 3; order and repetition of port connections
+--     Demands                           demand 3
 pub mod Outside
 pub mod Inferring
 pub mod Demands
 pub mod Answers
-pub mod Inputs
-pub mod Asking
-pub mod SameMembers

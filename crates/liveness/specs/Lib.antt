@@ -3,7 +3,4 @@
 pub mod Demand
 pub mod Sets
 pub mod Entry
-pub mod Query
-pub mod Same
 pub mod Scene
-pub mod Inputs

@@ -1,9 +1,6 @@
 // Regions, sources, drive and verdicts of a scene.
 mod alive;
-pub mod asked;
 mod infer;
-mod query;
-mod row;
 pub mod steps;
 
 use checks::refusals::liveness_lists;
@@ -13,8 +10,6 @@ use lists::COMPONENTS;
 use lists::CONNECTIONS;
 use lists::Checked;
 use lists::Refusal;
-use query::query_scene;
-use query::refused_input;
 use sets::ComponentSet;
 use steps::analyze;
 ghost use mathlib.Core.Path.{_≡_};
@@ -23,7 +18,6 @@ ghost use Prim.Native.Nat.{ℕ};
 ghost use lib.IntN.{ℤ};
 ghost use Rattle.lists.specs.declared.Checked.the-variants.{Refused};
 ghost use Rattle.liveness.specs.Entry.{AnalyzedBy, Analyzed};
-ghost use Rattle.liveness.specs.Query.{Answered};
 
 // What the checks say, and of an accepted scene the counts and the sets: members that are driven or may be, regions that are cyclic or
 // hold a drive source.
@@ -36,14 +30,6 @@ pub struct Analysis {
     pub potential: ComponentSet,
     pub cyclic: ComponentSet,
     pub has_drive: ComponentSet,
-}
-
-// What the checks of an input query say, and of an accepted one the immediate sources of the port, and the inferred inputs among these and
-// all upstream of them.
-pub struct InputSources {
-    pub checked: Checked,
-    pub immediate: ComponentSet,
-    pub inferred: ComponentSet,
 }
 
 // The answer beside a refusal: no rows, and empty sets.
@@ -102,48 +88,6 @@ pub fn analyze_signal_liveness(
             regions,
             sources,
             inputs,
-            stack,
-        ),
-    }
-}
-
-// The immediate sources of a port that has a verdict row, by the id of its component, and the inferred inputs among these and all upstream of
-// them. Any id and port may be asked for.
-pub fn required_input(
-    components: &[i64],
-    ports: &[i64],
-    frontiers: &[i64],
-    id: u64,
-    port: u64,
-    stack: &mut [usize],
-) -> InputSources
-    ensures { λ r. ⌜ Answered (now (components .entry)) (now (ports .entry)) (now (frontiers .entry)) id port (now (stack .entry)) (now (stack .exit)) r ⌝ }
-{
-    let mut keys = [0u64; COMPONENTS];
-    let mut source_at = [0usize; CONNECTIONS];
-    let mut sink_at = [0usize; CONNECTIONS];
-    let count = components.len() / COMPONENT;
-    let enough = room_for(count, 2, stack.len());
-    let checked = liveness_lists(
-        components,
-        ports,
-        frontiers,
-        enough,
-        &mut keys,
-        &mut source_at,
-        &mut sink_at,
-    );
-    match checked {
-        Checked::Refused(refusal) => refused_input(refusal),
-        Checked::Accepted => query_scene(
-            &keys[..count],
-            components,
-            ports,
-            frontiers,
-            &source_at,
-            &sink_at,
-            id,
-            port,
             stack,
         ),
     }

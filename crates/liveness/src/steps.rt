@@ -40,13 +40,13 @@ ghost use Rattle.signals.specs.Stages.{cyclicAt};
 ghost use Rattle.liveness.specs.Scene.{Scene, Prepared, PreparedRoom, Prepares, Driven, Marked, MarkRoom, RowsRoom, AnswerBy};
 
 // How many source rows and verdict rows were written.
-pub(crate) struct RowCounts {
+pub struct RowCounts {
     pub sources: usize,
     pub inputs: usize,
 }
 
 // Builds the tables of a scene, given its settled ends, and finds its regions; answers how many there are.
-pub(crate) fn prepare(
+pub fn prepare(
     keys: &[u64],
     components: &[i64],
     ports: &[i64],
@@ -71,7 +71,7 @@ pub(crate) fn prepare(
 }
 
 // Flags the components on frontiers, the drive sources, and the regions that hold one.
-pub(crate) fn flag_drive(
+pub fn flag_drive(
     components: &[i64],
     frontiers: &[i64],
     region_at: &[usize],
@@ -90,7 +90,7 @@ pub(crate) fn flag_drive(
 }
 
 // Flags the inferred inputs, by list place.
-pub(crate) fn flag_inferred(
+pub fn flag_inferred(
     components: &[i64],
     ports: &[i64],
     sources: &[usize],

@@ -11,7 +11,7 @@ use Rattle.checks.specs.Refusals.{refuse, tooShort, roomFor, _or-else_, queryRe
 use Rattle.lists.specs.declared.Checked.{Checked}
 use Rattle.lists.specs.declared.Checked.the-variants.{Accepted, Refused}
 use Rattle.checks.proofs.Small.{liveness-small}
-use Rattle.liveness.specs.Query.{inputRefusal, rowPlace}
+use Rattle.inputs.specs.Query.{inputRefusal, rowPlace}
 
 or-small : (a b : Checked) → Small a → Small b → Small (a or-else b)
 or-small Accepted b p q = q

@@ -8,7 +8,7 @@ use lib.ListN.{getD}
 use lib.IntN.{ℤ}
 use Rattle.lists.specs.Records.{componentCount}
 use Rattle.liveness.specs.Sets.{SetWhere, counted}
-use Rattle.liveness.specs.Query.{rowPlace, inputRefusal, atPlace}
+use Rattle.inputs.specs.Query.{rowPlace, inputRefusal, atPlace}
 
 -- r is word k of the set of the members that pass the test at the component of the port asked for
 pub record WordOf (cs ps fs : List ℤ) (id port stack : ℕ) (test : ℕ → ℕ → Bool) (k r : ℕ) : Type 0 where

@@ -1,6 +1,6 @@
 // The input query for the tests from Rust: its refusal, and its two sets word by word.
 use checks::refusals::pack;
-use liveness::required_input;
+use inputs::required_input;
 use sets::ComponentSet;
 use sets::WORDS;
 ghost use mathlib.Core.Path.{_≡_};
@@ -9,7 +9,7 @@ ghost use lib.ListN.{length, getD};
 ghost use Rattle.sets.specs.Members.{wordCount};
 ghost use Rattle.checks.specs.Refusals.{packed};
 ghost use Rattle.lists.specs.Slices.{workOf};
-ghost use Rattle.liveness.specs.Query.{inputRefusal, isImmediate, isInferredFor};
+ghost use Rattle.inputs.specs.Query.{inputRefusal, isImmediate, isInferredFor};
 ghost use Rattle.probe.specs.Inputs.{WordOf};
 
 // The refusal as one number.

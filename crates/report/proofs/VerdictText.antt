@@ -20,9 +20,9 @@ use Rattle.lists.proofs.Search.{first-is}
 use Rattle.lists.proofs.Members.{ids-distinct}
 use Rattle.faces.specs.Ports.{portsOf}
 use Rattle.assessment.specs.Verdicts.{statusOf, isRequired, portRows, verdictRows, inputRows}
-use Rattle.liveness.specs.Query.{rowPlace}
-use Rattle.liveness.specs.Inputs.{PortSets}
-use Rattle.liveness.specs.declared.InputSources.{InputSources}
+use Rattle.inputs.specs.Query.{rowPlace}
+use Rattle.inputs.specs.Inputs.{PortSets}
+use Rattle.inputs.specs.declared.InputSources.{InputSources}
 use Rattle.blocks.specs.Lines.{inputText}
 use Rattle.blocks.specs.Blocks.{idsIn}
 use Rattle.report.specs.Report.{inputLines, portLines, verdictLines}

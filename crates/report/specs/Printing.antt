@@ -18,7 +18,7 @@ use Rattle.lists.specs.declared.Checked.the-variants.{Accepted}
 use Rattle.lines.specs.Text.{ascii}
 use Rattle.lines.specs.Decimal.{lineOf}
 use Rattle.circuit.specs.Topology.{netsOf, fragmentsOf}
-use Rattle.liveness.specs.Query.{rowPlace, atPlace, isImmediate, isInferredFor}
+use Rattle.inputs.specs.Query.{rowPlace, atPlace, isImmediate, isInferredFor}
 use Rattle.regions.specs.Graph.{marked}
 use Rattle.signals.specs.Regions.{regionCount, regionsOf, isCyclic, hasDrive}
 use Rattle.signals.specs.Drive.{drive, potential}

@@ -27,7 +27,7 @@ use Rattle.regions.specs.Graph.{marked}
 use Rattle.signals.specs.Regions.{regionAt, regionCount, isCyclic, hasDrive}
 use Rattle.signals.specs.Drive.{drive, potential}
 use Rattle.assessment.specs.Verdicts.{statusOf, isRequired, sourceRows, inputRows}
-use Rattle.liveness.specs.Query.{isImmediate, isInferredFor}
+use Rattle.inputs.specs.Query.{isImmediate, isInferredFor}
 
 -- ---- numbers
 

@@ -5,8 +5,8 @@ use blocks::inputs::put_input;
 use blocks::keys::count_length;
 use blocks::keys::put_count;
 use blocks::left_after;
+use inputs::asked::asked_sources;
 use lists::Found;
-use liveness::asked::asked_sources;
 ghost use mathlib.Core.Path.{_≡_};
 ghost use mathlib.Core.List.{List};
 ghost use Prim.Native.Nat.{_+_, _≤_};
@@ -14,7 +14,7 @@ ghost use lib.ListN.{length};
 ghost use lib.IntN.{ℤ};
 ghost use Rattle.lists.specs.Ids.{IdTable};
 ghost use Rattle.lines.specs.Wrote.{Put};
-ghost use Rattle.liveness.specs.Inputs.{Ready};
+ghost use Rattle.inputs.specs.Inputs.{Ready};
 ghost use Rattle.blocks.specs.Blocks.{leftAfter};
 ghost use Rattle.report.specs.Printing.{askedText, rowLines, inputsText};
 

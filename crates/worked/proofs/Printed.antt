@@ -33,7 +33,7 @@ use Rattle.signals.specs.Sources.{sourceKind, firstAt, onFrontier}
 use Rattle.signals.specs.Regions.{isCyclic, hasDrive, fedFromOutside, neighbours, isInferred}
 use Rattle.signals.specs.Drive.{membersWhere, drive, potential}
 use Rattle.assessment.specs.Verdicts.{fedBy, statusOf, portRows, verdictRows, sourcesAt, sourceRowsBelow}
-use Rattle.liveness.specs.Query.{isImmediate, upstream, isInferredFor}
+use Rattle.inputs.specs.Query.{isImmediate, upstream, isInferredFor}
 use Rattle.blocks.specs.Lines.{spaced}
 use Rattle.report.specs.Report.{allRows, memberId, idsBelow, portLines, verdictLines, reportOf}
 use Rattle.report.specs.Entry.{fits, answerBy, reportChecked, Reported}

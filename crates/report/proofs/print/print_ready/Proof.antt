@@ -14,8 +14,8 @@ use Rattle.lists.proofs.Table.{table-long}
 use Rattle.assessment.specs.Upstream.{tableWords}
 use Rattle.signals.proofs.Lent.{front, front-long, front-length}
 use Rattle.liveness.specs.Scene.{Scene}
-use Rattle.liveness.specs.Inputs.{Ready}
-use Rattle.liveness.proofs.Asking.{ready-as}
+use Rattle.inputs.specs.Inputs.{Ready}
+use Rattle.inputs.proofs.Asking.{ready-as}
 use Rattle.report.proofs.Scenes.{kept-scene}
 use Rattle.report.proofs.print.print_ready.Statement.{statement}
 use Rattle.report.proofs.print.print_ready.Tie as tie

@@ -9,7 +9,7 @@ use lib.IntN.{ℤ}
 use lib.ListN.{length, length-append}
 use Rattle.lists.specs.declared.Found.the-variants.{At}
 use Rattle.lines.proofs.Writing.{put-room, put-put}
-use Rattle.liveness.specs.Inputs.{Ready}
+use Rattle.inputs.specs.Inputs.{Ready}
 use Rattle.blocks.specs.Blocks.{leftAfter}
 use Rattle.blocks.proofs.Going.{left-more, left-fits, left-short}
 use Rattle.report.specs.Printing.{blocksText, inputsText}

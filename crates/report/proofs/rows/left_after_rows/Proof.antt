@@ -10,7 +10,7 @@ use lib.ListN.{length, getD, length-append}
 use Rattle.lists.specs.declared.Found.{Found}
 use Rattle.lines.specs.Text.{ascii}
 use Rattle.lines.specs.Decimal.{lineOf}
-use Rattle.liveness.specs.Inputs.{Ready}
+use Rattle.inputs.specs.Inputs.{Ready}
 use Rattle.blocks.specs.Blocks.{leftAfter}
 use Rattle.blocks.proofs.Going.{left-none, left-then, left-on}
 use Rattle.report.specs.Printing.{askedText}

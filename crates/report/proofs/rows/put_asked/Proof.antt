@@ -9,7 +9,7 @@ use lib.ListN.{length}
 use lib.IntN.{ℤ}
 use Rattle.lists.proofs.Table.{table-long}
 use Rattle.lines.specs.Wrote.{Put}
-use Rattle.liveness.specs.Inputs.{Ready}
+use Rattle.inputs.specs.Inputs.{Ready}
 use Rattle.blocks.specs.Lines.{inputText}
 use Rattle.blocks.specs.Blocks.{idsIn}
 use Rattle.report.specs.Printing.{askedText}

@@ -10,7 +10,7 @@ use lib.ListN.{length, getD, length-append}
 use Rattle.lines.specs.Text.{ascii}
 use Rattle.lines.specs.Decimal.{lineOf}
 use Rattle.lines.proofs.Writing.{put-length, put-room, put-put}
-use Rattle.liveness.specs.Inputs.{Ready}
+use Rattle.inputs.specs.Inputs.{Ready}
 use Rattle.blocks.proofs.Going.{Going, goes-from, goes-room, goes-on, goes-done, goes-length}
 use Rattle.report.specs.Printing.{askedText}
 use Rattle.report.proofs.VerdictText.{linesFrom, lines-one, lines-none}

@@ -1,0 +1,62 @@
+-- `inputs::query::find_inputs` meets its contract: the scene is prepared, with local arrays for what is not asked later; then its inferred
+-- inputs are flagged.
+-- Assumes nothing.
+use borrow.Author.Needs.{needs}
+use mathlib.Core.Path.{_∙_}
+use native.Mathlib.Omega.{arith}
+use lib.ListN.{length}
+use Rattle.regions.proofs.Fill.{cleared-zeros}
+use Rattle.inputs.proofs.query.find_inputs.Statement.{statement}
+use Rattle.inputs.proofs.query.find_inputs.Tie as tie
+
+prepare-requires : tie.Need-prepare-requires
+prepare-requires c κs =
+    let cleared = c .before .before .before .before .before .before .before .before in
+    let s = c .before .before .before .before .before .before .before .before .before .before .before .before .before .before .before .before .before .before in
+    let room = s .pre .1 in (
+      s .pre .0,
+      record {
+        forward-room = room .forward-room;
+        backward-room = room .backward-room;
+        labels-room = room .labels-room;
+        members-room = s .pre .0 .0 .components .few;
+        regions-room = s .pre .0 .0 .components .few;
+        stack-room = omega (arith, room .stack-room, cleared .clear .kept .0);
+        stack-zeros = rw (cleared .clear .ensures) (cleared-zeros (length (s .args .stack .now)));
+      },
+    )
+
+inferred-members-requires : tie.Need-inferred-members-requires
+inferred-members-requires c κs =
+    let s = c .before .before .before .before .before .before .before .before .before .before .before .before .before .before .before .before .before .before .before .before .before .before .before .before .before .before .before .before .before .before .before .before .before .before .before in
+    (s .pre .0 .0, (c .before .before .before .before .before .before .before .before .before .before .before .before .before .before .before .before .prepare .ensures .prepared, s .pre .1 .inferred-room))
+
+returns : tie.Need-returns
+returns c =
+    let p = c .before .before .before .before .before .before .before .before .before .before .before .before .before .before .before .before .before .before .before .prepare in
+    record {
+      forward = p .last .1 .1 .1 .1 .1 .0;
+      members = p .last .1 .1 .1 .1 .1 .1 .1 .1 .0;
+      regionOf = p .last .1 .1 .1 .1 .1 .1 .1 .1 .1 .0;
+      prepared = p .ensures .prepared;
+      inferred-are = c .before .before .inferred-members .ensures;
+      stack-zeros = p .ensures .stack-zeros;
+    }
+
+pub find-inputs-spec : {M : Type 1} → statement M
+find-inputs-spec =
+    tie.close
+    (tie.spec
+    (λ c κs. search needs)
+    (λ c. search needs)
+    (λ c. search needs)
+    prepare-requires
+    (λ c. search needs)
+    (λ c. search needs)
+    inferred-members-requires
+    (λ c. c .before .before .before .before .before .before .before .before .before .before .before .before .before .before .before .before .before .before .before .prepare .kept .1 .1 .1 .1 .1 .0)
+    (λ c. c .before .before .before .before .before .before .before .before .before .before .before .before .before .before .before .before .before .before .before .prepare .kept .1 .1 .1 .1 .1 .1 .0)
+    (λ c. c .before .before .before .before .before .before .before .before .before .before .before .before .before .before .before .before .before .before .before .prepare .kept .1 .1 .1 .1 .1 .1 .1 .0)
+    (λ c. c .before .before .inferred-members .kept .1 .1 .1 .1 .1 .1 .1 .1 .1 .1 .0)
+    (λ c. c .before .before .before .before .before .before .before .before .before .before .before .before .before .before .before .before .before .before .before .prepare .kept .1 .1 .1 .1 .1 .1 .1 .1 .1 .1 .0 ∙ c .before .before .before .before .before .before .before .before .before .before .before .before .before .before .before .before .before .before .before .before .before .before .before .before .before .before .before .before .clear .kept .0)
+    returns)
