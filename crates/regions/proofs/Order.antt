@@ -18,6 +18,7 @@ use Rattle.regions.specs.Search.{walkOf, weight, fresh, Zeros, Room, Sea
 use Rattle.regions.proofs.Laws.Keys.{edges-within}
 use Rattle.regions.proofs.Laws.Loops.{each-append, range-suc}
 use Rattle.regions.proofs.Laws.Main.{order-length}
+use Rattle.regions.proofs.Stack.{searched-old}
 
 fresh-none : (n : ℕ) → fresh (replicate n false) ≡ n
 unfolding weight
@@ -115,13 +116,17 @@ module _ {n : ℕ} {keys order₀ : List ℕ} {visited : List Bool} {order : Lis
 
 -- ---- finish_order
 
-module _ {n : ℕ} {keys order₀ : List ℕ} {visited : List Bool} {order : List ℕ} {count : ℕ} {stack : List ℕ} {start : ℕ}
+module _ {n : ℕ} {keys order₀ : List ℕ} {visited : List Bool} {order : List ℕ} {count : ℕ} {stack : List ℕ} (start : ℕ)
     (w : Walked n keys order₀ visited order count stack (range zero start)) where
   pub order-more : {visited′ : List Bool} {order′ : List ℕ} {count′ : ℕ} {stack′ : List ℕ}
       → Searched n (edges n keys) start visited order count visited′ order′ count′ stack′
       → length visited′ ≡ length visited → length order′ ≡ length order → length stack′ ≡ length stack
       → Walked n keys order₀ visited′ order′ count′ stack′ (range zero (start + 1))
   order-more s lv lo ls = walked-at (walk-more w s lv lo ls) (sym (range-next start))
+
+  -- a node that is visited already
+  pub order-skip : marked visited start ≡ true → Walked n keys order₀ visited order count stack (range zero (start + 1))
+  order-skip old = order-more (searched-old n keys start visited order count stack (w .room .stack-zeros) old) refl refl refl
 
   pub order-end : start ≤ n → n ≤ start → Ordered n (edges n keys) order₀ order stack
   unfolding Kosaraju.order

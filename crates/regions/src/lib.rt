@@ -153,7 +153,9 @@ fn finish_order(
     let mut count = 0;
     let mut start = 0;
     while start < n {
-        count = visit_from(keys, n, start, visited, order, count, stack, &rows);
+        if !visited[start] {
+            count = visit_from(keys, n, start, visited, order, count, stack, &rows);
+        }
         start += 1;
     }
 }

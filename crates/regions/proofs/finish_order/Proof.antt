@@ -3,11 +3,13 @@
 use Prim.Native.Nat.{zero, _≤_, _-_}
 use mathlib.Core.Path.{_≡_, refl, ap, _∙_}
 use mathlib.Core.Bool.{false}
+use mathlib.Core.Logic.{⊎-elim}
 use borrow.Author.Needs.{needs}
+use borrow.Author.Tests.{not-false}
 use native.Mathlib.Omega.{arith}
 use lib.ListN.{length, replicate}
 use Rattle.regions.specs.Graph.{range}
-use Rattle.regions.proofs.Order.{Walked, room-kept, order-begin, order-more, order-end}
+use Rattle.regions.proofs.Order.{Walked, room-kept, order-begin, order-more, order-skip, order-end}
 use Rattle.regions.proofs.finish_order.Statement.{statement}
 use Rattle.regions.proofs.finish_order.Tie as tie
 
@@ -27,10 +29,13 @@ loop-holds c =
     let cleared = c .before .before .before .before .before .clear-flags in
     (omega arith, refl, refl, order-begin _ (cleared .ensures ∙ ap (λ k. replicate k false) (room .visited-length)) (room-kept room (room .keys-rise) (cleared .kept .0) (room .order-room) refl (room .stack-zeros)))
 
+slice-read-if1 : tie.Need-slice-read-if1 Inv-loop μ-loop
+slice-read-if1 c = omega arith
+
 visit-from-requires : tie.Need-visit-from-requires Inv-loop μ-loop
 visit-from-requires c κs =
-    let (le, order-length, stack-length, w) = c .before .before .before .before .before .loop .inv in
-    (c .before .before .before .before .loop-test .taken, omega arith, w .room)
+    let (le, order-length, stack-length, w) = c .before .before .before .before .before .before .before .loop .inv in
+    (c .before .before .before .before .before .before .loop-test .taken, omega arith, w .room)
 
 add-start : tie.Need-add-start Inv-loop μ-loop
 add-start c = omega arith
@@ -40,10 +45,15 @@ loop-less c = omega arith
 
 loop-again : tie.Need-loop-again Inv-loop μ-loop
 loop-again c =
-    let (le, order-length, stack-length, w) = c .before .before .before .before .before .before .before .before .before .before .before .before .loop .inv in
-    let call = c .before .before .before .before .before .before .visit-from in
-    let kept = call .kept .1 .1 .1 in
-    (omega arith, kept .1 .0 ∙ order-length, kept .1 .1 .1 .0 ∙ stack-length, order-more w (call .ensures) (kept .0) (kept .1 .0) (kept .1 .1 .1 .0))
+    let (le, order-length, stack-length, w) = c .before .before .before .loop .inv in
+    let start = c .before .before .before .loop .start in
+    ⊎-elim
+    (λ v.
+    let kept = v .5 .kept .1 .1 .1 in
+    rw (v .12, v .13, v .14, v .15)
+    (omega arith, kept .1 .0 ∙ order-length, kept .1 .1 .1 .0 ∙ stack-length, order-more start w (v .5 .ensures) (kept .0) (kept .1 .0) (kept .1 .1 .1 .0)))
+    (λ v. rw (v .1, v .2, v .3, v .4) (omega arith, order-length, stack-length, order-skip start w (not-false _ (v .0 .left))))
+    (c .if1 .came)
 
 same-length : tie.Need-same-length Inv-loop μ-loop
 same-length c = omega arith
@@ -57,7 +67,7 @@ same-length-3 c = c .before .loop .inv .2
 returns : tie.Need-returns Inv-loop μ-loop
 returns c =
     let (le, order-length, stack-length, w) = c .before .loop .inv in
-    order-end w le (c .loop-test .left)
+    order-end _ w le (c .loop-test .left)
 
 pub finish-order-spec : {M : Type 1} → statement M
 finish-order-spec =
@@ -69,6 +79,7 @@ finish-order-spec =
     (λ c. search needs)
     (λ c κs. search needs)
     loop-holds
+    slice-read-if1
     visit-from-requires
     add-start
     loop-less
