@@ -60,12 +60,14 @@ pub fn build_fed(ports: &[i64], sources: &[usize], sinks: &[usize], fed: &mut [u
     signal_keys(ports, &slots, sources, COMPONENTS * PORTS, fed, &mut spare);
 }
 
-// The regions of the nodes below labels.len(); answers how many there are.
+// The regions of the nodes below labels.len(); answers how many there are. The rows are hints.
 pub fn find_regions(
     forward: &[u64],
     backward: &[u64],
     labels: &mut [usize],
     stack: &mut [usize],
+    forward_rows: &[usize],
+    backward_rows: &[usize],
 ) -> usize
     requires { ⌜ Ascending (now forward) × (Ascending (now backward) × Reversed (length (now labels)) (now forward) (now backward)) ⌝ }
     requires { ⌜ (length (now labels) ≤ componentLimit) × ((2 * length (now labels) ≤ length (now stack)) × Zeros (now stack)) ⌝ }
@@ -84,6 +86,8 @@ pub fn find_regions(
         &mut order,
         &mut members,
         stack,
+        forward_rows,
+        backward_rows,
     )
 }
 

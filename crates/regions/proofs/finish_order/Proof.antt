@@ -3,7 +3,6 @@
 use Prim.Native.Nat.{zero, _≤_, _-_}
 use mathlib.Core.Path.{_≡_, refl, ap, _∙_}
 use mathlib.Core.Bool.{false}
-use borrow.Author.Needs.{needs}
 use native.Mathlib.Omega.{arith}
 use lib.ListN.{length, replicate}
 use Rattle.regions.specs.Graph.{range}
@@ -23,14 +22,14 @@ clear-flags-requires c κs = tt
 
 loop-holds : tie.Need-loop-holds Inv-loop μ-loop
 loop-holds c =
-    let room = c .before .before .before .before .before .before .before .before .before .before .before .pre in
-    let cleared = c .before .before .before .before .before .clear-flags in
+    let room = c .before .before .before .before .before .before .before .before .before .pre in
+    let cleared = c .before .before .clear-flags in
     (omega arith, refl, refl, order-begin _ (cleared .ensures ∙ ap (λ k. replicate k false) (room .visited-length)) (room-kept room (room .keys-rise) (cleared .kept .0) (room .order-room) refl (room .stack-zeros)))
 
 visit-from-requires : tie.Need-visit-from-requires Inv-loop μ-loop
 visit-from-requires c κs =
-    let (le, order-length, stack-length, w) = c .before .before .before .before .before .loop .inv in
-    (c .before .before .before .before .loop-test .taken, omega arith, w .room)
+    let (le, order-length, stack-length, w) = c .before .before .before .before .loop .inv in
+    (c .before .before .before .loop-test .taken, omega arith, w .room)
 
 add-start : tie.Need-add-start Inv-loop μ-loop
 add-start c = omega arith
@@ -40,7 +39,7 @@ loop-less c = omega arith
 
 loop-again : tie.Need-loop-again Inv-loop μ-loop
 loop-again c =
-    let (le, order-length, stack-length, w) = c .before .before .before .before .before .before .before .before .before .before .before .before .loop .inv in
+    let (le, order-length, stack-length, w) = c .before .before .before .before .before .before .before .before .before .before .before .loop .inv in
     let call = c .before .before .before .before .before .before .visit-from in
     let kept = call .kept .1 .1 .1 in
     (omega arith, kept .1 .0 ∙ order-length, kept .1 .1 .1 .0 ∙ stack-length, order-more w (call .ensures) (kept .0) (kept .1 .0) (kept .1 .1 .1 .0))
@@ -66,10 +65,7 @@ finish-order-spec =
     Inv-loop
     μ-loop
     clear-flags-requires
-    (λ c. search needs)
-    (λ c κs. search needs)
     loop-holds
-    (λ c. search needs)
     visit-from-requires
     add-start
     loop-less

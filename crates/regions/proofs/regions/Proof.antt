@@ -11,7 +11,7 @@ finish-order-requires c κs = search needs
 
 label-all-requires : tie.Need-label-all-requires
 label-all-requires c κs =
-    let (reversed, sorted, labels-length, members-room, room) = c .before .before .before .before .before .before .before .before .before .before .before .before .before .before .before .before .before .before .before .before .before .before .pre in
+    let (reversed, sorted, labels-length, members-room, room) = c .before .before .before .before .before .before .before .before .before .before .before .before .before .before .before .before .before .before .before .before .before .before .before .before .pre in
     let walk = c .before .before .before .before .before .before .before .before .before .before .before .finish-order in
     let kept = walk .kept .1 .1 in (
       omega (arith, kept .1 .0, room .order-room),
@@ -37,7 +37,7 @@ same-length-5 c = search needs
 
 returns : tie.Need-returns
 returns c =
-    let (reversed, sorted, labels-length, members-room, room) = c .before .before .before .before .before .before .before .before .before .before .before .before .before .before .before .before .before .before .before .before .before .before .before .before .before .before .before .before .before .before .before .pre in
+    let (reversed, sorted, labels-length, members-room, room) = c .before .before .before .before .before .before .before .before .before .before .before .before .before .before .before .before .before .before .before .before .before .before .before .before .before .before .before .before .before .before .before .before .before .pre in
     regions-forward _ _ _ reversed (c .before .before .before .before .before .before .before .before .label-all .ensures)
 
 pub regions-spec : {M : Type 1} → statement M
