@@ -139,7 +139,7 @@ pub(crate) fn row_sources(
 
 // ---- the query of an accepted scene
 
-// Flags the inferred inputs of a prepared scene, by member.
+// Flags the inferred inputs of a prepared scene, by member. The rows are hints.
 pub(crate) fn inferred_members(
     components: &[i64],
     ports: &[i64],
@@ -152,6 +152,8 @@ pub(crate) fn inferred_members(
     members: &[usize],
     region_at: &[usize],
     inferred: &mut [bool],
+    forward_rows: &[usize],
+    backward_rows: &[usize],
 )
     requires { ⌜ Scene (now components) (now ports) ⌝ }
     requires { ⌜ Prepared (now components) (now ports) (now «source_at») (now «sink_at») (now forward) (now backward) (now labels) (now members) (now «region_at») ⌝ }
@@ -182,6 +184,8 @@ pub(crate) fn inferred_members(
         region_at,
         &has_drive,
         &mut inferred_at,
+        forward_rows,
+        backward_rows,
     );
     gather(
         components.len() / COMPONENT,
@@ -211,6 +215,8 @@ pub(crate) fn find_inputs(
 {
     let mut members = [0usize; COMPONENTS];
     let mut region_at = [0usize; COMPONENTS];
+    let mut forward_rows = [0usize; COMPONENTS];
+    let mut backward_rows = [0usize; COMPONENTS];
     regions::clear(stack);
     prepare(
         keys,
@@ -224,6 +230,8 @@ pub(crate) fn find_inputs(
         &mut members,
         &mut region_at,
         stack,
+        &mut forward_rows,
+        &mut backward_rows,
     );
     inferred_members(
         components,
@@ -237,6 +245,8 @@ pub(crate) fn find_inputs(
         &members,
         &region_at,
         inferred,
+        &forward_rows,
+        &backward_rows,
     );
 }
 

@@ -5,8 +5,6 @@ use signals::flags::gather;
 use signals::inferred::flag_outside;
 use signals::inferred::is_inferred;
 use signals::inferred::passive_flags;
-use tables::SECOND_BITS;
-use tables::rows::hint_rows;
 ghost use mathlib.Core.Path.{_≡_};
 ghost use Prim.Native.Nat.{ℕ, _≤_};
 ghost use lib.ListN.{length};
@@ -20,7 +18,7 @@ ghost use Rattle.signals.specs.Flags.{Flags, Indices};
 ghost use Rattle.signals.specs.Seen.{Rows};
 ghost use Rattle.signals.specs.Stages.{inferredBy};
 
-// Flags the inferred inputs, by list place, given which regions have a drive source and which are fed from outside.
+// Flags the inferred inputs, by list place, given which regions have a drive source and which are fed from outside. The rows are hints.
 pub(crate) fn infer(
     components: &[i64],
     members: &[usize],
@@ -31,6 +29,8 @@ pub(crate) fn infer(
     backward: &[u64],
     labels: &[usize],
     flags: &mut [bool],
+    forward_rows: &[usize],
+    backward_rows: &[usize],
 )
     requires { ⌜ Components (now components) × (Rows (length (now labels)) (now forward) × Rows (length (now labels)) (now backward)) ⌝ }
     requires { ⌜ Indices (componentCount (now components)) (length (now labels)) (now members) × (componentCount (now components) ≤ length (now flags)) ⌝ }
@@ -40,10 +40,6 @@ pub(crate) fn infer(
         (now (flags .exit)) ⌝ }
 {
     let count = components.len() / COMPONENT;
-    let mut forward_rows = [0usize; COMPONENTS];
-    let mut backward_rows = [0usize; COMPONENTS];
-    hint_rows(forward, SECOND_BITS, &mut forward_rows);
-    hint_rows(backward, SECOND_BITS, &mut backward_rows);
     let mut p: usize = 0;
     while p < count {
         let region = region_at[p];
@@ -56,8 +52,8 @@ pub(crate) fn infer(
             backward,
             labels,
             members[p],
-            &forward_rows,
-            &backward_rows,
+            forward_rows,
+            backward_rows,
         );
         p += 1;
     }

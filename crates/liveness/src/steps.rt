@@ -18,6 +18,8 @@ use signals::stages::find_cyclic;
 use signals::stages::find_regions;
 use signals::stages::place_labels;
 use signals::stages::place_members;
+use tables::SECOND_BITS;
+use tables::rows::hint_rows;
 ghost use mathlib.Core.Path.{_≡_};
 ghost use mathlib.Core.List.{List};
 ghost use Prim.Native.Nat.{ℕ, _≤_};
@@ -45,7 +47,7 @@ pub struct RowCounts {
     pub inputs: usize,
 }
 
-// Builds the tables of a scene, given its settled ends, and finds its regions; answers how many there are.
+// Builds the tables of a scene, given its settled ends, with hints of their rows, and finds its regions; answers how many there are.
 pub fn prepare(
     keys: &[u64],
     components: &[i64],
@@ -58,13 +60,24 @@ pub fn prepare(
     members: &mut [usize],
     region_at: &mut [usize],
     stack: &mut [usize],
+    forward_rows: &mut [usize],
+    backward_rows: &mut [usize],
 ) -> usize
     requires { ⌜ Scene (now components) (now ports) × (IdTable (now components) (now keys) × SettledEnds (now components) (now ports) (now sources) (now sinks)) ⌝ }
     requires { ⌜ PreparedRoom (now components) (now ports) (now forward) (now backward) (now labels) (now members) (now «region_at») (now stack) ⌝ }
     ensures { λ r. ⌜ Prepares (now (components .entry)) (now (ports .entry)) (now (sources .entry)) (now (sinks .entry)) (now (forward .exit)) (now (backward .exit)) (now (labels .exit)) (now (members .exit)) (now («region_at» .exit)) (now (stack .exit)) r ⌝ }
 {
     build_tables(ports, sources, sinks, forward, backward);
-    let count = find_regions(forward, backward, labels, stack);
+    hint_rows(forward, SECOND_BITS, forward_rows);
+    hint_rows(backward, SECOND_BITS, backward_rows);
+    let count = find_regions(
+        forward,
+        backward,
+        labels,
+        stack,
+        forward_rows,
+        backward_rows,
+    );
     place_members(keys, members);
     place_labels(labels.len(), members, labels, region_at);
     count
@@ -89,7 +102,7 @@ pub fn flag_drive(
     gather(components.len() / COMPONENT, region_at, drive_at, has_drive);
 }
 
-// Flags the inferred inputs, by list place.
+// Flags the inferred inputs, by list place. The rows are hints.
 pub fn flag_inferred(
     components: &[i64],
     ports: &[i64],
@@ -102,6 +115,8 @@ pub fn flag_inferred(
     region_at: &[usize],
     has_drive: &[bool],
     inferred: &mut [bool],
+    forward_rows: &[usize],
+    backward_rows: &[usize],
 )
     requires { ⌜ Scene (now components) (now ports) ⌝ }
     requires { ⌜ Prepared (now components) (now ports) (now sources) (now sinks) (now forward) (now backward) (now labels) (now members) (now «region_at») ⌝ }
@@ -121,10 +136,12 @@ pub fn flag_inferred(
         backward,
         labels,
         inferred,
+        forward_rows,
+        backward_rows,
     );
 }
 
-// All marks of a scene.
+// All marks of a scene. The rows are hints.
 fn mark(
     components: &[i64],
     ports: &[i64],
@@ -141,6 +158,8 @@ fn mark(
     has_drive: &mut [bool],
     drive: &mut [bool],
     potential: &mut [bool],
+    forward_rows: &[usize],
+    backward_rows: &[usize],
 )
     requires { ⌜ Scene (now components) (now ports) ⌝ }
     requires { ⌜ Prepared (now components) (now ports) (now sources) (now sinks) (now forward) (now backward) (now labels) (now members) (now «region_at») ⌝ }
@@ -168,6 +187,8 @@ fn mark(
         region_at,
         has_drive,
         inferred,
+        forward_rows,
+        backward_rows,
     );
     flag_alive(
         ports,
@@ -227,7 +248,7 @@ fn answer(
     }
 }
 
-// Marks a prepared scene, writes its rows and answers. The stack is zero already, as it is to be left.
+// Marks a prepared scene, writes its rows and answers. The stack is zero already, as it is to be left. The last two are hints of rows.
 fn report(
     components: &[i64],
     ports: &[i64],
@@ -244,6 +265,8 @@ fn report(
     sources: &mut [u64],
     inputs: &mut [u64],
     stack: &mut [usize],
+    forward_rows: &[usize],
+    backward_rows: &[usize],
 ) -> Analysis
     requires { ⌜ Scene (now components) (now ports) ⌝ }
     requires { ⌜ Prepared (now components) (now ports) (now «source_at») (now «sink_at») (now forward) (now backward) (now labels) (now members) (now «region_at») ⌝ }
@@ -272,6 +295,8 @@ fn report(
         &mut has_drive,
         &mut drive[..n],
         &mut potential[..n],
+        forward_rows,
+        backward_rows,
     );
     put_regions(n, region_at, regions);
     let counts = RowCounts {
@@ -324,6 +349,8 @@ pub fn analyze(
     let mut labels = [0usize; COMPONENTS];
     let mut members = [0usize; COMPONENTS];
     let mut region_at = [0usize; COMPONENTS];
+    let mut forward_rows = [0usize; COMPONENTS];
+    let mut backward_rows = [0usize; COMPONENTS];
     regions::clear(stack);
     let count = prepare(
         keys,
@@ -337,6 +364,8 @@ pub fn analyze(
         &mut members,
         &mut region_at,
         stack,
+        &mut forward_rows,
+        &mut backward_rows,
     );
     report(
         components,
@@ -354,5 +383,7 @@ pub fn analyze(
         sources,
         inputs,
         stack,
+        &forward_rows,
+        &backward_rows,
     )
 }

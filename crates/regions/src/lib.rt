@@ -17,7 +17,7 @@ ghost use Rattle.regions.specs.Keys.{edges, Reversed};
 ghost use Rattle.regions.specs.Search.{fresh, Room, Entered, Skipped, Searched, Ordered, Labelled, Regions, Reached};
 
 // The nodes whose row of keys has a hint of where it begins. Others are searched for.
-const HINTED: usize = 1024;
+pub const HINTED: usize = 1024;
 
 // Sets every flag to false.
 pub fn clear_flags(flags: &mut [bool])
@@ -136,25 +136,24 @@ fn visit_from(
     done
 }
 
-// The walk forward: the nodes, in the order in which they finish.
+// The walk forward: the nodes, in the order in which they finish. The rows are hints.
 fn finish_order(
     keys: &[u64],
     n: usize,
     visited: &mut [bool],
     order: &mut [usize],
     stack: &mut [usize],
+    rows: &[usize; HINTED],
 )
     requires { ⌜ Room n (now keys) (now visited) (now order) (now stack) ⌝ }
     ensures { λ _. ⌜ Ordered n (edges n (now (keys .entry))) (now (order .entry)) (now (order .exit)) (now (stack .exit)) ⌝ }
 {
     clear_flags(visited);
-    let mut rows = [0usize; HINTED];
-    hint_rows(keys, SECOND_BITS, &mut rows);
     let mut count = 0;
     let mut start = 0;
     while start < n {
         if !visited[start] {
-            count = visit_from(keys, n, start, visited, order, count, stack, &rows);
+            count = visit_from(keys, n, start, visited, order, count, stack, rows);
         }
         start += 1;
     }
@@ -197,7 +196,7 @@ fn label_from(
     count + 1
 }
 
-// The walk back: the regions of the nodes of the order, last finished first.
+// The walk back: the regions of the nodes of the order, last finished first. The rows are hints.
 fn label_all(
     backward: &[u64],
     n: usize,
@@ -206,6 +205,7 @@ fn label_all(
     labels: &mut [usize],
     members: &mut [usize],
     stack: &mut [usize],
+    rows: &[usize; HINTED],
 ) -> usize
     requires { ⌜ (n ≤ length (now order)) × (take n (now order) ≡ Kosaraju.order n (flip (edges n (now backward))))
         × (length (now labels) ≡ n) × Room n (now backward) (now visited) (now members) (now stack) ⌝ }
@@ -213,8 +213,6 @@ fn label_all(
 {
     clear_flags(visited);
     clear(labels);
-    let mut rows = [0usize; HINTED];
-    hint_rows(backward, SECOND_BITS, &mut rows);
     let mut count = 0;
     let mut i = n;
     while 0 < i {
@@ -228,13 +226,14 @@ fn label_all(
             count,
             members,
             stack,
-            &rows,
+            rows,
         );
     }
     count
 }
 
-// The number of regions; `labels` gets the number of each node's. The two tables hold the edges and the edges turned around.
+// The number of regions; `labels` gets the number of each node's. The two tables hold the edges and the edges turned
+// around; `rows` and `turned` are hints of their rows.
 pub fn regions(
     forward: &[u64],
     backward: &[u64],
@@ -244,13 +243,15 @@ pub fn regions(
     order: &mut [usize],
     members: &mut [usize],
     stack: &mut [usize],
+    rows: &[usize; HINTED],
+    turned: &[usize; HINTED],
 ) -> usize
     requires { ⌜ Reversed n (now forward) (now backward) × Ascending (now backward) × (length (now labels) ≡ n) × (n ≤ length (now members))
         × Room n (now forward) (now visited) (now order) (now stack) ⌝ }
     ensures { λ r. ⌜ Regions n (edges n (now (forward .entry))) (now (labels .exit)) r (now (stack .exit)) ⌝ }
 {
-    finish_order(forward, n, visited, order, stack);
-    label_all(backward, n, order, visited, labels, members, stack)
+    finish_order(forward, n, visited, order, stack, rows);
+    label_all(backward, n, order, visited, labels, members, stack, turned)
 }
 
 // Marks in `visited` what the marked starts reach, the starts among it. The order is scratch.

@@ -10,6 +10,7 @@ use lists::COMPONENTS;
 use lists::CONNECTIONS;
 use lists::PORT;
 use lists::ids::place_at;
+use regions::HINTED;
 ghost use mathlib.Core.Path.{_≡_};
 ghost use mathlib.Core.Bool.{_||_};
 ghost use mathlib.Core.List.{List};
@@ -61,12 +62,14 @@ pub fn build_fed(ports: &[i64], sources: &[usize], sinks: &[usize], fed: &mut [u
     signal_keys(ports, &slots, sources, COMPONENTS * PORTS, fed, &mut spare);
 }
 
-// The regions of the nodes below labels.len(); answers how many there are.
+// The regions of the nodes below labels.len(); answers how many there are. The rows are hints.
 pub fn find_regions(
     forward: &[u64],
     backward: &[u64],
     labels: &mut [usize],
     stack: &mut [usize],
+    forward_rows: &[usize; HINTED],
+    backward_rows: &[usize; HINTED],
 ) -> usize
     requires { ⌜ Ascending (now forward) × (Ascending (now backward) × Reversed (length (now labels)) (now forward) (now backward)) ⌝ }
     requires { ⌜ (length (now labels) ≤ componentLimit) × ((2 * length (now labels) ≤ length (now stack)) × Zeros (now stack)) ⌝ }
@@ -85,6 +88,8 @@ pub fn find_regions(
         &mut order,
         &mut members,
         stack,
+        forward_rows,
+        backward_rows,
     )
 }
 

@@ -25,8 +25,8 @@ clear-flags-requires c κs = tt
 
 loop-holds : tie.Need-loop-holds Inv-loop μ-loop
 loop-holds c =
-    let room = c .before .before .before .before .before .before .before .before .before .before .before .pre in
-    let cleared = c .before .before .before .before .before .clear-flags in
+    let room = c .before .before .before .before .before .before .before .before .pre in
+    let cleared = c .before .before .clear-flags in
     (omega arith, refl, refl, order-begin _ (cleared .ensures ∙ ap (λ k. replicate k false) (room .visited-length)) (room-kept room (room .keys-rise) (cleared .kept .0) (room .order-room) refl (room .stack-zeros)))
 
 slice-read-if1 : tie.Need-slice-read-if1 Inv-loop μ-loop
@@ -34,8 +34,8 @@ slice-read-if1 c = omega arith
 
 visit-from-requires : tie.Need-visit-from-requires Inv-loop μ-loop
 visit-from-requires c κs =
-    let (le, order-length, stack-length, w) = c .before .before .before .before .before .before .before .loop .inv in
-    (c .before .before .before .before .before .before .loop-test .taken, omega arith, w .room)
+    let (le, order-length, stack-length, w) = c .before .before .before .before .before .before .loop .inv in
+    (c .before .before .before .before .before .loop-test .taken, omega arith, w .room)
 
 add-start : tie.Need-add-start Inv-loop μ-loop
 add-start c = omega arith
@@ -49,9 +49,9 @@ loop-again c =
     let start = c .before .before .before .loop .start in
     ⊎-elim
     (λ v.
-    let kept = v .5 .kept .1 .1 .1 in
-    rw (v .12, v .13, v .14, v .15)
-    (omega arith, kept .1 .0 ∙ order-length, kept .1 .1 .1 .0 ∙ stack-length, order-more start w (v .5 .ensures) (kept .0) (kept .1 .0) (kept .1 .1 .1 .0)))
+    let kept = v .4 .kept .1 .1 .1 in
+    rw (v .11, v .12, v .13, v .14)
+    (omega arith, kept .1 .0 ∙ order-length, kept .1 .1 .1 .0 ∙ stack-length, order-more start w (v .4 .ensures) (kept .0) (kept .1 .0) (kept .1 .1 .1 .0)))
     (λ v. rw (v .1, v .2, v .3, v .4) (omega arith, order-length, stack-length, order-skip start w (not-false _ (v .0 .left))))
     (c .if1 .came)
 
@@ -76,8 +76,6 @@ finish-order-spec =
     Inv-loop
     μ-loop
     clear-flags-requires
-    (λ c. search needs)
-    (λ c κs. search needs)
     loop-holds
     slice-read-if1
     visit-from-requires

@@ -1,7 +1,6 @@
 -- `regions::label_all` meets its contract. The loop's invariant: the nodes of the order from the place i on are dealt with. Assumes nothing.
 use mathlib.Core.Path.{_≡_, refl, ap, _∙_}
 use mathlib.Core.Bool.{false}
-use borrow.Author.Needs.{needs}
 use native.Mathlib.Omega.{arith}
 use lib.ListN.{length, replicate}
 use Rattle.regions.specs.Graph.{flip}
@@ -26,9 +25,9 @@ clear-requires c κs = tt
 
 loop-holds : tie.Need-loop-holds Inv-loop μ-loop
 loop-holds c =
-    let (order-room, order-is, labels-length, room) = c .before .before .before .before .before .before .before .before .before .before .before .before .before .before .before .before .before .pre in
-    let flags = c .before .before .before .before .before .before .before .before .before .clear-flags in
-    let numbers = c .before .before .before .before .before .clear in (
+    let (order-room, order-is, labels-length, room) = c .before .before .before .before .before .before .before .before .before .before .before .before .before .before .pre in
+    let flags = c .before .before .before .before .before .before .clear-flags in
+    let numbers = c .before .before .clear in (
       refl,
       refl,
       label-begin (within-flip _ _) (numbers .ensures ∙ ap (λ k. replicate k 0) labels-length) (flags .ensures ∙ ap (λ k. replicate k false) (room .visited-length))
@@ -46,9 +45,9 @@ shared-slice-read-label-from c = omega arith
 
 label-from-requires : tie.Need-label-from-requires Inv-loop μ-loop
 label-from-requires c κs =
-    let (order-room, order-is, labels-length, room) = c .before .before .before .before .before .before .before .before .before .before .before .before .before .before .before .before .before .before .before .before .before .before .before .before .before .pre in
-    let (members-length, stack-length, l) = c .before .before .before .before .before .before .before .loop .inv in
-    let more = c .before .before .before .before .before .before .loop-test .taken in
+    let (order-room, order-is, labels-length, room) = c .before .before .before .before .before .before .before .before .before .before .before .before .before .before .before .before .before .before .before .before .before .pre in
+    let (members-length, stack-length, l) = c .before .before .before .before .before .before .loop .inv in
+    let more = c .before .before .before .before .before .loop-test .taken in
     (label-node l more (within-flip _ _) _ order-is, omega arith, l .labels-length, l .room)
 
 loop-less : tie.Need-loop-less Inv-loop μ-loop
@@ -56,9 +55,9 @@ loop-less c = omega arith
 
 loop-again : tie.Need-loop-again Inv-loop μ-loop
 loop-again c =
-    let (order-room, order-is, labels-length, room) = c .before .before .before .before .before .before .before .before .before .before .before .before .before .before .before .before .before .before .before .before .before .before .before .before .before .before .before .before .before .before .before .before .before .before .pre in
-    let (members-length, stack-length, l) = c .before .before .before .before .before .before .before .before .before .before .before .before .before .before .before .before .loop .inv in
-    let more = c .before .before .before .before .before .before .before .before .before .before .before .before .before .before .before .loop-test .taken in
+    let (order-room, order-is, labels-length, room) = c .before .before .before .before .before .before .before .before .before .before .before .before .before .before .before .before .before .before .before .before .before .before .before .before .before .before .before .before .before .before .pre in
+    let (members-length, stack-length, l) = c .before .before .before .before .before .before .before .before .before .before .before .before .before .before .before .loop .inv in
+    let more = c .before .before .before .before .before .before .before .before .before .before .before .before .before .before .loop-test .taken in
     let call = c .before .before .before .before .before .before .before .before .label-from in
     let kept = call .kept .1 .1 .1 in
     (kept .1 .1 .1 .0 ∙ members-length, kept .1 .1 .1 .1 .0 ∙ stack-length, label-more l more (within-flip _ _) _ order-is (call .ensures) (kept .0) (kept .1 .0) (kept .1 .1 .1 .0) (kept .1 .1 .1 .1 .0))
@@ -88,8 +87,6 @@ label-all-spec =
     μ-loop
     clear-flags-requires
     clear-requires
-    (λ c. search needs)
-    (λ c κs. search needs)
     loop-holds
     sub-i
     mul-label-from

@@ -1,6 +1,5 @@
 -- `liveness::infer::infer` meets its contract: each flag up to the present one is its component's.
 -- Assumes nothing.
-use borrow.Author.Needs.{needs}
 use mathlib.Core.Path.{_≡_, refl}
 use mathlib.Core.Bool.{false}
 use Prim.Native.Nat.{ℕ, _-_, _≤_, _<_}
@@ -13,15 +12,15 @@ use Rattle.liveness.proofs.infer.infer.Statement.{statement}
 use Rattle.liveness.proofs.infer.infer.Tie as tie
 
 abbrev Inv-loop : tie.InvT-loop
-Inv-loop components members region-at has-drive fed forward backward labels flags₀ count forward-rows backward-rows p₀ flags p =
+Inv-loop components members region-at has-drive fed forward backward labels flags₀ forward-rows backward-rows count p₀ flags p =
     (p ≤ count) × (length flags ≡ length flags₀)
     × ((j : ℕ) → j < p → marked flags j ≡ inferredBy components members region-at has-drive fed forward backward labels j)
 
 abbrev μ-loop : tie.MeasureT-loop
-μ-loop components members region-at has-drive fed forward backward labels flags₀ count forward-rows backward-rows p₀ flags p = count - p
+μ-loop components members region-at has-drive fed forward backward labels flags₀ forward-rows backward-rows count p₀ flags p = count - p
 
 abbrev start : tie.At-loop Inv-loop μ-loop → tie.Start Inv-loop μ-loop
-start c = c .before .before .before .before .before .before .before .before .before .before .before .before .before .before .before
+start c = c .before .before .before .before .before .before .before .before .before .before .before
 
 -- the component of a turn has a region and a member, and there is room for its flag
 few : (c : tie.In-loop Inv-loop μ-loop) → c .before .loop .p < 65536
@@ -41,13 +40,13 @@ room c = omega (arith, c .loop-test .taken, c .before .loop .inv .1, start (c .b
 
 is-inferred-requires : tie.Need-is-inferred-requires Inv-loop μ-loop
 is-inferred-requires c κs =
-    let turn = c .before .before .before .before .before .before in
+    let turn = c .before .before .before .before in
     let s = start (turn .before) in
     ((s .pre .0 .0, turn .loop-test .taken), (s .pre .0 .1 .0, (s .pre .0 .1 .1, s .pre .1 .0 .0 .below (turn .before .loop .p) (turn .loop-test .taken))))
 
 loop-again : tie.Need-loop-again Inv-loop μ-loop
 loop-again c =
-    let turn = c .before .before .before .before .before .before .before in
+    let turn = c .before .before .before .before .before in
     let l = turn .before .loop in
     let a = start (turn .before) .args in (
       omega (arith, turn .loop-test .taken),
@@ -70,10 +69,6 @@ infer-spec =
     (tie.spec
     Inv-loop
     μ-loop
-    (λ c. search needs)
-    (λ c κs. search needs)
-    (λ c. search needs)
-    (λ c κs. search needs)
     (λ c. (omega arith, refl, λ j h. absurd (omega arith)))
     (λ c. omega (arith, few c))
     (λ c. read-region (c .before))
@@ -81,11 +76,9 @@ infer-spec =
     (λ c. omega (arith, region-below (c .before .before .before), start (c .before .before .before .before) .pre .1 .1 .1))
     (λ c. omega (arith, few (c .before .before .before)))
     (λ c. read-member (c .before .before .before .before))
-    (λ c. search needs)
-    (λ c. search needs)
     is-inferred-requires
-    (λ c. room (c .before .before .before .before .before .before .before))
-    (λ c. omega (arith, few (c .before .before .before .before .before .before .before)))
+    (λ c. room (c .before .before .before .before .before))
+    (λ c. omega (arith, few (c .before .before .before .before .before)))
     (λ c. omega arith)
     loop-again
     (λ c. c .before .loop .inv .1)

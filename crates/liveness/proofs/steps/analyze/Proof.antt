@@ -39,8 +39,8 @@ labels-lent s = length-take-le _ _ (nodes-few s)
 
 prepare-requires : tie.Need-prepare-requires
 prepare-requires c κs =
-    let cleared = c .before .before .before .before .before .before .before .before in
-    let s = c .before .before .before .before .before .before .before .before .before .before .before .before .before .before .before .before .before in (
+    let cleared = c .before .before .before .before .before .before .before .before .before .before in
+    let s = c .before .before .before .before .before .before .before .before .before .before .before .before .before .before .before .before .before .before .before in (
       s .pre .0,
       record {
         forward-room = keys-lent s;
@@ -56,7 +56,7 @@ prepare-requires c κs =
 -- ---- after the scene is prepared: what was lent stands at the front of each array
 
 abbrev start : tie.After-prepare → tie.Start
-start c = c .before .before .before .before .before .before .before .before .before .before .before .before .before .before .before .before .before .before
+start c = c .before .before .before .before .before .before .before .before .before .before .before .before .before .before .before .before .before .before .before .before
 
 abbrev forward : tie.After-prepare → List ℕ
 forward c = c .prepare .last .1 .1 .1 .1 .1 .0
@@ -83,11 +83,11 @@ labels-long : (c : tie.After-prepare) → length (labelled c) ≡ nodes (start c
 labels-long c = c .prepare .kept .1 .1 .1 .1 .1 .1 .1 .0 ∙ labels-lent (start c)
 
 stack-kept : (c : tie.After-prepare) → length (c .prepare .last .1 .1 .1 .1 .1 .1 .1 .1 .1 .1 .0) ≡ length (start c .args .stack .now)
-stack-kept c = c .prepare .kept .1 .1 .1 .1 .1 .1 .1 .1 .1 .1 .0 ∙ c .before .before .before .before .before .before .before .before .before .clear .kept .0
+stack-kept c = c .prepare .kept .1 .1 .1 .1 .1 .1 .1 .1 .1 .1 .0 ∙ c .before .before .before .before .before .before .before .before .before .before .before .clear .kept .0
 
 report-requires : tie.Need-report-requires
 report-requires c κs =
-    let p = c .before .before .before .before .before .before .before .before .before .before .before .before .before .before .before .before in
+    let p = c .before .before .before .before .before .before .before .before .before .before .before .before .before .before .before .before .before .before .before .before in
     let s = start p in
     let room = s .pre .1 in
     let e = p .prepare .ensures in (
@@ -111,7 +111,7 @@ report-requires c κs =
     )
 
 returns : tie.Need-returns
-returns c = let p = c .before .before .before .before .before .before .before .before .before .before .before .before .before .before .before .before .before .before .before .before .before .before .before .before .before in analyzed-stack (stack-kept p) (c .before .before .before .before .before .before .before .before .report .ensures)
+returns c = let p = c .before .before .before .before .before .before .before .before .before .before .before .before .before .before .before .before .before .before .before .before .before .before .before .before .before .before .before .before .before in analyzed-stack (stack-kept p) (c .before .before .before .before .before .before .before .before .report .ensures)
 
 pub analyze-spec : {M : Type 1} → statement M
 analyze-spec =
@@ -126,18 +126,22 @@ analyze-spec =
     (λ c. sym (labels-lent (c .before .before .before .before .before .before .before .before .before .before .before .before .before .before)))
     (λ c. search needs)
     (λ c. search needs)
+    (λ c. search needs)
+    (λ c. search needs)
     prepare-requires
-    (λ c. let p = c .before .before .before .before .before .before .before in front-long _ (forward p) (keys-rest p) (forward-long p))
-    (λ c. let p = c .before .before .before .before .before .before .before .before in front-length _ (forward p) (keys-rest p) (forward-long p))
-    (λ c. let p = c .before .before .before .before .before .before .before .before in front-long _ (backward p) (keys-rest p) (backward-long p))
-    (λ c. let p = c .before .before .before .before .before .before .before .before .before in front-length _ (backward p) (keys-rest p) (backward-long p))
-    (λ c. let p = c .before .before .before .before .before .before .before .before .before in front-long _ (labelled p) (labels-rest p) (labels-long p))
-    (λ c. let p = c .before .before .before .before .before .before .before .before .before .before in front-length _ (labelled p) (labels-rest p) (labels-long p))
+    (λ c. let p = c .before .before .before .before .before .before .before .before .before in front-long _ (forward p) (keys-rest p) (forward-long p))
+    (λ c. let p = c .before .before .before .before .before .before .before .before .before .before in front-length _ (forward p) (keys-rest p) (forward-long p))
+    (λ c. let p = c .before .before .before .before .before .before .before .before .before .before in front-long _ (backward p) (keys-rest p) (backward-long p))
+    (λ c. let p = c .before .before .before .before .before .before .before .before .before .before .before in front-length _ (backward p) (keys-rest p) (backward-long p))
+    (λ c. let p = c .before .before .before .before .before .before .before .before .before .before .before in front-long _ (labelled p) (labels-rest p) (labels-long p))
+    (λ c. let p = c .before .before .before .before .before .before .before .before .before .before .before .before in front-length _ (labelled p) (labels-rest p) (labels-long p))
+    (λ c. search needs)
+    (λ c. search needs)
     (λ c. search needs)
     (λ c. search needs)
     report-requires
     (λ c. search needs)
     (λ c. search needs)
     (λ c. search needs)
-    (λ c. c .before .before .before .before .before .before .before .before .report .kept .1 .1 .1 .1 .1 .1 .1 .1 .1 .1 .1 .1 .1 .1 .0 ∙ stack-kept (c .before .before .before .before .before .before .before .before .before .before .before .before .before .before .before .before .before .before .before .before .before .before .before .before .before))
+    (λ c. c .before .before .before .before .before .before .before .before .report .kept .1 .1 .1 .1 .1 .1 .1 .1 .1 .1 .1 .1 .1 .1 .0 ∙ stack-kept (c .before .before .before .before .before .before .before .before .before .before .before .before .before .before .before .before .before .before .before .before .before .before .before .before .before .before .before .before .before))
     returns)

@@ -11,11 +11,11 @@ use Rattle.liveness.proofs.steps.flag_inferred.Statement.{statement}
 use Rattle.liveness.proofs.steps.flag_inferred.Tie as tie
 
 abbrev start : tie.After-outside-regions → tie.Start
-start c = c .before .before .before .before .before .before .before .before .before .before .before
+start c = c .before .before .before .before .before .before .before .before .before .before .before .before .before
 
 outside-regions-requires : tie.Need-outside-regions-requires
 outside-regions-requires c κs =
-    let s = c .before .before .before .before .before .before .before .before .before .before in
+    let s = c .before .before .before .before .before .before .before .before .before .before .before .before in
     (s .pre .0, ((s .args .forward .now, s .args .backward .now, s .args .region-at .now, s .pre .1 .0), refl))
 
 infer-requires : tie.Need-infer-requires

@@ -20,14 +20,14 @@ ps s = s .args .ports .now
 
 flag-drive-requires : tie.Need-flag-drive-requires
 flag-drive-requires c κs =
-    let s = c .before .before .before .before .before .before .before .before .before .before .before .before .before .before .before in
+    let s = c .before .before .before .before .before .before .before .before .before .before .before .before .before .before .before .before .before in
     let room = s .pre .1 .1 in
     ((ps s, (s .pre .0, s .pre .1 .0 .regions-are)), (room .frontier-room, (s .pre .0 .components .few, room .regions-room)))
 
 flag-inferred-requires : tie.Need-flag-inferred-requires
 flag-inferred-requires c κs =
     let driven = c .before .before .before .before .before .before .before in
-    let s = c .before .before .before .before .before .before .before .before .before .before .before .before .before .before .before .before .before .before .before .before .before .before .before in
+    let s = c .before .before .before .before .before .before .before .before .before .before .before .before .before .before .before .before .before .before .before .before .before .before .before .before .before in
     let room = s .pre .1 .1 in
     (s .pre .0, (s .pre .1 .0, (driven .flag-drive .kept .1 .1 .1 .1 .1 .0 ∙ room .regions-room, room .inferred-room)))
 
@@ -52,7 +52,7 @@ flag-alive-requires : tie.Need-flag-alive-requires
 flag-alive-requires c κs =
     let inferred = c .before .before .before .before .before .before in
     let driven = c .before .before .before .before .before .before .before .before .before .before .before .before .before .before in
-    let s = c .before .before .before .before .before .before .before .before .before .before .before .before .before .before .before .before .before .before .before .before .before .before .before .before .before .before .before .before .before .before in
+    let s = c .before .before .before .before .before .before .before .before .before .before .before .before .before .before .before .before .before .before .before .before .before .before .before .before .before .before .before .before .before .before .before .before in
     let room = s .pre .1 .1 in (
       (cs s, regions s),
       record {
@@ -68,7 +68,7 @@ returns c =
     let alive = c .before .before .before .before in
     let inferred = c .before .before .before .before .before .before .before .before .before .before .before in
     let driven = c .before .before .before .before .before .before .before .before .before .before .before .before .before .before .before .before .before .before .before in
-    let s = c .before .before .before .before .before .before .before .before .before .before .before .before .before .before .before .before .before .before .before .before .before .before .before .before .before .before .before .before .before .before .before .before .before .before .before in
+    let s = c .before .before .before .before .before .before .before .before .before .before .before .before .before .before .before .before .before .before .before .before .before .before .before .before .before .before .before .before .before .before .before .before .before .before .before .before .before in
     let fs = s .args .frontiers .now in
     let d = driven .flag-drive .ensures (ps s) (s .pre .1 .0 .regions-are) in
     let i = inferred .flag-inferred .ensures fs (d .region-flags) in

@@ -21,7 +21,7 @@ use Rattle.liveness.proofs.steps.prepare.Tie as tie
 
 build-tables-requires : tie.Need-build-tables-requires
 build-tables-requires c κs =
-    let s = c .before .before .before .before .before .before .before .before .before .before .before in
+    let s = c .before .before .before .before .before .before .before .before .before .before .before .before .before in
     let room = s .pre .1 in (
       (s .pre .0 .0 .connections, (s .args .components .now, (s .pre .0 .0 .components .few, s .pre .0 .1 .1))),
       (room .forward-room, room .backward-room),
@@ -30,7 +30,7 @@ build-tables-requires c κs =
 -- ---- after the tables are built
 
 abbrev start : tie.After-build-tables → tie.Start
-start c = c .before .before .before .before .before .before .before .before .before .before .before .before
+start c = c .before .before .before .before .before .before .before .before .before .before .before .before .before .before
 
 abbrev cs : tie.After-build-tables → List ℤ
 cs c = start c .args .components .now
@@ -55,7 +55,7 @@ graph c =
 
 find-regions-requires : tie.Need-find-regions-requires
 find-regions-requires c κs =
-    let b = c .before .before .before .before .before .before .before .before in
+    let b = c .before .before .before .before .before .before .before .before .before .before .before .before .before .before .before .before .before .before .before .before in
     let room = start b .pre .1 in
     let t = tables b in (
       (
@@ -69,7 +69,7 @@ find-regions-requires c κs =
     )
 
 place-members-requires : tie.Need-place-members-requires
-place-members-requires c κs = let s = c .before .before .before .before .before .before .before .before .before .before .before .before .before .before .before .before .before .before .before .before .before .before .before .before .before .before in ((s .args .components .now, s .pre .0 .1 .0), omega (arith, table-long (s .pre .0 .1 .0), s .pre .1 .members-room))
+place-members-requires c κs = let s = c .before .before .before .before .before .before .before .before .before .before .before .before .before .before .before .before .before .before .before .before .before .before .before .before .before .before .before .before .before .before .before .before .before .before .before .before .before .before .before .before in ((s .args .components .now, s .pre .0 .1 .0), omega (arith, table-long (s .pre .0 .1 .0), s .pre .1 .members-room))
 
 -- the members of all components are nodes
 indices-at : {n m k : ℕ} {index : List ℕ} → n ≡ k → m ≡ k → Indices k k index → Indices n m index
@@ -79,7 +79,7 @@ place-labels-requires : tie.Need-place-labels-requires
 place-labels-requires c κs =
     let placed = c .before .before .before .before .before in
     let found = c .before .before .before .before .before .before .before .before .before .before .before in
-    let b = c .before .before .before .before .before .before .before .before .before .before .before .before .before .before .before .before .before .before .before .before in
+    let b = c .before .before .before .before .before .before .before .before .before .before .before .before .before .before .before .before .before .before .before .before .before .before .before .before .before .before .before .before .before .before .before .before in
     let room = start b .pre .1 in
     let long = found .find-regions .kept .1 .1 .0 ∙ room .labels-room in
     (indices-at long long (members-below (cs b) (placed .place-members .ensures (cs b) (start b .pre .0 .1 .0) (start b .pre .0 .0 .distinct))), omega (arith, long, room .regions-room))
@@ -89,7 +89,7 @@ returns c =
     let labelled = c .before .before in
     let placed = c .before .before .before .before .before .before .before .before in
     let found = c .before .before .before .before .before .before .before .before .before .before .before .before .before .before in
-    let b = c .before .before .before .before .before .before .before .before .before .before .before .before .before .before .before .before .before .before .before .before .before .before .before in
+    let b = c .before .before .before .before .before .before .before .before .before .before .before .before .before .before .before .before .before .before .before .before .before .before .before .before .before .before .before .before .before .before .before .before .before .before .before in
     let room = start b .pre .1 in
     let long = found .find-regions .kept .1 .1 .0 ∙ room .labels-room in
     let regions = regions-are (cs b) (ps b) (forward b) (graph b) (rw (room .labels-room) at (found .find-regions .ensures)) in
@@ -112,9 +112,13 @@ prepare-spec =
     tie.close
     (tie.spec
     build-tables-requires
+    (λ c κs. search needs)
+    (λ c κs. search needs)
     find-regions-requires
     place-members-requires
     place-labels-requires
+    (λ c. search needs)
+    (λ c. search needs)
     (λ c. search needs)
     (λ c. search needs)
     (λ c. search needs)

@@ -69,7 +69,7 @@ lent s = length-take-le _ _ (small s)
 
 mark-requires : tie.Need-mark-requires
 mark-requires c κs =
-    let s = c .before .before .before .before .before .before .before .before .before .before .before .before .before .before .before .before in (
+    let s = c .before .before .before .before .before .before .before .before .before .before .before .before .before .before .before .before .before .before in (
       s .pre .0,
       (
         s .pre .1 .0,
@@ -84,7 +84,7 @@ mark-requires c κs =
     )
 
 abbrev start : tie.After-mark → tie.Start
-start c = c .before .before .before .before .before .before .before .before .before .before .before .before .before .before .before .before .before
+start c = c .before .before .before .before .before .before .before .before .before .before .before .before .before .before .before .before .before .before .before
 
 abbrev driven : tie.After-mark → List Bool
 driven c = c .mark .last .1 .1 .1 .1 .1 .1 .1 .1 .1 .1 .1 .1 .1 .0
@@ -117,7 +117,7 @@ possible-lent c = ap length (possible-front c) ∙ possible-long c
 
 put-regions-requires : tie.Need-put-regions-requires
 put-regions-requires c κs =
-    let s = c .before .before .before .before .before .before .before .before .before .before .before .before .before .before .before .before .before .before .before .before .before .before .before in
+    let s = c .before .before .before .before .before .before .before .before .before .before .before .before .before .before .before .before .before .before .before .before .before .before .before .before .before in
     (omega (arith, all s, s .pre .1 .0 .regions-are .long), omega (arith, all s, s .pre .1 .1 .1 .0 .regions-room))
 
 put-sources-requires : tie.Need-put-sources-requires
@@ -205,10 +205,10 @@ report-spec =
     (λ c. search needs)
     (λ c. search needs)
     (λ c. search needs)
-    (λ c. small (c .before .before .before .before .before .before .before .before .before .before .before .before .before .before))
-    (λ c. sym (lent (c .before .before .before .before .before .before .before .before .before .before .before .before .before .before .before)))
-    (λ c. small (c .before .before .before .before .before .before .before .before .before .before .before .before .before .before .before))
-    (λ c. sym (lent (c .before .before .before .before .before .before .before .before .before .before .before .before .before .before .before .before)))
+    (λ c. small (c .before .before .before .before .before .before .before .before .before .before .before .before .before .before .before .before))
+    (λ c. sym (lent (c .before .before .before .before .before .before .before .before .before .before .before .before .before .before .before .before .before)))
+    (λ c. small (c .before .before .before .before .before .before .before .before .before .before .before .before .before .before .before .before .before))
+    (λ c. sym (lent (c .before .before .before .before .before .before .before .before .before .before .before .before .before .before .before .before .before .before)))
     mark-requires
     put-regions-requires
     (λ c. search needs)
