@@ -13,13 +13,13 @@ use Rattle.signals.proofs.stages.find_regions.Tie as tie
 -- the lent flags are those of the nodes
 share : tie.Need-slice-aggregate-regions
 share c =
-    let s = c .before .before .before .before .before .before .before .before in
+    let s = c .before .before .before .before .before .before in
     let h : length (s .args .labels .now) ≤ componentLimit = omega (arith, s .pre .1 .0) in
     sym (length-take-le _ _ h)
 
 regions-requires : tie.Need-regions-requires
 regions-requires c κs =
-    let s = c .before .before .before .before .before .before .before .before .before .before .before in
+    let s = c .before .before .before .before .before .before .before .before .before in
     let h : length (s .args .labels .now) ≤ componentLimit = omega (arith, s .pre .1 .0) in (
       s .pre .0 .1 .1,
       s .pre .0 .1 .0,
