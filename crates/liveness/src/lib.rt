@@ -2,6 +2,7 @@
 mod alive;
 pub mod asked;
 mod infer;
+mod prepare;
 mod query;
 mod row;
 pub mod steps;

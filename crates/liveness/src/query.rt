@@ -1,9 +1,9 @@
 // The input query: the immediate sources of a port, and the inferred inputs among these and all upstream of them.
 use super::InputSources;
+use super::prepare::prepare;
 use super::row::row_place;
 use super::steps::flag_drive;
 use super::steps::flag_inferred;
-use super::steps::prepare;
 use lists::COMPONENT;
 use lists::COMPONENTS;
 use lists::CONNECTIONS;
@@ -217,7 +217,6 @@ pub(crate) fn find_inputs(
     let mut region_at = [0usize; COMPONENTS];
     let mut forward_rows = [0usize; COMPONENTS];
     let mut backward_rows = [0usize; COMPONENTS];
-    regions::clear(stack);
     prepare(
         keys,
         components,
