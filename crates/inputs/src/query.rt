@@ -11,9 +11,10 @@ use lists::PORT;
 use lists::Refusal;
 use lists::ids::member_of;
 use lists::numbers::natural_at;
+use liveness::prepare::prepare;
 use liveness::steps::flag_drive;
 use liveness::steps::flag_inferred;
-use liveness::steps::prepare;
+use regions::HINTED;
 use sets::ComponentSet;
 use signals::edges::PORTS;
 use signals::flags::and_flags;
@@ -152,8 +153,8 @@ pub(crate) fn inferred_members(
     members: &[usize],
     region_at: &[usize],
     inferred: &mut [bool],
-    forward_rows: &[usize],
-    backward_rows: &[usize],
+    forward_rows: &[usize; HINTED],
+    backward_rows: &[usize; HINTED],
 )
     requires { ⌜ Scene (now components) (now ports) ⌝ }
     requires { ⌜ Prepared (now components) (now ports) (now «source_at») (now «sink_at») (now forward) (now backward) (now labels) (now members) (now «region_at») ⌝ }
@@ -215,9 +216,8 @@ pub(crate) fn find_inputs(
 {
     let mut members = [0usize; COMPONENTS];
     let mut region_at = [0usize; COMPONENTS];
-    let mut forward_rows = [0usize; COMPONENTS];
-    let mut backward_rows = [0usize; COMPONENTS];
-    regions::clear(stack);
+    let mut forward_rows = [0usize; HINTED];
+    let mut backward_rows = [0usize; HINTED];
     prepare(
         keys,
         components,

@@ -2,7 +2,7 @@
 --     set-where, set-all, set-same, ..  the set of the flags of a test; of a list of flags; of an equal test
 --     empty-set, none-set               beside a refusal; of a test that never holds
 --     tabulated-same                    the values of two functions that agree
---     prepared-as, fed-as, ..           the same of equal arrays
+--     analyzed-stack                    the same of a stack of the same length
 --     scene-of                          an accepted scene
 --     analyzed-accepted, ..-refused     the entry's answer, by what the checks say
 -- Assumes nothing.
@@ -28,8 +28,7 @@ use Rattle.regions.specs.Graph.{marked}
 use Rattle.signals.specs.Flags.{Flags}
 use Rattle.liveness.specs.Sets.{SetWhere}
 use Rattle.signals.specs.Regions.{regionsOf}
-use Rattle.signals.specs.Stages.{FedTable}
-use Rattle.liveness.specs.Scene.{Scene, Prepared}
+use Rattle.liveness.specs.Scene.{Scene}
 use Rattle.liveness.specs.Entry.{AnalyzedBy, Analyzed}
 use Rattle.liveness.specs.declared.Analysis.{Analysis}
 use Rattle.liveness.proofs.Demands.{demand-3}
@@ -77,14 +76,6 @@ pub tabulated-same : {A : Type 0} (f g : ℕ → A) (n : ℕ) → ((p : ℕ) →
 unfolding tabulate
 tabulated-same f g zero e = refl
 tabulated-same f g (suc n) e = rw (tabulated-same f g n (λ p h. e p (omega arith)), e n (omega arith))
-
-pub prepared-as : {cs ps : List ℤ} {sources sinks forward backward labelled members regionOf forward′ backward′ labelled′ : List ℕ}
-    → forward′ ≡ forward → backward′ ≡ backward → labelled′ ≡ labelled
-    → Prepared cs ps sources sinks forward backward labelled members regionOf → Prepared cs ps sources sinks forward′ backward′ labelled′ members regionOf
-prepared-as a b c p = rw (a, b, c) p
-
-pub fed-as : {ps : List ℤ} {sources sinks fed fed′ : List ℕ} → fed′ ≡ fed → FedTable ps sources sinks fed → FedTable ps sources sinks fed′
-fed-as e t = rw e t
 
 -- a work slice of the same length
 pub analyzed-stack : {cs ps fs : List ℤ} {regions regions′ sources sources′ inputs inputs′ stack stack₂ stack′ : List ℕ} {r : Analysis} → length stack₂ ≡ length stack

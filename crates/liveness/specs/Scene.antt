@@ -77,7 +77,6 @@ pub record PreparedRoom (cs ps : List ℤ) (forward backward labelled members re
   pub members-room : componentCount cs ≤ length members
   pub regions-room : componentCount cs ≤ length regionOf
   pub stack-room : 2 * componentCount cs ≤ length stack
-  pub stack-zeros : Zeros stack
 
 -- ---- the marks and the rows of a scene
 

@@ -1,6 +1,7 @@
 // Regions, sources, drive and verdicts of a scene.
 mod alive;
 mod infer;
+pub mod prepare;
 pub mod steps;
 
 use checks::refusals::liveness_lists;

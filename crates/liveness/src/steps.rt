@@ -1,8 +1,9 @@
-// The analysis of an accepted scene, stage by stage: tables and regions, marks, rows, sets.
+// The analysis of an accepted scene, stage by stage: a prepared scene, marks, rows, sets.
 use super::Analysis;
 use super::alive::flag_alive;
 use super::infer::infer;
 use super::infer::outside_regions;
+use super::prepare::prepare;
 use assessment::slots::write_verdicts;
 use assessment::sources::drive_flags;
 use assessment::sources::frontier_flags;
@@ -12,17 +13,12 @@ use lists::COMPONENTS;
 use lists::CONNECTIONS;
 use lists::Checked;
 use lists::PORT;
+use regions::HINTED;
 use signals::flags::gather;
-use signals::stages::build_tables;
 use signals::stages::find_cyclic;
-use signals::stages::find_regions;
-use signals::stages::place_labels;
-use signals::stages::place_members;
-use tables::SECOND_BITS;
-use tables::rows::hint_rows;
 ghost use mathlib.Core.Path.{_≡_};
 ghost use mathlib.Core.List.{List};
-ghost use Prim.Native.Nat.{ℕ, _≤_};
+ghost use Prim.Native.Nat.{_≤_};
 ghost use lib.ListN.{length, getD};
 ghost use lib.IntN.{ℤ};
 ghost use Rattle.lists.specs.Limits.{componentLimit};
@@ -39,48 +35,12 @@ ghost use Rattle.signals.specs.Flags.{Flags, Numbers, Indices};
 ghost use Rattle.liveness.specs.Entry.{AnalyzedBy};
 ghost use Rattle.signals.specs.Seen.{SignalEnds};
 ghost use Rattle.signals.specs.Stages.{cyclicAt};
-ghost use Rattle.liveness.specs.Scene.{Scene, Prepared, PreparedRoom, Prepares, Driven, Marked, MarkRoom, RowsRoom, AnswerBy};
+ghost use Rattle.liveness.specs.Scene.{Scene, Prepared, PreparedRoom, Driven, Marked, MarkRoom, RowsRoom, AnswerBy};
 
 // How many source rows and verdict rows were written.
 pub struct RowCounts {
     pub sources: usize,
     pub inputs: usize,
-}
-
-// Builds the tables of a scene, given its settled ends, with hints of their rows, and finds its regions; answers how many there are.
-pub fn prepare(
-    keys: &[u64],
-    components: &[i64],
-    ports: &[i64],
-    sources: &[usize],
-    sinks: &[usize],
-    forward: &mut [u64],
-    backward: &mut [u64],
-    labels: &mut [usize],
-    members: &mut [usize],
-    region_at: &mut [usize],
-    stack: &mut [usize],
-    forward_rows: &mut [usize],
-    backward_rows: &mut [usize],
-) -> usize
-    requires { ⌜ Scene (now components) (now ports) × (IdTable (now components) (now keys) × SettledEnds (now components) (now ports) (now sources) (now sinks)) ⌝ }
-    requires { ⌜ PreparedRoom (now components) (now ports) (now forward) (now backward) (now labels) (now members) (now «region_at») (now stack) ⌝ }
-    ensures { λ r. ⌜ Prepares (now (components .entry)) (now (ports .entry)) (now (sources .entry)) (now (sinks .entry)) (now (forward .exit)) (now (backward .exit)) (now (labels .exit)) (now (members .exit)) (now («region_at» .exit)) (now (stack .exit)) r ⌝ }
-{
-    build_tables(ports, sources, sinks, forward, backward);
-    hint_rows(forward, SECOND_BITS, forward_rows);
-    hint_rows(backward, SECOND_BITS, backward_rows);
-    let count = find_regions(
-        forward,
-        backward,
-        labels,
-        stack,
-        forward_rows,
-        backward_rows,
-    );
-    place_members(keys, members);
-    place_labels(labels.len(), members, labels, region_at);
-    count
 }
 
 // Flags the components on frontiers, the drive sources, and the regions that hold one.
@@ -325,6 +285,67 @@ fn report(
     )
 }
 
+// Prepares an accepted scene in arrays that are lent, and reports it.
+fn analyze_in(
+    keys: &[u64],
+    components: &[i64],
+    ports: &[i64],
+    frontiers: &[i64],
+    source_at: &[usize],
+    sink_at: &[usize],
+    forward: &mut [u64],
+    backward: &mut [u64],
+    labels: &mut [usize],
+    members: &mut [usize],
+    region_at: &mut [usize],
+    regions: &mut [u64],
+    sources: &mut [u64],
+    inputs: &mut [u64],
+    stack: &mut [usize],
+    forward_rows: &mut [usize; HINTED],
+    backward_rows: &mut [usize; HINTED],
+) -> Analysis
+    requires { ⌜ Scene (now components) (now ports) × (IdTable (now components) (now keys) × SettledEnds (now components) (now ports) (now «source_at») (now «sink_at»)) ⌝ }
+    requires { ⌜ PreparedRoom (now components) (now ports) (now forward) (now backward) (now labels) (now members) (now «region_at») (now stack) ⌝ }
+    requires { ⌜ RowsRoom (now components) (now regions) (now sources) (now inputs) (now stack) ⌝ }
+    ensures { λ r. ⌜ AnalyzedBy Accepted (now (components .entry)) (now (ports .entry)) (now (frontiers .entry)) (now (regions .entry)) (now (regions .exit)) (now (sources .entry)) (now (sources .exit)) (now (inputs .entry)) (now (inputs .exit)) (now (stack .entry)) (now (stack .exit)) r ⌝ }
+{
+    let count = prepare(
+        keys,
+        components,
+        ports,
+        source_at,
+        sink_at,
+        forward,
+        backward,
+        labels,
+        members,
+        region_at,
+        stack,
+        forward_rows,
+        backward_rows,
+    );
+    report(
+        components,
+        ports,
+        frontiers,
+        source_at,
+        sink_at,
+        forward,
+        backward,
+        labels,
+        members,
+        region_at,
+        count,
+        regions,
+        sources,
+        inputs,
+        stack,
+        forward_rows,
+        backward_rows,
+    )
+}
+
 // Analyzes an accepted scene, given its table of ids and its settled ends.
 pub fn analyze(
     keys: &[u64],
@@ -349,13 +370,13 @@ pub fn analyze(
     let mut labels = [0usize; COMPONENTS];
     let mut members = [0usize; COMPONENTS];
     let mut region_at = [0usize; COMPONENTS];
-    let mut forward_rows = [0usize; COMPONENTS];
-    let mut backward_rows = [0usize; COMPONENTS];
-    regions::clear(stack);
-    let count = prepare(
+    let mut forward_rows = [0usize; HINTED];
+    let mut backward_rows = [0usize; HINTED];
+    analyze_in(
         keys,
         components,
         ports,
+        frontiers,
         source_at,
         sink_at,
         &mut forward[..m],
@@ -363,27 +384,11 @@ pub fn analyze(
         &mut labels[..n],
         &mut members,
         &mut region_at,
-        stack,
-        &mut forward_rows,
-        &mut backward_rows,
-    );
-    report(
-        components,
-        ports,
-        frontiers,
-        source_at,
-        sink_at,
-        &forward[..m],
-        &backward[..m],
-        &labels[..n],
-        &members,
-        &region_at,
-        count,
         regions,
         sources,
         inputs,
         stack,
-        &forward_rows,
-        &backward_rows,
+        &mut forward_rows,
+        &mut backward_rows,
     )
 }

@@ -2,17 +2,12 @@
 -- inputs are flagged.
 -- Assumes nothing.
 use borrow.Author.Needs.{needs}
-use mathlib.Core.Path.{_∙_}
-use native.Mathlib.Omega.{arith}
-use lib.ListN.{length}
-use Rattle.regions.proofs.Fill.{cleared-zeros}
 use Rattle.inputs.proofs.query.find_inputs.Statement.{statement}
 use Rattle.inputs.proofs.query.find_inputs.Tie as tie
 
 prepare-requires : tie.Need-prepare-requires
 prepare-requires c κs =
-    let cleared = c .before .before .before .before .before .before .before .before .before .before in
-    let s = c .before .before .before .before .before .before .before .before .before .before .before .before .before .before .before .before .before .before .before .before in
+    let s = c .before .before .before .before .before .before .before .before .before .before .before .before .before .before .before .before in
     let room = s .pre .1 in (
       s .pre .0,
       record {
@@ -21,14 +16,13 @@ prepare-requires c κs =
         labels-room = room .labels-room;
         members-room = s .pre .0 .0 .components .few;
         regions-room = s .pre .0 .0 .components .few;
-        stack-room = omega (arith, room .stack-room, cleared .clear .kept .0);
-        stack-zeros = rw (cleared .clear .ensures) (cleared-zeros (length (s .args .stack .now)));
+        stack-room = room .stack-room;
       },
     )
 
 inferred-members-requires : tie.Need-inferred-members-requires
 inferred-members-requires c κs =
-    let s = c .before .before .before .before .before .before .before .before .before .before .before .before .before .before .before .before .before .before .before .before .before .before .before .before .before .before .before .before .before .before .before .before .before .before .before .before .before .before .before .before .before in
+    let s = c .before .before .before .before .before .before .before .before .before .before .before .before .before .before .before .before .before .before .before .before .before .before .before .before .before .before .before .before .before .before .before .before .before .before .before .before .before in
     (s .pre .0 .0, (c .before .before .before .before .before .before .before .before .before .before .before .before .before .before .before .before .before .before .before .before .prepare .ensures .prepared, s .pre .1 .inferred-room))
 
 returns : tie.Need-returns
@@ -47,7 +41,6 @@ pub find-inputs-spec : {M : Type 1} → statement M
 find-inputs-spec =
     tie.close
     (tie.spec
-    (λ c κs. search needs)
     (λ c. search needs)
     (λ c. search needs)
     (λ c. search needs)
@@ -62,5 +55,5 @@ find-inputs-spec =
     (λ c. c .before .before .before .before .before .before .before .before .before .before .before .before .before .before .before .before .before .before .before .before .before .before .before .prepare .kept .1 .1 .1 .1 .1 .1 .0)
     (λ c. c .before .before .before .before .before .before .before .before .before .before .before .before .before .before .before .before .before .before .before .before .before .before .before .prepare .kept .1 .1 .1 .1 .1 .1 .1 .0)
     (λ c. c .before .before .inferred-members .kept .1 .1 .1 .1 .1 .1 .1 .1 .1 .1 .0)
-    (λ c. c .before .before .before .before .before .before .before .before .before .before .before .before .before .before .before .before .before .before .before .before .before .before .before .prepare .kept .1 .1 .1 .1 .1 .1 .1 .1 .1 .1 .0 ∙ c .before .before .before .before .before .before .before .before .before .before .before .before .before .before .before .before .before .before .before .before .before .before .before .before .before .before .before .before .before .before .before .before .before .before .clear .kept .0)
+    (λ c. c .before .before .before .before .before .before .before .before .before .before .before .before .before .before .before .before .before .before .before .before .before .before .before .prepare .kept .1 .1 .1 .1 .1 .1 .1 .1 .1 .1 .0)
     returns)

@@ -1,27 +1,29 @@
--- `liveness::steps::prepare` meets its contract: the tables are the graph of the signal connections, and its regions are those of the scene.
+-- `liveness::prepare::prepare` meets its contract: the tables are the graph of the signal connections, and its regions are those of the scene.
 -- Assumes nothing.
 use borrow.Author.Needs.{needs}
 use mathlib.Core.Path.{_≡_, _∙_}
 use Prim.Native.Nat.{ℕ, _≤_}
 use mathlib.Core.List.{List}
 use native.Mathlib.Omega.{arith}
+use lib.ListN.{length}
 use lib.IntN.{ℤ}
 use Rattle.lists.specs.Limits.{componentLimit}
 use Rattle.lists.specs.Records.{componentCount}
 use Rattle.lists.proofs.Table.{table-long}
 use Rattle.regions.specs.Keys.{edges}
+use Rattle.regions.proofs.Fill.{cleared-zeros}
 use Rattle.signals.specs.Signals.{signals}
 use Rattle.signals.specs.Flags.{Indices}
 use Rattle.signals.specs.Stages.{Tables}
 use Rattle.signals.proofs.Ends.{ends-within}
 use Rattle.signals.proofs.Graph.{edges-signals, edges-turned}
 use Rattle.signals.proofs.Staged.{regions-are, members-below, labels-placed}
-use Rattle.liveness.proofs.steps.prepare.Statement.{statement}
-use Rattle.liveness.proofs.steps.prepare.Tie as tie
+use Rattle.liveness.proofs.prepare.prepare.Statement.{statement}
+use Rattle.liveness.proofs.prepare.prepare.Tie as tie
 
 build-tables-requires : tie.Need-build-tables-requires
 build-tables-requires c κs =
-    let s = c .before .before .before .before .before .before .before .before .before .before .before .before .before in
+    let s = c .before .before .before .before .before .before .before .before .before .before .before .before .before .before .before in
     let room = s .pre .1 in (
       (s .pre .0 .0 .connections, (s .args .components .now, (s .pre .0 .0 .components .few, s .pre .0 .1 .1))),
       (room .forward-room, room .backward-room),
@@ -30,7 +32,7 @@ build-tables-requires c κs =
 -- ---- after the tables are built
 
 abbrev start : tie.After-build-tables → tie.Start
-start c = c .before .before .before .before .before .before .before .before .before .before .before .before .before .before
+start c = c .before .before .before .before .before .before .before .before .before .before .before .before .before .before .before .before
 
 abbrev cs : tie.After-build-tables → List ℤ
 cs c = start c .args .components .now
@@ -55,8 +57,9 @@ graph c =
 
 find-regions-requires : tie.Need-find-regions-requires
 find-regions-requires c κs =
-    let b = c .before .before .before .before .before .before .before .before .before .before .before .before .before .before .before .before .before .before .before .before in
+    let b = c .before .before .before .before .before .before .before .before .before .before .before .before .before .before .before .before in
     let room = start b .pre .1 in
+    let cleared = c .before .before .before .before .before .before .before .before .before .before .before .before .before .before .before .before .before .before .before .before .before in
     let t = tables b in (
       (
         t .forward-keys .sorted .ascending,
@@ -65,11 +68,11 @@ find-regions-requires c κs =
           rw (room .labels-room) (edges-turned (few b) (t .source-members) (t .sink-members) (ends-within (cs b) (ps b) (start b .pre .0 .0 .ends)) (t .forward-keys) (t .backward-keys)),
         ),
       ),
-      (omega (arith, room .labels-room, few b), (omega (arith, room .labels-room, room .stack-room), room .stack-zeros)),
+      (omega (arith, room .labels-room, few b), (omega (arith, room .labels-room, room .stack-room, cleared .clear .kept .0), rw (cleared .clear .ensures) (cleared-zeros (length (start b .args .stack .now))))),
     )
 
 place-members-requires : tie.Need-place-members-requires
-place-members-requires c κs = let s = c .before .before .before .before .before .before .before .before .before .before .before .before .before .before .before .before .before .before .before .before .before .before .before .before .before .before .before .before .before .before .before .before .before .before .before .before .before .before .before .before in ((s .args .components .now, s .pre .0 .1 .0), omega (arith, table-long (s .pre .0 .1 .0), s .pre .1 .members-room))
+place-members-requires c κs = let s = c .before .before .before .before .before .before .before .before .before .before .before .before .before .before .before .before .before .before .before .before .before .before .before .before .before .before .before .before .before .before .before .before .before .before .before .before .before .before in ((s .args .components .now, s .pre .0 .1 .0), omega (arith, table-long (s .pre .0 .1 .0), s .pre .1 .members-room))
 
 -- the members of all components are nodes
 indices-at : {n m k : ℕ} {index : List ℕ} → n ≡ k → m ≡ k → Indices k k index → Indices n m index
@@ -79,7 +82,7 @@ place-labels-requires : tie.Need-place-labels-requires
 place-labels-requires c κs =
     let placed = c .before .before .before .before .before in
     let found = c .before .before .before .before .before .before .before .before .before .before .before in
-    let b = c .before .before .before .before .before .before .before .before .before .before .before .before .before .before .before .before .before .before .before .before .before .before .before .before .before .before .before .before .before .before .before .before in
+    let b = c .before .before .before .before .before .before .before .before .before .before .before .before .before .before .before .before .before .before .before .before .before .before .before .before .before .before .before .before in
     let room = start b .pre .1 in
     let long = found .find-regions .kept .1 .1 .0 ∙ room .labels-room in
     (indices-at long long (members-below (cs b) (placed .place-members .ensures (cs b) (start b .pre .0 .1 .0) (start b .pre .0 .0 .distinct))), omega (arith, long, room .regions-room))
@@ -89,7 +92,7 @@ returns c =
     let labelled = c .before .before in
     let placed = c .before .before .before .before .before .before .before .before in
     let found = c .before .before .before .before .before .before .before .before .before .before .before .before .before .before in
-    let b = c .before .before .before .before .before .before .before .before .before .before .before .before .before .before .before .before .before .before .before .before .before .before .before .before .before .before .before .before .before .before .before .before .before .before .before in
+    let b = c .before .before .before .before .before .before .before .before .before .before .before .before .before .before .before .before .before .before .before .before .before .before .before .before .before .before .before .before .before .before .before in
     let room = start b .pre .1 in
     let long = found .find-regions .kept .1 .1 .0 ∙ room .labels-room in
     let regions = regions-are (cs b) (ps b) (forward b) (graph b) (rw (room .labels-room) at (found .find-regions .ensures)) in
@@ -111,6 +114,7 @@ pub prepare-spec : {M : Type 1} → statement M
 prepare-spec =
     tie.close
     (tie.spec
+    (λ c κs. search needs)
     build-tables-requires
     (λ c κs. search needs)
     (λ c κs. search needs)
@@ -122,7 +126,5 @@ prepare-spec =
     (λ c. search needs)
     (λ c. search needs)
     (λ c. search needs)
-    (λ c. search needs)
-    (λ c. search needs)
-    (λ c. search needs)
+    (λ c. c .before .before .before .before .before .before .before .before .before .before .before .before .before .before .find-regions .kept .1 .1 .1 .0 ∙ c .before .before .before .before .before .before .before .before .before .before .before .before .before .before .before .before .before .before .before .before .before .before .before .before .before .before .before .before .before .before .before .before .before .before .before .before .clear .kept .0)
     returns)
