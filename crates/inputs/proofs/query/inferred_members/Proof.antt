@@ -18,14 +18,14 @@ ps s = s .args .ports .now
 
 flag-drive-requires : tie.Need-flag-drive-requires
 flag-drive-requires c κs =
-    let s = c .before .before .before .before .before .before .before .before .before .before .before .before .before in
+    let s = c .before .before .before .before .before .before .before .before .before .before .before in
     let few = s .pre .0 .components .few in
     ((ps s, (s .pre .0, s .pre .1 .0 .regions-are)), (few, (few, omega arith)))
 
 flag-inferred-requires : tie.Need-flag-inferred-requires
 flag-inferred-requires c κs =
     let s = c .before .before .before .before .before .before .before .before .before .before .before .before .before .before .before .before .before .before .before in
-    (s .pre .0, (s .pre .1 .0, (c .before .before .before .before .before .flag-drive .kept .1 .1 .1 .1 .1 .0, s .pre .0 .components .few)))
+    (s .pre .0, (s .pre .1 .0, (c .before .before .before .before .before .before .before .flag-drive .kept .1 .1 .1 .1 .1 .0, s .pre .0 .components .few)))
 
 gather-requires : tie.Need-gather-requires
 gather-requires c κs =
@@ -38,7 +38,7 @@ returns c =
     let gathered = c .before .before in
     let s = c .before .before .before .before .before .before .before .before .before .before .before .before .before .before .before .before .before .before .before .before .before .before .before .before .before .before in
     let prepared = s .pre .1 .0 in
-    let d = c .before .before .before .before .before .before .before .before .before .before .before .before .flag-drive .ensures (ps s) (prepared .regions-are) in
+    let d = c .before .before .before .before .before .before .before .before .before .before .before .before .before .before .flag-drive .ensures (ps s) (prepared .regions-are) in
     let i = c .before .before .before .before .before .before .flag-inferred .ensures (s .args .frontiers .now) (d .region-flags) in
     marks-are (cs s) (prepared .members-are) i (gathered .gather .kept .1 .1 .1 .0 ∙ s .pre .1 .1) (gathered .gather .ensures)
 
