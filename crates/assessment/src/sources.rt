@@ -13,12 +13,11 @@ ghost use Rattle.lists.specs.Order.{firstNotAscending, componentOrder};
 ghost use Rattle.lists.specs.declared.Found.the-variants.{Nothing};
 ghost use Rattle.lists.specs.Records.{component, frontier, componentCount, frontierCount};
 ghost use Rattle.lists.specs.Within.{Components};
-ghost use Rattle.signals.specs.Sources.{sourceKind, samePosition, beforePosition, Parted, firstAt, onFrontier, isDrive};
+ghost use Rattle.signals.specs.Sources.{sourceKind, samePosition, beforePosition, Parted, firstAt, onFrontier};
 ghost use Rattle.lists.specs.First.{isFound};
+ghost use Rattle.regions.specs.Graph.{marked};
 ghost use Rattle.signals.specs.Flags.{Flags, FirstFlagged};
 ghost use mathlib.Core.Bool.{_||_};
-ghost use mathlib.Core.List.{List};
-ghost use lib.IntN.{ℤ};
 
 // The source kind of a block's kind: levers, buttons and plates 0, torches and redstone blocks 1.
 pub fn source_kind(kind: u64) -> Found
@@ -138,8 +137,7 @@ fn is_drive(components: &[i64], p: usize, on_frontier: bool) -> bool
 pub fn drive_flags(components: &[i64], on_frontier: &[bool], flags: &mut [bool])
     requires { ⌜ Components (now components) ⌝ }
     requires { ⌜ (componentCount (now components) ≤ length (now «on_frontier»)) × (componentCount (now components) ≤ length (now flags)) ⌝ }
-    ensures { λ _. ⌜ ((fs : List ℤ) → Flags (componentCount (now (components .entry))) (onFrontier (now (components .entry)) fs) (now («on_frontier» .entry)) →
-        Flags (componentCount (now (components .entry))) (isDrive (now (components .entry)) fs) (now (flags .exit))) ⌝ }
+    ensures { λ _. ⌜ Flags (componentCount (now (components .entry))) (λ p. isFound (sourceKind (component (now (components .entry)) p .kind)) || marked (now («on_frontier» .entry)) p) (now (flags .exit)) ⌝ }
 {
     let count = components.len() / COMPONENT;
     let mut p: usize = 0;

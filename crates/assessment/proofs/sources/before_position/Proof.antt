@@ -1,4 +1,4 @@
--- `liveness::sources::before_position` meets its contract: each coordinate is compared, both ways but for the last.
+-- `assessment::sources::before_position` meets its contract: each coordinate is compared, both ways but for the last.
 -- Assumes nothing.
 use Prim.Native.Nat.{_+_, _*_, _≤_}
 use native.Mathlib.Omega.{arith}

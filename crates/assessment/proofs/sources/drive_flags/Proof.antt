@@ -1,7 +1,7 @@
--- `liveness::sources::drive_flags` meets its contract: each flag passed is that of its component.
+-- `assessment::sources::drive_flags` meets its contract: each flag passed is that of its component.
 -- Assumes nothing.
-use mathlib.Core.Path.{_≡_, refl, ap, _∙_}
-use mathlib.Core.Bool.{Bool, _||_}
+use mathlib.Core.Path.{_≡_, refl}
+use mathlib.Core.Bool.{_||_}
 use Prim.Native.Nat.{_-_, _≤_, _<_}
 use native.Mathlib.Omega.{arith}
 use lib.ListN.{length, length-set}
@@ -39,12 +39,11 @@ loop-again c =
     (omega (arith, turn .loop-test .taken), simp length-set (l .inv .1), flags-more (l .p) (l .inv .2) (room turn) _ (c .is-drive .ensures))
 
 returns : tie.Need-returns Inv-loop μ-loop
-returns c fs f =
+returns c =
     let l = c .before .loop in
     let cs = start (c .before) .args .components .now in
     let all : l .p ≡ componentCount cs = omega (arith, l .inv .0, c .loop-test .left) in
-    let flags = rw all at (l .inv .2) in
-    record { long = flags .long; at = λ p h. flags .at p h ∙ ap (λ (t : Bool). isFound (sourceKind (component cs p .kind)) || t) (f .at p h) }
+    rw all at (l .inv .2)
 
 pub drive-flags-spec : {M : Type 1} → statement M
 drive-flags-spec =

@@ -1,4 +1,4 @@
--- `liveness::sources::first_at` meets its contract: the components part at the position, and the first of the later ones is at it or none is.
+-- `assessment::sources::first_at` meets its contract: the components part at the position, and the first of the later ones is at it or none is.
 -- Assumes nothing.
 use borrow.Author.Needs.{needs}
 use mathlib.Core.Path.{sym, _∙_}

@@ -1,4 +1,4 @@
--- `liveness::sources::flag_first` meets its contract.
+-- `assessment::sources::flag_first` meets its contract.
 -- Assumes nothing.
 use borrow.Author.Needs.{needs}
 use mathlib.Core.Path.{sym, ap, _∙_}

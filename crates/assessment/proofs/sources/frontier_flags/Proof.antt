@@ -1,4 +1,4 @@
--- `liveness::sources::frontier_flags` meets its contract: the flags are those of the frontiers passed.
+-- `assessment::sources::frontier_flags` meets its contract: the flags are those of the frontiers passed.
 -- Assumes nothing.
 use borrow.Author.Needs.{needs}
 use mathlib.Core.Path.{_≡_, refl, _∙_}

@@ -1,4 +1,4 @@
--- `liveness::sources::is_drive` meets its contract.
+-- `assessment::sources::is_drive` meets its contract.
 -- Assumes nothing.
 use borrow.Author.Needs.{needs}
 use mathlib.Core.Path.{_≡_, refl, sym, ap, _∙_}

@@ -1,4 +1,4 @@
--- `liveness::sources::position_bound` meets its contract: all below `low` stand before the position, and none from `high` on does.
+-- `assessment::sources::position_bound` meets its contract: all below `low` stand before the position, and none from `high` on does.
 -- Assumes nothing.
 use borrow.Author.Needs.{needs}
 use mathlib.Core.Path.{_≡_, sym, _∙_}

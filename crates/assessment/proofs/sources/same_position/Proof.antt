@@ -1,4 +1,4 @@
--- `liveness::sources::same_position` meets its contract: each coordinate is compared.
+-- `assessment::sources::same_position` meets its contract: each coordinate is compared.
 -- Assumes nothing.
 use Prim.Native.Nat.{_+_, _*_, _≤_}
 use native.Mathlib.Omega.{arith}

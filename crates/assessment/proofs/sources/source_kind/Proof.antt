@@ -1,4 +1,4 @@
--- `liveness::sources::source_kind` meets its contract.
+-- `assessment::sources::source_kind` meets its contract.
 -- Assumes nothing.
 use mathlib.Core.Path.{_≡_, sym}
 use mathlib.Core.Logic.{inl, inr, ⊎-elim}

@@ -1,4 +1,4 @@
--- `liveness::verdicts::first_required` meets its contract.
+-- `assessment::verdicts::first_required` meets its contract.
 -- Assumes nothing.
 use mathlib.Core.Path.{_≡_, sym}
 use mathlib.Core.Logic.{⊎-elim}

@@ -1,4 +1,4 @@
--- `liveness::verdicts::put_component` meets its contract.
+-- `assessment::verdicts::put_component` meets its contract.
 -- Assumes nothing.
 use borrow.Author.Needs.{needs}
 use Prim.Native.Nat.{_≤_}

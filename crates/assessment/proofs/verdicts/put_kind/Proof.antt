@@ -1,4 +1,4 @@
--- `liveness::verdicts::put_kind` meets its contract.
+-- `assessment::verdicts::put_kind` meets its contract.
 -- Assumes nothing.
 use borrow.Author.Needs.{needs}
 use mathlib.Core.Path.{sym, ap, _∙_}

@@ -1,4 +1,4 @@
--- `liveness::verdicts::put_source` meets its contract.
+-- `assessment::verdicts::put_source` meets its contract.
 -- Assumes nothing.
 use Prim.Native.Nat.{_+_, _≤_}
 use native.Mathlib.Omega.{arith}

@@ -1,4 +1,4 @@
--- `liveness::verdicts::put_sources` meets its contract: at component p the rows of those before it stand at the front.
+-- `assessment::verdicts::put_sources` meets its contract: at component p the rows of those before it stand at the front.
 -- Assumes nothing.
 use mathlib.Core.Path.{refl}
 use mathlib.Core.Bool.{Bool}

@@ -1,4 +1,4 @@
--- `liveness::verdicts::required_count` meets its contract.
+-- `assessment::verdicts::required_count` meets its contract.
 -- Assumes nothing.
 use mathlib.Core.Path.{sym}
 use native.Mathlib.Omega.{arith}

@@ -1,4 +1,4 @@
--- `liveness::verdicts::slot_fed` meets its contract.
+-- `assessment::verdicts::slot_fed` meets its contract.
 -- Assumes nothing.
 use borrow.Author.Needs.{needs}
 use mathlib.Core.Path.{_≡_, sym, _∙_}

@@ -1,4 +1,4 @@
--- `known::known_magnitude` meets its contract. The invariant: what is left to read is accepted, and gives what the whole gives.
+-- `lines::known::known_magnitude` meets its contract. The invariant: what is left to read is accepted, and gives what the whole gives.
 -- Assumes nothing.
 use Prim.Native.Nat.{ℕ, _+_, _-_, _*_, _≤_, _<_}
 use native.Mathlib.Omega.{arith}

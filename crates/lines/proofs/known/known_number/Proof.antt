@@ -1,4 +1,4 @@
--- `known::known_number` meets its contract: by the sign, the magnitude behind it is accepted, and not 0 behind a minus.
+-- `lines::known::known_number` meets its contract: by the sign, the magnitude behind it is accepted, and not 0 behind a minus.
 -- Assumes nothing.
 use Prim.Native.Nat.{_+_, _≤_, _<_}
 use native.Mathlib.Omega.{arith}

@@ -1,4 +1,4 @@
--- `read::minus` meets its contract. A small magnitude, turned, fits. Assumes nothing.
+-- `lines::read::minus` meets its contract. A small magnitude, turned, fits. Assumes nothing.
 use native.Mathlib.Omega.{arith}
 use lib.IntN.{pos, negℤ, +ℤ-idl}
 use mir.Syntax.{w64}

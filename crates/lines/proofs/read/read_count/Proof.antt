@@ -1,4 +1,4 @@
--- `read::read_count` meets its contract: behind the key the line goes on as a magnitude. Assumes nothing.
+-- `lines::read::read_count` meets its contract: behind the key the line goes on as a magnitude. Assumes nothing.
 use borrow.Author.Needs.{needs}
 use native.Mathlib.Omega.{arith}
 use Rattle.lines.proofs.Counting.{natural-number}

@@ -1,4 +1,4 @@
--- `read::read_digits` meets its contract. The invariant: what is left to read gives what the whole gives. Each way out is one step of `readDigits`. Assumes nothing.
+-- `lines::read::read_digits` meets its contract. The invariant: what is left to read gives what the whole gives. Each way out is one step of `readDigits`. Assumes nothing.
 use Prim.Native.Nat.{_+_, _-_, _≤_, _<_}
 use native.Mathlib.Omega.{arith}
 use borrow.Author.Needs.{needs}

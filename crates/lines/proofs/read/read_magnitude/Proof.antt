@@ -1,4 +1,4 @@
--- `read::read_magnitude` meets its contract. Each way out is one step of `readMagnitude`. Assumes nothing.
+-- `lines::read::read_magnitude` meets its contract. Each way out is one step of `readMagnitude`. Assumes nothing.
 use Prim.Native.Nat.{_+_, _<_}
 use native.Mathlib.Omega.{arith}
 use mathlib.Core.Path.{_∙_}

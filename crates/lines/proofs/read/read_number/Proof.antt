@@ -1,4 +1,4 @@
--- `read::read_number` meets its contract. Each way out is one step of `readNumber`, by the answer of `read_magnitude`. Assumes nothing.
+-- `lines::read::read_number` meets its contract. Each way out is one step of `readNumber`, by the answer of `read_magnitude`. Assumes nothing.
 use Prim.Native.Nat.{_+_, _≤_, _<_}
 use native.Mathlib.Omega.{arith}
 use mathlib.Core.Path.{sym, _∙_}

@@ -1,4 +1,4 @@
--- `read::skip_key` meets its contract. The invariant: what is left of the key and of the text gives what the whole gives. Assumes nothing.
+-- `lines::read::skip_key` meets its contract. The invariant: what is left of the key and of the text gives what the whole gives. Assumes nothing.
 use Prim.Native.Nat.{_+_, _-_, _≤_, _<_}
 use native.Mathlib.Nat.{add-zero}
 use native.Mathlib.Omega.{arith}

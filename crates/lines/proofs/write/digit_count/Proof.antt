@@ -1,4 +1,4 @@
--- `write::digit_count` meets its contract. The invariant: the digits counted so far and those of the rest are one more than those of `n`. Assumes nothing.
+-- `lines::write::digit_count` meets its contract. The invariant: the digits counted so far and those of the rest are one more than those of `n`. Assumes nothing.
 use Prim.Native.Nat.{_+_, _≤_}
 use native.Mathlib.Omega.{arith}
 use mathlib.Core.Path.{_≡_}

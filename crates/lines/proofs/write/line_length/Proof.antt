@@ -1,4 +1,4 @@
--- `write::line_length` meets its contract. The length of a line is that of its parts (`line-size`). Assumes nothing.
+-- `lines::write::line_length` meets its contract. The length of a line is that of its parts (`line-size`). Assumes nothing.
 use Prim.Native.Nat.{_≤_}
 use native.Mathlib.Omega.{arith}
 use mathlib.Core.Path.{_≡_, ap, _∙_}

@@ -1,4 +1,4 @@
--- `write::magnitude` meets its contract. A number below zero is raised by one before it is turned, so that the least number of
+-- `lines::write::magnitude` meets its contract. A number below zero is raised by one before it is turned, so that the least number of
 -- the type is no exception. Assumes nothing.
 use Prim.Native.Nat.{ℕ}
 use native.Mathlib.Omega.{arith}

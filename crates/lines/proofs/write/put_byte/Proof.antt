@@ -1,4 +1,4 @@
--- `write::put_byte` meets its contract. One byte over the front of the buffer is `laid-snoc` with nothing before it. Assumes nothing.
+-- `lines::write::put_byte` meets its contract. One byte over the front of the buffer is `laid-snoc` with nothing before it. Assumes nothing.
 use mathlib.Core.Path.{refl}
 use mathlib.Core.List.{[]}
 use Rattle.lines.proofs.Writing.{laid-snoc}

@@ -1,4 +1,4 @@
--- `write::put_bytes` meets its contract. The invariant: the bytes passed are laid over the front of the buffer. Assumes nothing.
+-- `lines::write::put_bytes` meets its contract. The invariant: the bytes passed are laid over the front of the buffer. Assumes nothing.
 use Prim.Native.Nat.{_-_, _≤_}
 use native.Mathlib.Omega.{arith}
 use native.Mathlib.Numerals.{add-one}

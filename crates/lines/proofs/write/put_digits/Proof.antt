@@ -1,4 +1,4 @@
--- `write::put_digits` meets its contract. The invariant: the rest of the number, as `i` digits before what stands from `i` on, is the whole (`digit-set`). Assumes nothing.
+-- `lines::write::put_digits` meets its contract. The invariant: the rest of the number, as `i` digits before what stands from `i` on, is the whole (`digit-set`). Assumes nothing.
 use Prim.Native.Nat.{_≤_}
 use native.Mathlib.Omega.{arith}
 use mathlib.Core.Path.{_≡_, refl, sym, _∙_}

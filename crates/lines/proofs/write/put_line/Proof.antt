@@ -1,4 +1,4 @@
--- `write::put_line` meets its contract. What the line writer wrote over the front of the rest is put at the position (`wrote-put`). Assumes nothing.
+-- `lines::write::put_line` meets its contract. What the line writer wrote over the front of the rest is put at the position (`wrote-put`). Assumes nothing.
 use native.Mathlib.Omega.{arith}
 use mir.Facts.{toZ-ofZ}
 use Rattle.lines.specs.Decimal.{lineOf}

@@ -1,4 +1,4 @@
--- `write::put_number` meets its contract. Two writers one after the other, or one (`wrote-then`). Assumes nothing.
+-- `lines::write::put_number` meets its contract. Two writers one after the other, or one (`wrote-then`). Assumes nothing.
 use native.Mathlib.Omega.{arith}
 use mathlib.Core.Path.{_≡_, ap}
 use mathlib.Core.List.{[], _∷_, _++_}

@@ -1,4 +1,4 @@
--- `write::write_line` meets its contract. Four writers, one after the other (`wrote-then`), each with room left by those before it (`room-then`). Assumes nothing.
+-- `lines::write::write_line` meets its contract. Four writers, one after the other (`wrote-then`), each with room left by those before it (`room-then`). Assumes nothing.
 use Prim.Native.Nat.{_+_, _≤_}
 use native.Mathlib.Omega.{arith}
 use mathlib.Core.List.{[], _∷_}

@@ -2,16 +2,17 @@
 -- Assumes nothing.
 use borrow.Author.Needs.{needs}
 use mathlib.Core.Path.{_≡_, ap, _∙_}
-use mathlib.Core.Bool.{Bool}
+use mathlib.Core.Bool.{Bool, _||_}
 use mathlib.Core.List.{List}
 use Prim.Native.Nat.{ℕ}
 use native.Mathlib.Omega.{arith}
 use lib.ListN.{length}
 use lib.IntN.{ℤ}
 use Rattle.lists.specs.Limits.{componentLimit}
-use Rattle.lists.specs.Records.{componentCount}
+use Rattle.lists.specs.Records.{component, componentCount}
 use Rattle.lists.specs.First.{isFound}
-use Rattle.signals.specs.Sources.{isDrive}
+use Rattle.regions.specs.Graph.{marked}
+use Rattle.signals.specs.Sources.{sourceKind, onFrontier, isDrive}
 use Rattle.signals.specs.Regions.{regionAt, hasDrive}
 use Rattle.signals.specs.Flags.{Flags, Numbers, Gathered}
 use Rattle.signals.proofs.Tabulated.{first-cong}
@@ -36,8 +37,13 @@ gather-requires c κs =
     let cs = s .args .components .now in
     let scene = s .pre .0 .1 .0 in (
       places-under cs (s .pre .0 .0) (scene .ends) _ (omega (arith, scene .components .few, s .pre .1 .1 .1)) (s .pre .0 .1 .1),
-      driven .drive-flags .ensures (s .args .frontiers .now) (flagged .frontier-flags .ensures) .long,
+      driven .drive-flags .ensures .long,
     )
+
+-- a component on a frontier is a drive source
+drives-too : (cs fs : List ℤ) {frontier driven : List Bool} → Flags (componentCount cs) (onFrontier cs fs) frontier
+    → Flags (componentCount cs) (λ p. isFound (sourceKind (component cs p .kind)) || marked frontier p) driven → Flags (componentCount cs) (isDrive cs fs) driven
+drives-too cs fs f d = record { long = d .long; at = λ p h. d .at p h ∙ ap (λ (t : Bool). isFound (sourceKind (component cs p .kind)) || t) (f .at p h) }
 
 -- a region holds a drive source where one is gathered there
 regions-driven : (cs ps fs : List ℤ) {numbers : List ℕ} {driven out : List Bool} → length out ≡ componentLimit → Numbers (componentCount cs) (regionAt cs ps) numbers
@@ -56,7 +62,7 @@ returns c ps placed =
     let flagged = driven .before .before .before .before .before in
     let s = start flagged in
     let fs = s .args .frontiers .now in
-    let drives = driven .drive-flags .ensures fs (flagged .frontier-flags .ensures) in
+    let drives = drives-too (s .args .components .now) fs (flagged .frontier-flags .ensures) (driven .drive-flags .ensures) in
     record {
       frontier-flags = flagged .frontier-flags .ensures;
       drive-flags = drives;

@@ -1,4 +1,4 @@
--- `answers::read_given` meets its contract: what was read is within the lent list.
+-- `replay::answers::read_given` meets its contract: what was read is within the lent list.
 -- Assumes nothing.
 use borrow.Author.Needs.{needs}
 use Rattle.replay.proofs.Reading.{listed-within}

@@ -1,4 +1,4 @@
--- `answers::replay_fragment_nets` ends: each turn passes a fragment.
+-- `replay::answers::replay_fragment_nets` ends: each turn passes a fragment.
 -- Assumes nothing.
 use borrow.Author.Needs.{needs}
 use Prim.Native.Nat.{_-_}

@@ -1,4 +1,4 @@
--- `answers::replay_given` stays within the list that it reads into.
+-- `replay::answers::replay_given` stays within the list that it reads into.
 -- Assumes nothing.
 use borrow.Author.Needs.{needs}
 use lib.Seq.{length-take-le}

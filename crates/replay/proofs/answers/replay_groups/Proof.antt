@@ -1,4 +1,4 @@
--- `answers::replay_groups` stays within its lists.
+-- `replay::answers::replay_groups` stays within its lists.
 -- Assumes nothing.
 use borrow.Author.Needs.{needs}
 use lib.Seq.{length-take-le}

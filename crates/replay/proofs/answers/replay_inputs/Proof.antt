@@ -1,4 +1,4 @@
--- `answers::replay_inputs` stays within the rows, and ends: each turn passes a row.
+-- `replay::answers::replay_inputs` stays within the rows, and ends: each turn passes a row.
 -- Assumes nothing.
 use borrow.Author.Needs.{needs}
 use Prim.Native.Nat.{_-_}

@@ -1,4 +1,4 @@
--- `answers::replay_kept` stays within the list of port connections.
+-- `replay::answers::replay_kept` stays within the list of port connections.
 -- Assumes nothing.
 use borrow.Author.Needs.{needs}
 use lib.Seq.{length-take-le}

@@ -1,4 +1,4 @@
--- `answers::replay_scene` stays within the lists that it reads into.
+-- `replay::answers::replay_scene` stays within the lists that it reads into.
 -- Assumes nothing.
 use borrow.Author.Needs.{needs}
 use lib.Seq.{length-take-le}

@@ -1,4 +1,4 @@
--- `compare::compare` meets its contract: what was read is within the list, and its differences are counted.
+-- `replay::compare::compare` meets its contract: what was read is within the list, and its differences are counted.
 -- Assumes nothing.
 use borrow.Author.Needs.{needs}
 use native.Mathlib.Omega.{arith}

@@ -1,4 +1,4 @@
--- `compare::compare_flags` meets its contract: the flags listed are those of the set.
+-- `replay::compare::compare_flags` meets its contract: the flags listed are those of the set.
 -- Assumes nothing.
 use borrow.Author.Needs.{needs}
 use Rattle.replay.proofs.Listing.{flags-long}

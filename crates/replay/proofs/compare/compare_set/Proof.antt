@@ -1,4 +1,4 @@
--- `compare::compare_set` meets its contract: the names listed are those of the set.
+-- `replay::compare::compare_set` meets its contract: the names listed are those of the set.
 -- Assumes nothing.
 use borrow.Author.Needs.{needs}
 use native.Mathlib.Omega.{arith}

@@ -1,4 +1,4 @@
--- `compare::counted` meets its contract.
+-- `replay::compare::counted` meets its contract.
 -- Assumes nothing.
 use borrow.Author.Needs.{needs}
 use Rattle.replay.proofs.compare.counted.Statement.{statement}

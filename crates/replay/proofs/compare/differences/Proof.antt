@@ -1,4 +1,4 @@
--- `compare::differences` meets its contract: the places passed are counted.
+-- `replay::compare::differences` meets its contract: the places passed are counted.
 -- Assumes nothing.
 use borrow.Author.Needs.{needs}
 use native.Mathlib.Omega.{arith}

@@ -1,4 +1,4 @@
--- `compare::list_flags` meets its contract: the flags of the numbers passed stand at the front.
+-- `replay::compare::list_flags` meets its contract: the flags of the numbers passed stand at the front.
 -- Assumes nothing.
 use borrow.Author.Needs.{needs}
 use native.Mathlib.Omega.{arith}

@@ -1,4 +1,4 @@
--- `compare::list_names` meets its contract: the names of the members passed stand at the front.
+-- `replay::compare::list_names` meets its contract: the names of the members passed stand at the front.
 -- Assumes nothing.
 use borrow.Author.Needs.{needs}
 use native.Mathlib.Omega.{arith}

@@ -1,4 +1,4 @@
--- `compare::name_of` meets its contract.
+-- `replay::compare::name_of` meets its contract.
 -- Assumes nothing.
 use borrow.Author.Needs.{needs}
 use borrow.Author.Tests.{lt-ltb, le-ltb}

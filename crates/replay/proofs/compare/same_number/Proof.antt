@@ -1,4 +1,4 @@
--- `compare::same_number` meets its contract.
+-- `replay::compare::same_number` meets its contract.
 -- Assumes nothing.
 use borrow.Author.Needs.{needs, sfits-of}
 use Rattle.replay.proofs.Reading.{negative-differs, not-negative, natural-same}

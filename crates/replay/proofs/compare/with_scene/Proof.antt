@@ -1,4 +1,4 @@
--- `compare::with_scene` meets its contract.
+-- `replay::compare::with_scene` meets its contract.
 -- Assumes nothing.
 use borrow.Author.Needs.{needs}
 use Rattle.replay.proofs.compare.with_scene.Statement.{statement}

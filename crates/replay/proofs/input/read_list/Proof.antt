@@ -1,4 +1,4 @@
--- `input::read_list` meets its contract: the count, and then the numbers behind it.
+-- `replay::input::read_list` meets its contract: the count, and then the numbers behind it.
 -- Assumes nothing.
 use borrow.Author.Needs.{needs}
 use native.Mathlib.Omega.{arith}

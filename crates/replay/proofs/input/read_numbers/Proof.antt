@@ -1,4 +1,4 @@
--- `input::read_numbers` meets its contract: the numbers read before stand at the list's front.
+-- `replay::input::read_numbers` meets its contract: the numbers read before stand at the list's front.
 -- Assumes nothing.
 use borrow.Author.Needs.{needs, sfits-of}
 use native.Mathlib.Omega.{arith}

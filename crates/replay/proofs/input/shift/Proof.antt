@@ -1,4 +1,4 @@
--- `input::shift` stays within the text.
+-- `replay::input::shift` stays within the text.
 -- Assumes nothing.
 use borrow.Author.Needs.{needs}
 use lib.ListN.{length}

@@ -1,4 +1,4 @@
--- `first_pass::check_fields` meets its contract. The invariant: some values were read before (`Passed`). A turn is `step`. Assumes nothing.
+-- `sheet::first_pass::check_fields` meets its contract. The invariant: some values were read before (`Passed`). A turn is `step`. Assumes nothing.
 use Prim.Native.Nat.{_-_}
 use native.Mathlib.Omega.{arith}
 use mathlib.Core.Path.{sym, _∙_}

@@ -1,4 +1,4 @@
--- `first_pass::check_list` meets its contract: each way out is a case of the count's line and of the run of fields behind it.
+-- `sheet::first_pass::check_list` meets its contract: each way out is a case of the count's line and of the run of fields behind it.
 -- Assumes nothing.
 use borrow.Author.Needs.{needs}
 use Prim.Native.Nat.{ℕ, _+_, _*_, _≤_}

@@ -1,4 +1,4 @@
--- `first_pass::check_sheet` meets its contract: the three lists one after the other, each where the one before ended.
+-- `sheet::first_pass::check_sheet` meets its contract: the three lists one after the other, each where the one before ended.
 -- Assumes nothing.
 use borrow.Author.Needs.{needs}
 use Prim.Native.Nat.{ℕ, _+_, _*_}

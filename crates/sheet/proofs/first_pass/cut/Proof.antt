@@ -1,4 +1,4 @@
--- `first_pass::cut` meets its contract.
+-- `sheet::first_pass::cut` meets its contract.
 -- Assumes nothing.
 use borrow.Author.Needs.{needs}
 use Rattle.sheet.proofs.first_pass.cut.Statement.{statement}

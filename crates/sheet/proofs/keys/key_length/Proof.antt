@@ -1,4 +1,4 @@
--- `keys::key_length` meets its contract: the tables hold the lengths of the keys.
+-- `sheet::keys::key_length` meets its contract: the tables hold the lengths of the keys.
 -- Assumes nothing.
 use borrow.Author.Needs.{needs}
 use borrow.Author.Tests.{eq-eqb, ne-eqb}

@@ -1,4 +1,4 @@
--- `keys::known_field` meets its contract: behind the key of an accepted line comes its number.
+-- `sheet::keys::known_field` meets its contract: behind the key of an accepted line comes its number.
 -- Assumes nothing.
 use borrow.Author.Needs.{needs}
 use Prim.Native.Nat.{_+_, _<_}

@@ -1,4 +1,4 @@
--- `keys::read_count` meets its contract: the list's number decides the key.
+-- `sheet::keys::read_count` meets its contract: the list's number decides the key.
 -- Assumes nothing.
 use borrow.Author.Needs.{needs}
 use borrow.Author.Tests.{eq-eqb, ne-eqb}

@@ -1,4 +1,4 @@
--- `keys::read_field` meets its contract: behind the key the line goes on as a number.
+-- `sheet::keys::read_field` meets its contract: behind the key the line goes on as a number.
 -- Assumes nothing.
 use borrow.Author.Needs.{needs}
 use mathlib.Core.Path.{subst, sym, ap, _∙_}

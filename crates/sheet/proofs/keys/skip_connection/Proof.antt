@@ -1,4 +1,4 @@
--- `keys::skip_connection` meets its contract: each arm has the key of its field.
+-- `sheet::keys::skip_connection` meets its contract: each arm has the key of its field.
 -- Assumes nothing.
 use borrow.Author.Needs.{needs}
 use mathlib.Core.Path.{_≡_}

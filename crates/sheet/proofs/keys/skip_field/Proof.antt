@@ -1,4 +1,4 @@
--- `keys::skip_field` meets its contract: the list's number decides the keys, and the line's number the field.
+-- `sheet::keys::skip_field` meets its contract: the list's number decides the keys, and the line's number the field.
 -- Assumes nothing.
 use borrow.Author.Needs.{needs}
 use borrow.Author.Tests.{eq-eqb, ne-eqb}

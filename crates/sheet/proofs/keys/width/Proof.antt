@@ -1,4 +1,4 @@
--- `keys::width` meets its contract.
+-- `sheet::keys::width` meets its contract.
 -- Assumes nothing.
 use borrow.Author.Tests.{eq-eqb, ne-eqb}
 use Rattle.sheet.proofs.keys.width.Statement.{statement}

@@ -1,4 +1,4 @@
--- `second_pass::store_fields` meets its contract. The invariant: the values read before stand at the list's front. The first pass rules a refused line out. Assumes nothing.
+-- `sheet::second_pass::store_fields` meets its contract. The invariant: the values read before stand at the list's front. The first pass rules a refused line out. Assumes nothing.
 use Prim.Native.Nat.{_-_}
 use native.Mathlib.Omega.{arith}
 use mathlib.Core.Path.{_≡_, refl, sym, ap, _∙_, subst}

@@ -1,4 +1,4 @@
--- `second_pass::store_sheet` meets its contract: each list is stored from the place where it stands.
+-- `sheet::second_pass::store_sheet` meets its contract: each list is stored from the place where it stands.
 -- Assumes nothing.
 use borrow.Author.Needs.{needs}
 use mathlib.Core.Path.{ap, _∙_}

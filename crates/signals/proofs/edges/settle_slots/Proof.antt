@@ -1,4 +1,4 @@
--- `liveness::signals::settle_slots` meets its contract: each slot up to the present one is settled.
+-- `signals::edges::settle_slots` meets its contract: each slot up to the present one is settled.
 -- Assumes nothing.
 use mathlib.Core.Path.{_≡_, refl, ap, _∙_}
 use mathlib.Core.Logic.{⊎-elim}

@@ -1,4 +1,4 @@
--- `liveness::signals::signal_key` meets its contract: the transfer tells a support from a signal.
+-- `signals::edges::signal_key` meets its contract: the transfer tells a support from a signal.
 -- Assumes nothing.
 use mathlib.Core.Path.{refl, sym, _∙_}
 use Prim.Native.Nat.{_+_, _*_, _≤_}

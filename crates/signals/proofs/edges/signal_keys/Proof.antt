@@ -1,4 +1,4 @@
--- `liveness::signals::signal_keys` meets its contract: the keys of all port connections, sorted.
+-- `signals::edges::signal_keys` meets its contract: the keys of all port connections, sorted.
 -- Assumes nothing.
 use borrow.Author.Needs.{needs}
 use mathlib.Core.Path.{_≡_, refl, _∙_}

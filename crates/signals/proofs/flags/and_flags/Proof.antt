@@ -1,4 +1,4 @@
--- `liveness::flags::and_flags` meets its contract: each flag passed is that of both.
+-- `signals::flags::and_flags` meets its contract: each flag passed is that of both.
 -- Assumes nothing.
 use mathlib.Core.Path.{_≡_, refl}
 use mathlib.Core.Bool.{_&&_}

@@ -1,4 +1,4 @@
--- `liveness::flags::count_into` meets its contract: the counts are those of the indices passed.
+-- `signals::flags::count_into` meets its contract: the counts are those of the indices passed.
 -- Assumes nothing.
 use borrow.Author.Needs.{needs}
 use mathlib.Core.Path.{_≡_, refl, _∙_}

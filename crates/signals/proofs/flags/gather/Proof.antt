@@ -1,4 +1,4 @@
--- `liveness::flags::gather` meets its contract: the flags are those of the tests passed.
+-- `signals::flags::gather` meets its contract: the flags are those of the tests passed.
 -- Assumes nothing.
 use borrow.Author.Needs.{needs}
 use mathlib.Core.Path.{_≡_, refl, ap, _∙_}

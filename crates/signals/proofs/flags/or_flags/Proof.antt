@@ -1,4 +1,4 @@
--- `liveness::flags::or_flags` meets its contract: each flag passed is that of the one or of the other.
+-- `signals::flags::or_flags` meets its contract: each flag passed is that of the one or of the other.
 -- Assumes nothing.
 use mathlib.Core.Path.{_≡_, refl}
 use mathlib.Core.Bool.{_||_}

@@ -1,4 +1,4 @@
--- `liveness::inferred::few_neighbours` meets its contract: the neighbours of both rows are seen.
+-- `signals::inferred::few_neighbours` meets its contract: the neighbours of both rows are seen.
 -- Assumes nothing.
 use borrow.Author.Needs.{needs}
 use mathlib.Core.Path.{refl, subst}

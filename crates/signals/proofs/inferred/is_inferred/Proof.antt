@@ -1,4 +1,4 @@
--- `liveness::inferred::is_inferred` meets its contract.
+-- `signals::inferred::is_inferred` meets its contract.
 -- Assumes nothing.
 use borrow.Author.Needs.{needs}
 use mathlib.Core.Path.{_≡_, refl, sym}

@@ -1,4 +1,4 @@
--- `liveness::inferred::is_outside` meets its contract.
+-- `signals::inferred::is_outside` meets its contract.
 -- Assumes nothing.
 use mathlib.Core.Path.{_≡_, refl}
 use mathlib.Core.Bool.{true}

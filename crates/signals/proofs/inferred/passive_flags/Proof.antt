@@ -1,4 +1,4 @@
--- `liveness::inferred::passive_flags` meets its contract: each flag up to the present one is its component's.
+-- `signals::inferred::passive_flags` meets its contract: each flag up to the present one is its component's.
 -- Assumes nothing.
 use mathlib.Core.Path.{_≡_, refl, ap}
 use mathlib.Core.Bool.{false}

@@ -1,4 +1,4 @@
--- `liveness::inferred::see` meets its contract, by what was seen before.
+-- `signals::inferred::see` meets its contract, by what was seen before.
 -- Assumes nothing.
 use borrow.Author.Needs.{needs}
 use Rattle.signals.proofs.Neighbours.{seen-first, seen-again, seen-more, seen-many}

@@ -1,4 +1,4 @@
--- `liveness::inferred::see_row` meets its contract: the neighbours by the keys passed so far are seen.
+-- `signals::inferred::see_row` meets its contract: the neighbours by the keys passed so far are seen.
 -- Assumes nothing.
 use borrow.Author.Needs.{needs}
 use mathlib.Core.Bool.{Bool}

@@ -1,4 +1,4 @@
--- `liveness::inferred::sink_region` meets its contract.
+-- `signals::inferred::sink_region` meets its contract.
 -- Assumes nothing.
 use mathlib.Core.Path.{_≡_, refl}
 use mathlib.Core.Bool.{true}

@@ -1,4 +1,4 @@
--- `liveness::stages::find_cyclic` meets its contract: the sizes are counted in a local array, and the large regions flagged too.
+-- `signals::stages::find_cyclic` meets its contract: the sizes are counted in a local array, and the large regions flagged too.
 -- Assumes nothing.
 use borrow.Author.Needs.{needs}
 use mathlib.Core.Path.{_≡_, sym, ap, _∙_}

@@ -1,4 +1,4 @@
--- `liveness::stages::flag_large` meets its contract: the flags passed are set where their region is large, the others are as they were.
+-- `signals::stages::flag_large` meets its contract: the flags passed are set where their region is large, the others are as they were.
 -- Assumes nothing.
 use mathlib.Core.Path.{_≡_, refl, ap, _∙_}
 use mathlib.Core.Bool.{Bool, true, false, _||_}

@@ -1,4 +1,4 @@
--- `liveness::stages::place_labels` meets its contract: each number up to the present one is its component's label.
+-- `signals::stages::place_labels` meets its contract: each number up to the present one is its component's label.
 -- Assumes nothing.
 use mathlib.Core.Path.{_≡_, refl}
 use Prim.Native.Nat.{ℕ, _-_, _≤_, _<_}

@@ -1,4 +1,4 @@
--- `liveness::stages::place_members` meets its contract: each member up to the present one stands at its component's place.
+-- `signals::stages::place_members` meets its contract: each member up to the present one stands at its component's place.
 -- Assumes nothing.
 use borrow.Author.Needs.{needs}
 use mathlib.Core.Path.{_≡_, refl, sym, ap, _∙_}
