@@ -3,6 +3,7 @@
 use borrow.Author.Needs.{needs}
 use Prim.Native.Nat.{_+_, _*_, _-_, _≤_, _<_}
 use native.Mathlib.Omega.{arith}
+use Rattle.lists.specs.Limits.{componentLimit}
 use Rattle.assessment.specs.Rows.{firstRequired, requiredCount}
 use Rattle.assessment.specs.Places.{slotOf, statusAt}
 use Rattle.assessment.proofs.Devices.{PortsPut, ports-none, ports-more, ports-all}
@@ -21,7 +22,7 @@ start c = c .before .before .before .before .before .before .before
 
 -- the slot of a turn is a member's
 below : (c : tie.In-loop Inv-loop μ-loop)
-    → start (c .before) .args .member * 8 + (c .before .before .before .first-required .result + c .before .loop .k) < 8192
+    → start (c .before) .args .member * 8 + (c .before .before .before .first-required .result + c .before .loop .k) < 8 * componentLimit
 below c =
     let l = c .before in
     omega (arith, l .before .before .first-required .ensures .1, l .before .required-count .ensures .1, start l .pre .0 .1, c .loop-test .taken)

@@ -5,15 +5,16 @@ use mathlib.Core.Path.{_≡_}
 use Prim.Native.Nat.{_-_, _≤_}
 use native.Mathlib.Omega.{arith}
 use lib.ListN.{length, length-set}
+use Rattle.sets.specs.Members.{wordCount}
 use Rattle.assessment.proofs.UpRows.{Adding, adding-none, adding-more, added-all}
 use Rattle.assessment.proofs.upstream.add_row.Statement.{statement}
 use Rattle.assessment.proofs.upstream.add_row.Tie as tie
 
 abbrev Inv-loop : tie.InvT-loop
-Inv-loop rows region r₀ i₀ r i = (i ≤ 16) × (length (r .words) ≡ 16) × Adding (r₀ .words) rows region i (r .words)
+Inv-loop rows region r₀ i₀ r i = (i ≤ wordCount) × (length (r .words) ≡ wordCount) × Adding (r₀ .words) rows region i (r .words)
 
 abbrev μ-loop : tie.MeasureT-loop
-μ-loop rows region r₀ i₀ r i = 16 - i
+μ-loop rows region r₀ i₀ r i = wordCount - i
 
 loop-holds : tie.Need-loop-holds Inv-loop μ-loop
 loop-holds c = (omega arith, search needs, adding-none _ _ _)
@@ -28,7 +29,7 @@ returns : tie.Need-returns Inv-loop μ-loop
 returns c =
     let l = c .before .loop in
     let a = c .before .before .args in
-    let long : length (a .set .words) ≡ 16 = search needs in
+    let long : length (a .set .words) ≡ wordCount = search needs in
     added-all (a .set .words) (a .rows .now) (a .region) (l .i) (omega arith) long (l .inv .1) (l .inv .2)
 
 pub add-row-spec : {M : Type 1} → statement M

@@ -4,15 +4,16 @@ use mathlib.Core.Path.{_≡_, refl}
 use Prim.Native.Nat.{_-_, _≤_}
 use native.Mathlib.Omega.{arith}
 use lib.ListN.{length, length-set}
+use Rattle.sets.specs.Members.{wordCount}
 use Rattle.assessment.proofs.UpRows.{Joining, joining-none, joining-more, joined-all}
 use Rattle.assessment.proofs.upstream.join_row.Statement.{statement}
 use Rattle.assessment.proofs.upstream.join_row.Tie as tie
 
 abbrev Inv-loop : tie.InvT-loop
-Inv-loop rows₀ from to w₀ rows w = (w ≤ 16) × (length rows ≡ length rows₀) × Joining rows₀ from to w rows
+Inv-loop rows₀ from to w₀ rows w = (w ≤ wordCount) × (length rows ≡ length rows₀) × Joining rows₀ from to w rows
 
 abbrev μ-loop : tie.MeasureT-loop
-μ-loop rows₀ from to w₀ rows w = 16 - w
+μ-loop rows₀ from to w₀ rows w = wordCount - w
 
 loop-holds : tie.Need-loop-holds Inv-loop μ-loop
 loop-holds c = (omega arith, refl, joining-none (c .args .rows .now) (c .args .from) (c .args .to))
