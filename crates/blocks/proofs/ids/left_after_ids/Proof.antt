@@ -6,6 +6,7 @@ use mathlib.Core.List.{List, [], _∷_, _++_}
 use Prim.Native.Nat.{ℕ, _+_, _-_, _*_, _≤_}
 use native.Mathlib.Omega.{arith}
 use lib.ListN.{length, length-append}
+use Rattle.sets.specs.Members.{wordCount}
 use Rattle.lists.specs.declared.Found.{Found}
 use Rattle.blocks.specs.Lines.{spaced, setLine}
 use Rattle.blocks.specs.Blocks.{idsIn, leftAfter}
@@ -22,7 +23,7 @@ abbrev μ-loop : tie.MeasureT-loop
 
 words-long : (s : tie.Start Inv-loop μ-loop) → length (s .args .keys .now) ≤ 64 * length (s .args .set .words)
 words-long s =
-    let len : length (s .args .set .words) ≡ 16 = search needs in
+    let len : length (s .args .set .words) ≡ wordCount = search needs in
     omega (arith, s .pre)
 
 line-long : (key ids : List ℕ) → length key + 2 + length (spaced ids) ≡ length (setLine key ids)

@@ -6,6 +6,7 @@ use mathlib.Core.List.{List, [], _∷_, _++_, append-assoc}
 use Prim.Native.Nat.{ℕ, _+_, _-_, _*_, _≤_}
 use native.Mathlib.Omega.{arith}
 use lib.ListN.{length, length-append}
+use Rattle.sets.specs.Members.{wordCount}
 use Rattle.lines.specs.Wrote.{Put}
 use Rattle.lines.proofs.Writing.{put-length, put-room, put-put}
 use Rattle.blocks.proofs.Going.{goes-length}
@@ -22,7 +23,7 @@ abbrev μ-loop : tie.MeasureT-loop
 -- every member that the table has can be in the set
 words-long : (s : tie.Start Inv-loop μ-loop) → length (s .args .keys .now) ≤ 64 * length (s .args .set .words)
 words-long s =
-    let len : length (s .args .set .words) ≡ 16 = search needs in
+    let len : length (s .args .set .words) ≡ wordCount = search needs in
     omega (arith, s .pre .0)
 
 parts : (key text : List ℕ) → (key ++ (61 ∷ [])) ++ text ≡ key ++ 61 ∷ text
