@@ -10,6 +10,12 @@ use Rattle.liveness.proofs.Answers.{set-where}
 use Rattle.liveness.proofs.steps.answer.Statement.{statement}
 use Rattle.liveness.proofs.steps.answer.Tie as tie
 
+-- the lent flags are as many as regions can be
+find-cyclic-requires : tie.Need-find-cyclic-requires
+find-cyclic-requires c κs =
+    let s = c .before .before .before .before .before .before .before in
+    (s .pre .0 .0, (s .pre .0 .1, (s .pre .1 .0 .0, (omega arith, omega arith))))
+
 returns : tie.Need-returns
 returns c =
     let s = c .before .before .before .before .before .before .before .before .before .before .before .before .before .before in
@@ -29,7 +35,7 @@ answer-spec =
     tie.close
     (tie.spec
     (λ c. search needs)
-    (λ c κs. search needs)
+    find-cyclic-requires
     (λ c κs. search needs)
     (λ c κs. search needs)
     (λ c. search needs)
