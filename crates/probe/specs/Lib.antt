@@ -2,3 +2,4 @@ pub mod Places
 pub mod Inputs
 pub mod Ports
 pub mod Sheets
+pub mod Alive
