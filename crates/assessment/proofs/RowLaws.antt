@@ -1,12 +1,13 @@
 -- The rows that are written are those of `Verdicts`.
 --     verdicts-are         the verdict rows
+--     no-rows              there are none where no component has a required port
 --     members-within       the members by list place are indices
 --     sources-are          the source rows
 --     inferred-alone       an inferred component is on no frontier
 -- Assumes nothing.
 use mathlib.Core.Path.{_≡_, refl, sym, ap, _∙_}
 use mathlib.Core.Bool.{Bool, true, false, not, _&&_}
-use mathlib.Core.List.{List, _++_}
+use mathlib.Core.List.{List, [], _++_}
 use Prim.Native.Nat.{ℕ, zero, suc, _+_, _≤_, _<_}
 use native.Mathlib.Omega.{arith}
 use lib.Dec.{eqb, leb}
@@ -26,7 +27,7 @@ use Rattle.signals.specs.Flags.{Flags, Numbers, Indices}
 use Rattle.signals.specs.Sources.{sourceKind, onFrontier, isDrive}
 use Rattle.signals.specs.Regions.{wire, isInferred, hasDrive, regionAt, neighbours, fedFromOutside}
 use Rattle.assessment.specs.Verdicts.{statusOf, verdictRows, inputRows, sourcesAt, sourceRowsBelow}
-use Rattle.assessment.specs.Rows.{deviceRows, firstRequired, requiredCount, rowsBelow, sourcesBelow, InferredAlone}
+use Rattle.assessment.specs.Rows.{deviceRows, firstRequired, requiredCount, NoneRequired, rowsBelow, sourcesBelow, InferredAlone}
 use Rattle.assessment.specs.Places.{places, slotOf, SlotRoom, SlotFlags, LiveMarks, statusAt}
 use Rattle.lists.proofs.Some.{some-at, and-true}
 use Rattle.assessment.proofs.Devices.{count-most, first-most}
@@ -63,6 +64,11 @@ module _ (cs ps fs : List ℤ) {frontier inferred : List Bool} (f : Flags (compo
 pub members-within : (cs : List ℤ) {members : List ℕ} → componentCount cs ≤ componentLimit → Numbers (componentCount cs) (memberOf cs) members
     → Indices (componentCount cs) componentLimit members
 members-within cs few numbers = record { long = numbers .long; below = λ p h. omega (arith, numbers .at p h, member-below cs p h) }
+
+pub no-rows : (cs ps fs : List ℤ) → NoneRequired cs → (n : ℕ) → n ≤ componentCount cs → verdictRows cs ps fs n ≡ []
+unfolding verdictRows deviceRows
+no-rows cs ps fs none zero h = refl
+no-rows cs ps fs none (suc p) h = rw (no-rows cs ps fs none p (omega arith), port-rows cs ps fs p, none .at p (omega arith))
 
 -- rows by statuses that are the same at the ports that count
 rows-cong : (id first : ℕ) (P Q : ℕ → ℕ) (n : ℕ) → ((j : ℕ) → j < n → P (first + j) ≡ Q (first + j)) → deviceRows id first P n ≡ deviceRows id first Q n

@@ -33,6 +33,10 @@ firstRequired kind = getD (0 ∷ 1 ∷ 1 ∷ 4 ∷ []) kind 0
 unfoldable pub requiredCount : ℕ → ℕ
 requiredCount kind = getD (0 ∷ 1 ∷ 1 ∷ 1 ∷ 0 ∷ 0 ∷ 0 ∷ 0 ∷ 4 ∷ []) kind 0
 
+-- no component has a required port
+pub record NoneRequired (cs : List ℤ) : Type 0 where
+  pub at : (p : ℕ) → p < componentCount cs → requiredCount (component cs p .kind) ≡ 0
+
 -- some key of the slot
 unfoldable pub slotFed : List ℕ → ℕ → Bool
 slotFed keys slot = some (λ a. member (pair slot a) keys) span

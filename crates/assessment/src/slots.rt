@@ -23,7 +23,7 @@ ghost use Rattle.signals.specs.Signals.{isSignal};
 ghost use Rattle.signals.specs.Flags.{Numbers, Indices};
 ghost use Rattle.signals.specs.Seen.{SignalEnds};
 ghost use Rattle.assessment.specs.Verdicts.{inputRows};
-ghost use Rattle.assessment.specs.Rows.{Put, Scanned, rowsOf, rowsBelow};
+ghost use Rattle.assessment.specs.Rows.{Put, Scanned, NoneRequired, rowsOf, rowsBelow};
 ghost use Rattle.assessment.specs.Places.{slotOf, slotCount, slotAt, SlotRoom, SlotFlags, LiveMarks, statusAt};
 
 // A member has a slot for each port below this: no port past them has a verdict row.
@@ -173,6 +173,23 @@ fn put_rows(
     at / 3
 }
 
+// Whether some component may have a port with a verdict row.
+fn any_required(components: &[i64]) -> bool
+    requires { ⌜ Components (now components) ⌝ }
+    ensures { λ r. ⌜ (r ≡ false → NoneRequired (now (components .entry))) ⌝ }
+{
+    let count = components.len() / COMPONENT;
+    let mut p: usize = 0;
+    while p < count {
+        let kind = natural_at(components, p * COMPONENT + 4);
+        if required_count(kind) != 0 {
+            return true;
+        }
+        p += 1;
+    }
+    false
+}
+
 // Writes the verdict rows of all components, in list order, and answers how many there are: given each component's member, the members at
 // the ends of each port connection, and the members that are driven and those that may be.
 pub fn write_verdicts(
@@ -192,6 +209,10 @@ pub fn write_verdicts(
     ensures { λ r. ⌜ ((fs : List ℤ) → LiveMarks (now (components .entry)) (now (ports .entry)) fs (now (drive .entry)) (now (potential .entry)) →
         Scanned (inputRows (now (components .entry)) (now (ports .entry)) fs) 3 (now (out .entry)) (now (out .exit)) r) ⌝ }
 {
+    // A plot of wires alone needs no flags.
+    if !any_required(components) {
+        return 0;
+    }
     let mut fed = [false; SLOTS];
     let mut driven = [false; SLOTS];
     let mut possible = [false; SLOTS];

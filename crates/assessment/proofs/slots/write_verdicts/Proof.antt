@@ -1,11 +1,12 @@
 -- `assessment::slots::write_verdicts` meets its contract: flags, then rows, each by its law.
 -- Assumes nothing.
 use borrow.Author.Needs.{needs}
-use mathlib.Core.Path.{refl, subst, _∙_}
+use mathlib.Core.Path.{refl, sym, subst, _∙_}
 use mathlib.Core.Bool.{Bool}
 use mathlib.Core.List.{List}
 use Prim.Native.Nat.{ℕ}
 use native.Mathlib.Omega.{arith}
+use borrow.Author.Tests.{not-true}
 use lib.ListN.{length-replicate}
 use Rattle.lists.specs.Limits.{componentLimit}
 use Rattle.signals.specs.Seen.{SignalEnds}
@@ -13,7 +14,7 @@ use Rattle.assessment.specs.Rows.{Scanned}
 use Rattle.assessment.specs.Places.{SlotRoom}
 use Rattle.signals.proofs.Ends.{ends-within}
 use Rattle.signals.proofs.Staged.{sink-ends}
-use Rattle.assessment.proofs.RowLaws.{members-within, verdicts-are}
+use Rattle.assessment.proofs.RowLaws.{members-within, no-rows, verdicts-are}
 use Rattle.assessment.proofs.slots.write_verdicts.Statement.{statement}
 use Rattle.assessment.proofs.slots.write_verdicts.Tie as tie
 
@@ -23,13 +24,22 @@ sinks-below s =
     let e = sink-ends few (s .pre .1 .0 .0) (s .pre .1 .0 .1) (ends-within _ _ (s .pre .0 .1 .1)) (s .pre .1 .1 .0 .1) in
     record { long = e .long; below = λ k h signal. omega (arith, e .below k h signal, few) }
 
+-- no rows, and none are written
+returns : tie.Need-returns
+returns c fs live =
+    let s = c .before .before .before .before .before .before .before .before in
+    let none = c .before .any-required .ensures (not-true _ (c .if1 .taken)) in
+    subst (λ (l : List ℕ). Scanned l 3 (s .args .out .now) (s .args .out .now) 0)
+    (sym (no-rows (s .args .components .now) (s .args .ports .now) fs none _ (omega arith)))
+    (record { is = refl; count = refl })
+
 mark-slots-requires : tie.Need-mark-slots-requires
 mark-slots-requires c κs =
-    let s = c .before .before .before .before .before .before .before .before .before in
+    let s = c .before .before .before .before .before .before .before .before .before .before .before in
     ((s .pre .0 .1 .0, (s .pre .1 .1 .0 .0, sinks-below s)), (refl, (refl, refl)))
 
 abbrev start : tie.After-mark-slots → tie.Start
-start c = c .before .before .before .before .before .before .before .before .before .before
+start c = c .before .before .before .before .before .before .before .before .before .before .before .before
 
 abbrev fed : tie.After-mark-slots → List Bool
 fed c = c .mark-slots .last .1 .1 .1 .1 .1 .0
@@ -53,8 +63,8 @@ put-rows-requires c κs =
     let s = start m in
     ((s .pre .0 .0, members-within (s .args .components .now) (s .pre .0 .0 .few) (s .pre .1 .1 .1 .0)), (room m, s .pre .1 .1 .1 .1))
 
-returns : tie.Need-returns
-returns c fs live =
+returns-2 : tie.Need-returns-2
+returns-2 c fs live =
     let rows = c .before .before in
     let m = rows .before .before .before .before .before .before .before .before in
     let s = start m in
@@ -66,6 +76,8 @@ pub write-verdicts-spec : {M : Type 1} → statement M
 write-verdicts-spec =
     tie.close
     (tie.spec
+    (λ c κs. search needs)
+    returns
     (λ c. search needs)
     (λ c. search needs)
     (λ c. search needs)
@@ -75,4 +87,4 @@ write-verdicts-spec =
     (λ c. search needs)
     put-rows-requires
     (λ c. search needs)
-    returns)
+    returns-2)
