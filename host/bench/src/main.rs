@@ -11,7 +11,7 @@ use scenes::Scene;
 use scenes::sized::Shape;
 
 use measure::Times;
-use subjects::{Groups, Liveness, LivenessLists, Ports, Subject, with_kept, without_supports};
+use subjects::{Groups, Liveness, Ports, Subject, with_kept, without_supports};
 use tables::Row;
 use whole::Whole;
 
@@ -118,12 +118,6 @@ fn main() {
         tables::print(title, &liveness);
         let liveness = measured::<Liveness>(&chosen, Shape::fed_scene);
         tables::print("Liveness, four port connections to a component", &liveness);
-        let liveness = measured::<LivenessLists>(&chosen, kept);
-        let title = "Liveness on lists: `analyze_signal_liveness` of both";
-        tables::print(title, &liveness);
-        let liveness = measured::<LivenessLists>(&chosen, Shape::fed_scene);
-        let title = "Liveness on lists, four port connections to a component";
-        tables::print(title, &liveness);
     }
     if chosen.table("whole") {
         let whole = measured::<Whole>(&chosen, Shape::scene);

@@ -6,8 +6,8 @@ use dustroute_physical::{
 };
 use dustroute_translate::analyze_signal_liveness;
 use oracle::lists;
+use probe::capi;
 use probe::ports::port_connections;
-use probe::{alive, capi};
 use scenes::limits::{COMPONENT, CONNECTION, PORT_CONNECTION};
 use scenes::{Lent, Scene, bytes};
 
@@ -137,52 +137,6 @@ impl Subject for Liveness {
                 stack: &mut self.stack,
             };
             let answer = capi::liveness_bytes(components, ports, frontiers, lent);
-            assert!(answer.is_ok());
-        });
-    }
-}
-
-/// The same on lists of numbers, with nothing turned into bytes.
-pub struct LivenessLists {
-    given: PhysicalScene,
-    scene: Scene,
-    regions: Vec<u64>,
-    sources: Vec<u64>,
-    inputs: Vec<u64>,
-    sets: Vec<u64>,
-    stack: Vec<usize>,
-}
-
-impl Subject for LivenessLists {
-    fn connections(scene: &Scene) -> usize {
-        Liveness::connections(scene)
-    }
-
-    fn new(scene: Scene) -> Self {
-        let lent = Lent::enough(&scene);
-        Self {
-            given: lists::given_scene(&scene.components, &scene.ports, &scene.frontiers),
-            regions: vec![0; lent.regions],
-            sources: vec![0; lent.sources],
-            inputs: vec![0; lent.inputs],
-            sets: vec![0; alive::FOUND],
-            stack: vec![0; lent.stack],
-            scene,
-        }
-    }
-
-    fn run(&mut self, times: &mut Times) {
-        times.rust(|| analyze_signal_liveness(&self.given));
-        times.proved(|| {
-            let scene = &self.scene;
-            let lent = alive::Lent {
-                regions: &mut self.regions,
-                sources: &mut self.sources,
-                inputs: &mut self.inputs,
-                sets: &mut self.sets,
-                stack: &mut self.stack,
-            };
-            let answer = alive::liveness(&scene.components, &scene.ports, &scene.frontiers, lent);
             assert!(answer.is_ok());
         });
     }

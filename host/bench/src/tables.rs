@@ -22,9 +22,8 @@ lists (here a function of its own). The scene builder also makes evidence with a
 connection, looks for each support among all components, copies blocks, nets and fragments, and
 lists the ports of every component; all that is left out of the port. Liveness also reads and writes
 bytes; in its first table the connections are those that the scene builder keeps, on the average of
-the scenes, in its second the list is given and as long as it may be; on lists no bytes are read or
-written, and the sets are copied once. The Rust also gives each verdict row its immediate sources and
-inferred inputs (here a query of its own), by a search upstream for each.
+the scenes, in its second the list is given and as long as it may be. The Rust also gives each verdict row
+its immediate sources and inferred inputs (here a query of its own), by a search upstream for each.
 A whole report is a sheet's bytes turned into a report's: the Rust's side has the tests' own reader and
 printer around each of its functions, run once, and checks nothing but the lines.";
 

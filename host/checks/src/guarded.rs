@@ -18,13 +18,6 @@ impl Filling for u8 {
     }
 }
 
-impl Filling for u64 {
-    /// Above every number of a row.
-    fn filling(place: usize) -> Self {
-        Self::MAX - (place as Self) * 1_000_003
-    }
-}
-
 impl Filling for usize {
     fn filling(place: usize) -> Self {
         1 + place * 1_000_003

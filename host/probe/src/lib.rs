@@ -5,7 +5,6 @@
 //! slices, which are never null, and give typed answers. Nothing checks the
 //! declarations against the library's source, so they are few and on numbers.
 
-pub mod alive;
 pub mod capi;
 pub mod ports;
 pub mod query;
