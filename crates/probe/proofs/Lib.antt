@@ -1,3 +1,2 @@
 pub mod Selected
 pub mod Asking
-pub mod Laying

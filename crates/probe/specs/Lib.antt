@@ -2,4 +2,3 @@ pub mod Places
 pub mod Inputs
 pub mod Ports
 pub mod Sheets
-pub mod Alive

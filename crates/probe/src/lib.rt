@@ -1,5 +1,4 @@
-// What the tests from Rust call and the product does not export: refusals as one number, the table of ids, ports, groups and liveness.
-mod alive;
+// What the tests from Rust call and the product does not export: refusals as one number, the table of ids, ports and groups.
 mod groups;
 mod ports;
 mod query;

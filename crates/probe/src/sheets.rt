@@ -7,7 +7,7 @@ ghost use Rattle.sheet.specs.Sheet.{parse};
 ghost use Rattle.probe.specs.Sheets.{packedRefusal, packedReport, ReportedAs};
 
 // A part that has no room in its digits makes the whole this.
-pub(crate) const NO_ROOM: u64 = 18446744073709551615;
+const NO_ROOM: u64 = 18446744073709551615;
 
 const ITEMS: usize = 1 << 48;
 
