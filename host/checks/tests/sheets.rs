@@ -7,6 +7,7 @@ use std::path::PathBuf;
 
 use checks::runs::{self, Seeds};
 use checks::{Counted, Sheets};
+use probe::Refusal;
 use probe::report::report;
 use scenes::limits::{COMPONENT, COMPONENTS, CONNECTION, FRONTIER};
 use scenes::sheets::{Limits, lists, sheet_of, within};
@@ -142,14 +143,33 @@ fn on_the_longest_sheet() {
     assert_all_reported(&sheets, 1, "reports, longest sheet");
 }
 
+/// What the entry answers to a sheet, and the buffer it leaves.
+fn reported(text: &[u8]) -> (Result<u64, Refusal>, Vec<u8>) {
+    let mut components = vec![0; COMPONENTS * COMPONENT];
+    let mut connections = vec![0; 4 * COMPONENTS * CONNECTION];
+    let mut frontiers = vec![0; COMPONENTS / 4 * FRONTIER];
+    let mut out = vec![0; 1 << 20];
+    let work = [
+        &mut components[..],
+        &mut connections[..],
+        &mut frontiers[..],
+    ];
+    let answer = report(text, [1_024, 4_096, 256], work, &mut out);
+    (answer, out)
+}
+
+/// The thread runs the entry and nothing else; what it must answer is found
+/// outside.
 #[test]
 fn on_a_small_stack() -> io::Result<()> {
-    runs::within_one_mebibyte_of_stack(|| {
-        let mut sheets = Sheets::new(report);
-        for seed in 0..3 {
-            let text = sheet_of(&Profile::Full.scene(seed));
-            sheets.sheet(&text, Limits::SCENE, &"full plot");
-        }
-        assert_all_reported(&sheets, 3, "reports, small stack");
-    })
+    let mut sheets = Sheets::new(report);
+    for seed in 0..3 {
+        let text = sheet_of(&Profile::Full.scene(seed));
+        sheets.sheet(&text, Limits::SCENE, &"full plot");
+        let expected = reported(&text);
+        assert!(expected.0.is_ok());
+        runs::within_one_mebibyte_of_stack(move || assert!(reported(&text) == expected))?;
+    }
+    assert_all_reported(&sheets, 3, "reports, small stack");
+    Ok(())
 }
