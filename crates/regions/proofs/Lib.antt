@@ -1,7 +1,6 @@
 -- The theorems, for the crates above, and what the proofs of the functions use.
 --     Laws      laws of the definitions
 --     Theorems  what specs/Theorems.antt states
---     Examples  the definitions, computed at small graphs
 --     Fill      clear, clear_flags
 --     Again     a walk passes a visited node over
 --     Rows      skip_visited: the keys of a node are its neighbours
@@ -12,7 +11,6 @@
 --     Carried   what specs/Carry.antt states
 pub mod Laws
 pub mod Theorems
-pub mod Examples
 pub mod Fill
 pub mod Again
 pub mod Rows

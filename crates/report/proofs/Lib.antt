@@ -7,4 +7,3 @@ pub mod ReadLists
 pub mod Scenes
 pub mod Assembled
 pub mod SheetLaws
-mod Examples

@@ -24,7 +24,7 @@ use Rattle.circuit.specs.Groups.{rootsBelow, groupsOf}
 use Rattle.circuit.specs.Topology.{joins}
 use Rattle.faces.specs.Ports.{opposite, faceOr, neither, repeaterPorts, portsFor}
 use Rattle.faces.specs.Select.{serves, selectPort, transferOf}
-use Rattle.faces.specs.Step.{facingBetween}
+use Rattle.faces.specs.Step.{shiftBetween, facingBetween}
 use Rattle.scene.specs.Kept.{portsBetween, rowsBelow}
 use Rattle.regions.specs.Graph as graph
 use Rattle.regions.specs.Kosaraju as walk
@@ -39,7 +39,7 @@ use Rattle.report.specs.Report.{allRows, memberId, idsBelow, portLines, verdict
 use Rattle.report.specs.Entry.{fits, answerBy, reportChecked, Reported}
 use Rattle.report.specs.declared.Printed.{Printed}
 use Rattle.report.specs.declared.Printed.the-variants.{Written}
-use Rattle.worked.specs.Example.{sheetText, leverAndRepeater, fromLever, reportText, programParse, Example}
+use Rattle.worked.specs.Example.{sheetText, leverAndRepeater, fromLever, andSupport, reportText, programParse, Example}
 
 example-reads : programParse sheetText ≡ Lists leverAndRepeater fromLever []
 unfolding parse readList readFields readLine readNumber readMagnitude readDigits readEnd
@@ -49,6 +49,11 @@ example-prints : reportOf leverAndRepeater fromLever [] ≡ reportText
 unfolding countBelow firstFrom tabulate placeBelow smallerIds digitsThen fieldLines forest.range forest.singletons forest.redirect forest.link forest.uniteRoots forest.unite forest.uniteAll rootsBelow groupsOf joins opposite faceOr neither repeaterPorts portsFor serves selectPort transferOf facingBetween portsBetween rowsBelow graph.range graph.filter graph.each graph.next walk.visit walk.order walk.paint walk.label walk.labels walk.reached signals sourceKind firstAt onFrontier isCyclic hasDrive fedFromOutside neighbours isInferred membersWhere drive potential fedBy statusOf portRows verdictRows sourcesAt sourceRowsBelow isImmediate upstream isInferredFor allRows spaced memberId idsBelow portLines verdictLines reportOf
 example-prints = refl
 
+-- `connections=` counts those kept
+example-drops : reportOf leverAndRepeater andSupport [] ≡ reportText
+unfolding countBelow firstFrom tabulate placeBelow smallerIds digitsThen fieldLines forest.range forest.singletons forest.redirect forest.link forest.uniteRoots forest.unite forest.uniteAll rootsBelow groupsOf joins opposite faceOr neither repeaterPorts portsFor serves selectPort transferOf shiftBetween facingBetween portsBetween rowsBelow graph.range graph.filter graph.each graph.next walk.visit walk.order walk.paint walk.label walk.labels walk.reached signals sourceKind firstAt onFrontier isCyclic hasDrive fedFromOutside neighbours isInferred membersWhere drive potential fedBy statusOf portRows verdictRows sourcesAt sourceRowsBelow isImmediate upstream isInferredFor allRows spaced memberId idsBelow portLines verdictLines reportOf
+example-drops = refl
+
 lists-accepted : sheetRefusal leverAndRepeater fromLever [] ≡ Accepted
 unfolding firstFrom allFrom recordInRange firstOutOfRange recordBefore firstNotAscending placeBelow firstRepeated notWhole groupingLists
 lists-accepted = refl
@@ -57,7 +62,7 @@ example-accepts : reportChecked (Lists leverAndRepeater fromLever []) 2048 3072 
 example-accepts = ap₂ (λ (lists : Checked) (text : List ℕ). lists or-else fits text 65536) lists-accepted example-prints
 
 pub example : Example
-example = record { reads = example-reads; accepts = example-accepts; prints = example-prints }
+example = record { reads = example-reads; accepts = example-accepts; prints = example-prints; drops = example-drops }
 
 -- lent what the program lends, the sheet entry writes exactly these bytes, at the front of the buffer
 pub example-printed : (components components′ connections connections′ frontiers frontiers′ : List ℤ) (out out′ : List ℕ) (r : Printed)

@@ -1,4 +1,4 @@
--- The definitions of `Kosaraju`, computed at small graphs, and a use of the theorems.
+-- Graphs: the walks and the regions of crate `regions`, computed at small ones, and a use of its theorems.
 -- Assumes nothing.
 use mathlib.Core.Path.{_≡_, refl, sym, subst}
 use mathlib.Core.Bool.{Bool, true, false, _||_, _&&_, false≢true}
