@@ -62,6 +62,12 @@ pub(crate) fn flag_alive(
     let count = find_crossings(ports, sources, sinks, labels, &mut keys);
     copy_flags(has_drive, &mut driven);
     possible_regions(n, region_at, inferred, has_drive, &mut possible);
-    carry_marks(&keys[..count], labels, &mut driven, drive);
-    carry_marks(&keys[..count], labels, &mut possible, potential);
+    carry_marks(
+        &keys[..count],
+        labels,
+        &mut driven,
+        &mut possible,
+        drive,
+        potential,
+    );
 }

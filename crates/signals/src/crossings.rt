@@ -87,12 +87,21 @@ pub fn find_crossings(
     count
 }
 
-// Carries the marks of regions along the pairs of regions, and gives each node the mark of its region.
-pub fn carry_marks(keys: &[u64], labels: &[usize], marks: &mut [bool], out: &mut [bool])
-    requires { ⌜ KeysBelow (length (now marks)) (now keys) ⌝ }
-    requires { ⌜ Indices (length (now labels)) (length (now marks)) (now labels) × (length (now labels) ≤ length (now out)) ⌝ }
-    ensures { λ _. ⌜ Flags (length (now (labels .entry))) (λ m. carry (now (keys .entry)) (marked (now (marks .entry))) (getD (now (labels .entry)) m 0)) (now (out .exit)) ⌝ }
+// Carries two lists of marks of regions along the pairs of regions, and gives each node the marks of its region.
+pub fn carry_marks(
+    keys: &[u64],
+    labels: &[usize],
+    a: &mut [bool],
+    b: &mut [bool],
+    out_a: &mut [bool],
+    out_b: &mut [bool],
+)
+    requires { ⌜ KeysBelow (length (now a)) (now keys) × KeysBelow (length (now b)) (now keys) ⌝ }
+    requires { ⌜ Indices (length (now labels)) (length (now a)) (now labels) × (length (now labels) ≤ length (now «out_a»)) ⌝ }
+    requires { ⌜ Indices (length (now labels)) (length (now b)) (now labels) × (length (now labels) ≤ length (now «out_b»)) ⌝ }
+    ensures { λ _. ⌜ Flags (length (now (labels .entry))) (λ m. carry (now (keys .entry)) (marked (now (a .entry))) (getD (now (labels .entry)) m 0)) (now («out_a» .exit)) × Flags (length (now (labels .entry))) (λ m. carry (now (keys .entry)) (marked (now (b .entry))) (getD (now (labels .entry)) m 0)) (now («out_b» .exit)) ⌝ }
 {
-    regions::carry::carry(keys, marks);
-    spread(labels, marks, out);
+    regions::carry::carry_both(keys, a, b);
+    spread(labels, a, out_a);
+    spread(labels, b, out_b);
 }

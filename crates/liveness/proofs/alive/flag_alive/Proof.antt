@@ -77,6 +77,19 @@ possible-regions-requires c κs =
     let s = c .before .before .before .before .before .before .before .before .before .before .before .before .before .before .before in
     ((regions-small (s .pre .0 .1), s .pre .1 .inferred-room), (omega (arith, s .pre .1 .regions-room), omega arith))
 
+-- the places before the calls
+abbrev possible-before : tie.After-carry-marks-arg2 → tie.After-possible-regions
+possible-before c = c .before .before .before .before .before .before
+
+abbrev copied-before : tie.After-possible-regions → tie.After-copy-flags
+copied-before c = c .before .before .before
+
+abbrev found-before : tie.After-copy-flags → tie.After-find-crossings
+found-before c = c .before .before .before
+
+abbrev start : tie.After-find-crossings → tie.Start
+start c = c .before .before .before .before .before .before .before .before .before .before
+
 -- the keys that were found
 lent : (c : tie.After-find-crossings) → length (take (c .find-crossings .result) (c .find-crossings .last .1 .1 .1 .1 .0)) ≡ c .find-crossings .result
 lent c = length-take-le _ _ (c .find-crossings .ensures .few)
@@ -86,26 +99,27 @@ keys-as e k = record { first = λ i h. omega (arith, e, k .first i h); second = 
 
 carry-marks-requires : tie.Need-carry-marks-requires
 carry-marks-requires c κs =
-    let found = c .before .before .before .before .before .before .before .before .before .before .find-crossings .ensures in
-    let long = c .before .before .before .before .before .before .before .copy-flags .kept .1 .0 in
-    let s = c .before .before .before .before .before .before .before .before .before .before .before .before .before .before .before .before .before .before .before .before in
-    (keys-as (sym long) (found .below), (indices-same (sym long) (labels-small (s .pre .0 .1)), omega (arith, s .pre .1 .drive-room)))
-
-carry-marks-requires-2 : tie.Need-carry-marks-requires-2
-carry-marks-requires-2 c κs =
-    let found = c .before .before .before .before .before .before .before .before .before .before .before .before .before .before .before .before .before .find-crossings .ensures in
-    let long = c .before .before .before .before .before .before .before .before .before .before .before .possible-regions .kept .1 .1 .1 .1 .0 in
-    let s = c .before .before .before .before .before .before .before .before .before .before .before .before .before .before .before .before .before .before .before .before .before .before .before .before .before .before .before in
-    (keys-as (sym long) (found .below), (indices-same (sym long) (labels-small (s .pre .0 .1)), omega (arith, s .pre .1 .potential-room)))
+    let possible = possible-before c in
+    let copied = copied-before possible in
+    let found = found-before copied in
+    let s = start found in
+    let below = found .find-crossings .ensures .below in
+    let small = labels-small (s .pre .0 .1) in
+    let long-a = copied .copy-flags .kept .1 .0 in
+    let long-b = possible .possible-regions .kept .1 .1 .1 .1 .0 in (
+      (keys-as (sym long-a) below, keys-as (sym long-b) below),
+      ((indices-same (sym long-a) small, omega (arith, s .pre .1 .drive-room)), (indices-same (sym long-b) small, omega (arith, s .pre .1 .potential-room))),
+    )
 
 returns : tie.Need-returns
 returns c cs fs r driven inferred =
-    let second = c .before .before .before .carry-marks2 in
-    let first = c .before .before .before .before .before .before .before .before .before .before .carry-marks in
-    let possible = c .before .before .before .before .before .before .before .before .before .before .before .before .before .before .before .possible-regions in
-    let copied = c .before .before .before .before .before .before .before .before .before .before .before .before .before .before .before .before .before .before .copy-flags in
-    let found = c .before .before .before .before .before .before .before .before .before .before .before .before .before .before .before .before .before .before .before .before .before .find-crossings in
-    let s = c .before .before .before .before .before .before .before .before .before .before .before .before .before .before .before .before .before .before .before .before .before .before .before .before .before .before .before .before .before .before .before in
+    let carrying = c .before .before .before .before .before .before in
+    let carried = carrying .carry-marks in
+    let possible = possible-before (carrying .before) .possible-regions in
+    let copied = copied-before (possible-before (carrying .before)) .copy-flags in
+    let finding = found-before (copied-before (possible-before (carrying .before))) in
+    let found = finding .find-crossings in
+    let s = start finding in
     let room = s .pre .1 in
     let ps = s .args .ports .now in
     let keys = take (found .result) (found .last .1 .1 .1 .1 .0) in
@@ -120,10 +134,10 @@ returns c cs fs r driven inferred =
     (possible .last .1 .1 .1 .1 .0) =
     rw (all r) at (possible .ensures) in
     record {
-      drive-is = drive-is cs ps (few r) (r .scene .ends) pairs fs (first .kept .1 .1 .1 .0 ∙ room .drive-room ∙ all r)
-          (by-labels r (carry keys (marked (copied .last .1 .0))) (first .ensures)) marks;
-      potential-is = potential-is cs ps (few r) (r .scene .ends) pairs fs (second .kept .1 .1 .1 .0 ∙ room .potential-room ∙ all r)
-          (by-labels r (carry keys (marked (possible .last .1 .1 .1 .1 .0))) (second .ensures))
+      drive-is = drive-is cs ps (few r) (r .scene .ends) pairs fs (carried .kept .1 .1 .1 .1 .0 ∙ room .drive-room ∙ all r)
+          (by-labels r (carry keys (marked (copied .last .1 .0))) (carried .ensures .0)) marks;
+      potential-is = potential-is cs ps (few r) (r .scene .ends) pairs fs (carried .kept .1 .1 .1 .1 .1 .0 ∙ room .potential-room ∙ all r)
+          (by-labels r (carry keys (marked (possible .last .1 .1 .1 .1 .0))) (carried .ensures .1))
           (r .regions-are) driven inferred joined;
     }
 
@@ -138,13 +152,10 @@ flag-alive-spec =
     (λ c. search needs)
     possible-regions-requires
     (λ c. search needs)
-    (λ c. sym (lent (c .before .before .before .before .before .before .before .before)))
+    (λ c. sym (lent (found-before (copied-before (c .before .before)))))
+    (λ c. search needs)
     (λ c. search needs)
     carry-marks-requires
-    (λ c. search needs)
-    (λ c. sym (lent (c .before .before .before .before .before .before .before .before .before .before .before .before .before .before .before)))
-    (λ c. search needs)
-    carry-marks-requires-2
     (λ c. search needs)
     (λ c. search needs)
     returns)
