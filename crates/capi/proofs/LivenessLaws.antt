@@ -6,7 +6,8 @@
 --     few-regions                      and there are no more regions than components
 --     refused-alive, accepted-alive    the answer and what is left, from the lists of numbers
 --     whole-three, three-fit           lists of bytes that pass number 1, and its refusal as one number
---     part-alive, decoded-alive        the answer and what is left, from the lists of bytes
+--     ports-alive                      the answer and what is left, from port connections that were read
+--     part-alive, decoded-alive        the same from the lists of bytes
 -- Assumes nothing.
 use mathlib.Core.Path.{_≡_, refl, sym, ap, _∙_}
 use mathlib.Core.Bool.{Bool, true, false}
@@ -44,7 +45,7 @@ use Rattle.liveness.proofs.Answers.{scene-of}
 use Rattle.liveness.proofs.Demands.{signals-within}
 use Rattle.encoding.specs.Bytes.{numberBytes, numbers, bytesOf}
 use Rattle.capi.specs.Liveness.{setCount, livenessWhole, livenessPlaces, livenessBytesRefusal, setsOf, LivenessLaid, LivenessByBytes}
-use Rattle.capi.specs.Written.{Written}
+use Rattle.capi.specs.Written.{Written, LivenessByPlaces}
 use Rattle.encoding.proofs.Laid.{laid-front}
 
 -- ---- room
@@ -175,6 +176,13 @@ pub refused-alive : (checks : Checked) (cs ps fs : List ℤ) (regions sources in
 refused-alive checks cs ps fs regions sources inputs sets stack refusal r e f =
     alive-as (sym e) (record { answer = f; regions-left = refl; sources-left = refl; inputs-left = refl; sets-left = refl; stack-left = refl })
 
+-- ---- port connections that were read
+
+pub ports-alive : {cs ps ps′ fs : List ℤ} {regions regions′ sources sources′ inputs inputs′ sets sets′ stack stack′ : List ℕ} {r : ℕ}
+    → ps ≡ ps′ → LivenessByPlaces cs ps fs regions regions′ sources sources′ inputs inputs′ sets sets′ stack stack′ r
+    → LivenessByPlaces cs ps′ fs regions regions′ sources sources′ inputs inputs′ sets sets′ stack stack′ r
+ports-alive e l = rw e at l
+
 -- ---- the bytes of the three lists
 
 module _ (components ports frontiers : List ℕ) where
@@ -212,10 +220,10 @@ module _ (components ports frontiers : List ℕ) where
       (λ _. whole-small 2 (numberBytes * frontierWidth) frontierLimit (length frontiers) (lit< tt) (lit≤ tt)))
 
   module _ (regions regions′ sources sources′ inputs inputs′ sets sets′ stack stack′ : List ℕ) (r : ℕ) where
-    pub decoded-alive : (cs ps fs : List ℤ) → cs ≡ numbers components → ps ≡ numbers ports → fs ≡ numbers frontiers → livenessWhole components ports frontiers ≡ Accepted
-        → LivenessLaid (livenessPlaces cs ps fs (length regions) (length sources) (length inputs) (length sets) (length stack)) cs ps fs regions regions′ sources sources′ inputs inputs′ sets sets′ stack stack′ r
+    pub decoded-alive : (cs fs : List ℤ) → cs ≡ numbers components → fs ≡ numbers frontiers → livenessWhole components ports frontiers ≡ Accepted
+        → LivenessByPlaces cs (numbers ports) fs regions regions′ sources sources′ inputs inputs′ sets sets′ stack stack′ r
         → LivenessByBytes components ports frontiers regions regions′ sources sources′ inputs inputs′ sets sets′ stack stack′ r
-    decoded-alive cs ps fs ec ep ef e laid-so = rw e (rw (ec, ep, ef) at laid-so)
+    decoded-alive cs fs ec ef e laid-so = rw e (rw (ec, ef) at laid-so)
 
   pub part-alive : (regions sources inputs sets stack : List ℕ) (refusal : Refusal) (r : ℕ) → livenessWhole components ports frontiers ≡ Refused refusal → r ≡ packed (Refused refusal)
       → LivenessByBytes components ports frontiers regions regions sources sources inputs inputs sets sets stack stack r

@@ -2,17 +2,20 @@
 --     RowRoom            the rows of numbers fit the lent bytes
 --     WrittenRoom        so do those that were found
 --     Written            they were written
+--     LivenessByPlaces   the answer to lists of numbers, by the bytes of the lent slices
+--     fewPorts           the port connections that a smaller array has room for
 -- Assumes nothing: these are definitions.
 use Prim.Native.Nat.{ℕ, _+_, _*_, _≤_}
 use mathlib.Core.Path.{_≡_}
 use mathlib.Core.List.{List, _++_}
 use lib.ListN.{length, take}
+use lib.IntN.{ℤ}
 use Rattle.sets.specs.Members.{wordCount}
 use Rattle.lists.specs.Limits.{componentLimit}
 use Rattle.lists.specs.Slices.{laid, cleared}
 use Rattle.liveness.specs.declared.Analysis.{Analysis}
 use Rattle.encoding.specs.Bytes.{numberBytes, bytesOf}
-use Rattle.capi.specs.Liveness.{setCount}
+use Rattle.capi.specs.Liveness.{setCount, livenessPlaces, LivenessLaid}
 
 -- each slice of rows has no more numbers than its bytes have places, and than a scene can fill
 pub record RowRoom (regionRows sourceRows inputRows regions sources inputs sets : List ℕ) : Type 0 where
@@ -39,3 +42,12 @@ pub record Written (count : ℕ) (analysis : Analysis) (regionRows sourceRows in
   pub sets-are : sets′ ≡ laid (bytesOf (analysis .drive .words ++ (analysis .potential .words ++ (analysis .cyclic .words ++ analysis .«has_drive» .words)))) sets
   pub stack-is : stack′ ≡ cleared stack
   pub counts-are : r ≡ 65536 * analysis .regions + 4294967296 * analysis .sources + 281474976710656 * analysis .inputs
+
+-- the answer for components cs, port connections ps and frontiers fs, and what is left of five lent slices
+abbrev pub LivenessByPlaces : List ℤ → List ℤ → List ℤ → List ℕ → List ℕ → List ℕ → List ℕ → List ℕ → List ℕ → List ℕ → List ℕ → List ℕ → List ℕ → ℕ → Type 0
+LivenessByPlaces cs ps fs regions regions′ sources sources′ inputs inputs′ sets sets′ stack stack′ r =
+    LivenessLaid (livenessPlaces cs ps fs (length regions) (length sources) (length inputs) (length sets) (length stack))
+    cs ps fs regions regions′ sources sources′ inputs inputs′ sets sets′ stack stack′ r
+
+abbrev pub fewPorts : ℕ
+fewPorts = 1024

@@ -5,14 +5,14 @@ ghost use mathlib.Core.List.{_++_};
 ghost use Prim.Native.Nat.{_+_, _*_, _/_, _≤_};
 ghost use lib.ListN.{length};
 ghost use Rattle.sets.specs.Members.{wordCount};
-ghost use Rattle.lists.specs.Limits.{componentLimit};
+ghost use Rattle.lists.specs.Limits.{componentLimit, connectionLimit, portWidth};
 ghost use Rattle.lists.specs.Records.{componentCount};
 ghost use Rattle.checks.specs.Refusals.{roomFor, livenessLists, livenessRefusal, packed};
 ghost use Rattle.lists.specs.Slices.{laid};
 ghost use Rattle.lists.specs.declared.Checked.the-variants.{Accepted};
-ghost use Rattle.encoding.specs.Bytes.{numberBytes, bytesOf};
-ghost use Rattle.capi.specs.Liveness.{setCount, livenessWhole, livenessPlaces, LivenessLaid, LivenessByBytes};
-ghost use Rattle.capi.specs.Written.{Written, WrittenRoom, RowRoom};
+ghost use Rattle.encoding.specs.Bytes.{numberBytes, numbers, bytesOf};
+ghost use Rattle.capi.specs.Liveness.{setCount, livenessWhole, LivenessLaid, LivenessByBytes};
+ghost use Rattle.capi.specs.Written.{Written, WrittenRoom, RowRoom, LivenessByPlaces, fewPorts};
 use checks::refusals::liveness_lists;
 use checks::refusals::pack;
 use checks::refusals::room_for;
@@ -36,6 +36,9 @@ use sets::WORDS;
 
 // The sets of an answer.
 const SETS: usize = 4;
+
+// The port connections that a smaller array has room for.
+const FEW: usize = 1024;
 
 // The counts of an accepted scene as one number.
 fn pack_counts(regions: usize, sources: usize, inputs: usize) -> u64
@@ -150,7 +153,7 @@ fn by_places(
 ) -> u64
     requires { ⌜ componentCount (now components) ≤ componentLimit ⌝ }
     requires { ⌜ roomFor setCount wordCount (length (now sets) / numberBytes) ≡ true ⌝ }
-    ensures { λ r. ⌜ LivenessLaid (livenessPlaces (now (components .entry)) (now (ports .entry)) (now (frontiers .entry)) (length (now (regions .entry))) (length (now (sources .entry))) (length (now (inputs .entry))) (length (now (sets .entry))) (length (now (stack .entry)))) (now (components .entry)) (now (ports .entry)) (now (frontiers .entry)) (now (regions .entry)) (now (regions .exit)) (now (sources .entry)) (now (sources .exit)) (now (inputs .entry)) (now (inputs .exit)) (now (sets .entry)) (now (sets .exit)) (now (stack .entry)) (now (stack .exit)) r ⌝ }
+    ensures { λ r. ⌜ LivenessByPlaces (now (components .entry)) (now (ports .entry)) (now (frontiers .entry)) (now (regions .entry)) (now (regions .exit)) (now (sources .entry)) (now (sources .exit)) (now (inputs .entry)) (now (inputs .exit)) (now (sets .entry)) (now (sets .exit)) (now (stack .entry)) (now (stack .exit)) r ⌝ }
 {
     let mut region_rows = [0u64; COMPONENTS];
     let mut source_rows = [0u64; 4 * COMPONENTS];
@@ -206,7 +209,7 @@ fn of_numbers(
     stack: &mut [u8],
 ) -> u64
     requires { ⌜ componentCount (now components) ≤ componentLimit ⌝ }
-    ensures { λ r. ⌜ LivenessLaid (livenessPlaces (now (components .entry)) (now (ports .entry)) (now (frontiers .entry)) (length (now (regions .entry))) (length (now (sources .entry))) (length (now (inputs .entry))) (length (now (sets .entry))) (length (now (stack .entry)))) (now (components .entry)) (now (ports .entry)) (now (frontiers .entry)) (now (regions .entry)) (now (regions .exit)) (now (sources .entry)) (now (sources .exit)) (now (inputs .entry)) (now (inputs .exit)) (now (sets .entry)) (now (sets .exit)) (now (stack .entry)) (now (stack .exit)) r ⌝ }
+    ensures { λ r. ⌜ LivenessByPlaces (now (components .entry)) (now (ports .entry)) (now (frontiers .entry)) (now (regions .entry)) (now (regions .exit)) (now (sources .entry)) (now (sources .exit)) (now (inputs .entry)) (now (inputs .exit)) (now (sets .entry)) (now (sets .exit)) (now (stack .entry)) (now (stack .exit)) r ⌝ }
 {
     if room_for(SETS, WORDS, sets.len() / NUMBER) {
         return by_places(
@@ -221,6 +224,66 @@ fn of_numbers(
         );
     }
     refuse_short(components, ports, frontiers)
+}
+
+// The liveness of a scene whose port connections are lent as bytes.
+fn with_ports(
+    components: &[i64],
+    ports: &[u8],
+    frontiers: &[i64],
+    regions: &mut [u8],
+    sources: &mut [u8],
+    inputs: &mut [u8],
+    sets: &mut [u8],
+    stack: &mut [u8],
+) -> u64
+    requires { ⌜ componentCount (now components) ≤ componentLimit ⌝ }
+    requires { ⌜ length (now ports) / numberBytes ≤ connectionLimit * portWidth ⌝ }
+    ensures { λ r. ⌜ LivenessByPlaces (now (components .entry)) (numbers (now (ports .entry))) (now (frontiers .entry)) (now (regions .entry)) (now (regions .exit)) (now (sources .entry)) (now (sources .exit)) (now (inputs .entry)) (now (inputs .exit)) (now (sets .entry)) (now (sets .exit)) (now (stack .entry)) (now (stack .exit)) r ⌝ }
+{
+    let mut port_numbers = [0i64; CONNECTIONS * PORT];
+    decode(ports, &mut port_numbers);
+    let port_count = ports.len() / NUMBER;
+    of_numbers(
+        components,
+        &port_numbers[..port_count],
+        frontiers,
+        regions,
+        sources,
+        inputs,
+        sets,
+        stack,
+    )
+}
+
+// The same for few of them: a small array is cleared, not one for as many as there can be.
+fn with_few_ports(
+    components: &[i64],
+    ports: &[u8],
+    frontiers: &[i64],
+    regions: &mut [u8],
+    sources: &mut [u8],
+    inputs: &mut [u8],
+    sets: &mut [u8],
+    stack: &mut [u8],
+) -> u64
+    requires { ⌜ componentCount (now components) ≤ componentLimit ⌝ }
+    requires { ⌜ length (now ports) / numberBytes ≤ fewPorts * portWidth ⌝ }
+    ensures { λ r. ⌜ LivenessByPlaces (now (components .entry)) (numbers (now (ports .entry))) (now (frontiers .entry)) (now (regions .entry)) (now (regions .exit)) (now (sources .entry)) (now (sources .exit)) (now (inputs .entry)) (now (inputs .exit)) (now (sets .entry)) (now (sets .exit)) (now (stack .entry)) (now (stack .exit)) r ⌝ }
+{
+    let mut port_numbers = [0i64; FEW * PORT];
+    decode(ports, &mut port_numbers);
+    let port_count = ports.len() / NUMBER;
+    of_numbers(
+        components,
+        &port_numbers[..port_count],
+        frontiers,
+        regions,
+        sources,
+        inputs,
+        sets,
+        stack,
+    )
 }
 
 // The liveness of a scene whose lists are whole records within their limits.
@@ -238,18 +301,29 @@ pub(crate) fn of_bytes(
     ensures { λ r. ⌜ LivenessByBytes (now (components .entry)) (now (ports .entry)) (now (frontiers .entry)) (now (regions .entry)) (now (regions .exit)) (now (sources .entry)) (now (sources .exit)) (now (inputs .entry)) (now (inputs .exit)) (now (sets .entry)) (now (sets .exit)) (now (stack .entry)) (now (stack .exit)) r ⌝ }
 {
     let mut component_numbers = [0i64; COMPONENTS * COMPONENT];
-    let mut port_numbers = [0i64; CONNECTIONS * PORT];
     let mut frontier_numbers = [0i64; FRONTIERS * FRONTIER];
     decode(components, &mut component_numbers);
-    decode(ports, &mut port_numbers);
     decode(frontiers, &mut frontier_numbers);
     let component_count = components.len() / NUMBER;
-    let port_count = ports.len() / NUMBER;
     let frontier_count = frontiers.len() / NUMBER;
-    of_numbers(
-        &component_numbers[..component_count],
-        &port_numbers[..port_count],
-        &frontier_numbers[..frontier_count],
+    let component_list = &component_numbers[..component_count];
+    let frontier_list = &frontier_numbers[..frontier_count];
+    if ports.len() / NUMBER <= FEW * PORT {
+        return with_few_ports(
+            component_list,
+            ports,
+            frontier_list,
+            regions,
+            sources,
+            inputs,
+            sets,
+            stack,
+        );
+    }
+    with_ports(
+        component_list,
+        ports,
+        frontier_list,
         regions,
         sources,
         inputs,
