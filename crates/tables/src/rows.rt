@@ -1,4 +1,4 @@
-// Hints of where the keys of each row begin, a row being the keys that are alike from some bit on. A wrong hint costs time and nothing
+// Hints of where the keys of each row end, a row being the keys that are alike from some bit on. A wrong hint costs time and nothing
 // else: what it says is tested, and the table is searched where it is wrong.
 use super::lower_bound;
 use super::lower_bound_near;
@@ -33,16 +33,15 @@ fn larger(a: usize, b: usize) -> usize {
     if a < b { b } else { a }
 }
 
-// Replaces each end by the greatest before it: where the row begins.
+// Replaces each end by the greatest up to it: a row without keys ends where the one before it does.
 fn carry_ends(rows: &mut [usize])
     ensures { λ _. ⌜ length (now (rows .exit)) ≡ length (now (rows .entry)) ⌝ }
 {
     let mut top: usize = 0;
     let mut r: usize = 0;
     while r < rows.len() {
-        let end = rows[r];
+        top = larger(top, rows[r]);
         rows[r] = top;
-        top = larger(top, end);
         r += 1;
     }
 }
@@ -56,10 +55,12 @@ pub fn hint_rows(keys: &[u64], shift: u64, rows: &mut [usize])
     carry_ends(rows);
 }
 
-// The hint of a row, or 0.
-fn hint_at(rows: &[usize], row: usize) -> usize {
-    if row < rows.len() {
-        return rows[row];
+// Where a row begins: where the one before it ends.
+fn begin_of(rows: &[usize], row: usize) -> usize
+    requires { ⌜ row < length (now rows) ⌝ }
+{
+    if 0 < row {
+        return rows[row - 1];
     }
     0
 }
@@ -69,7 +70,7 @@ pub fn lower_bound_in(keys: &[u64], key: u64, rows: &[usize], row: usize) -> usi
     ensures { λ r. ⌜ LowerBound (now (keys .entry)) key r ⌝ }
 {
     if row < rows.len() {
-        return lower_bound_near(keys, key, rows[row], hint_at(rows, row + 1));
+        return lower_bound_near(keys, key, begin_of(rows, row), rows[row]);
     }
     lower_bound(keys, key)
 }

@@ -17,20 +17,20 @@ abbrev μ-loop : tie.MeasureT-loop
 loop-holds : tie.Need-loop-holds Inv-loop μ-loop
 loop-holds c = search needs
 
-mul-end : tie.Need-mul-end Inv-loop μ-loop
-mul-end c = search needs
+mul-larger : tie.Need-mul-larger Inv-loop μ-loop
+mul-larger c = search needs
 
-slice-read-end : tie.Need-slice-read-end Inv-loop μ-loop
-slice-read-end c = search needs
+slice-read-larger : tie.Need-slice-read-larger Inv-loop μ-loop
+slice-read-larger c = search needs
+
+larger-requires : tie.Need-larger-requires Inv-loop μ-loop
+larger-requires c κs = search needs
 
 mul-rows : tie.Need-mul-rows Inv-loop μ-loop
 mul-rows c = search needs
 
 slice-write-rows : tie.Need-slice-write-rows Inv-loop μ-loop
 slice-write-rows c = search needs
-
-larger-requires : tie.Need-larger-requires Inv-loop μ-loop
-larger-requires c κs = search needs
 
 add-r : tie.Need-add-r Inv-loop μ-loop
 add-r c = search needs
@@ -54,11 +54,11 @@ carry-ends-spec =
     Inv-loop
     μ-loop
     loop-holds
-    mul-end
-    slice-read-end
+    mul-larger
+    slice-read-larger
+    larger-requires
     mul-rows
     slice-write-rows
-    larger-requires
     add-r
     loop-less
     loop-again
