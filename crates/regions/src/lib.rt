@@ -16,8 +16,8 @@ ghost use Rattle.regions.specs.Kosaraju as Kosaraju;
 ghost use Rattle.regions.specs.Keys.{edges, Reversed};
 ghost use Rattle.regions.specs.Search.{fresh, Room, Entered, Skipped, Searched, Ordered, Labelled, Regions, Reached};
 
-// The nodes whose row of keys has a hint of where it begins. Others are searched for.
-pub const HINTED: usize = 1024;
+// The nodes whose row of keys has a hint of where it ends: those of a full plot, and one that stands for none. Others are searched for.
+pub const HINTED: usize = (1 << 10) + 1;
 
 // Sets every flag to false.
 pub fn clear_flags(flags: &mut [bool])
