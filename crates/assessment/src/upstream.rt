@@ -10,7 +10,7 @@ ghost use lib.Dec.{ltb};
 ghost use lib.ListN.{length};
 ghost use Rattle.sets.specs.Members.{memberLimit, memberOf};
 ghost use Rattle.lists.specs.Limits.{componentLimit};
-ghost use Rattle.regions.specs.Carry.{KeysBelow};
+ghost use Rattle.tables.specs.Pairs.{KeysBelow};
 ghost use Rattle.regions.specs.Search.{Zeros};
 ghost use Rattle.signals.specs.Flags.{Indices};
 ghost use Rattle.assessment.specs.Upstream.{tableWords, inRow, Joined, RowMember, Seeded, Carried, UpstreamRows};

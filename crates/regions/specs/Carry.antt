@@ -24,11 +24,6 @@ unfoldable pub carry : List ℕ → (ℕ → Bool) → ℕ → Bool
 carry [] marks = marks
 carry (key ∷ keys) marks = carry keys (handOn key marks)
 
--- both numbers of each key are below m
-pub record KeysBelow (m : ℕ) (keys : List ℕ) : Type 0 where
-  pub first : (i : ℕ) → i < length keys → getD keys i 0 / span < m
-  pub second : (i : ℕ) → i < length keys → getD keys i 0 % span < m
-
 -- the keys are the pairs of two regions that an edge leads from and to, by rising first number; a pair may be there more than once
 pub record Crossings (edge : Edges) (labels keys : List ℕ) : Type 0 where
   pub rising : RisingBy (λ key. key / span) keys

@@ -2,9 +2,9 @@
 ghost use mathlib.Core.Path.{_≡_};
 ghost use Prim.Native.Nat.{ℕ};
 ghost use lib.ListN.{length};
+ghost use Rattle.tables.specs.Pairs.{KeysBelow};
 ghost use Rattle.regions.specs.Graph.{marked};
 ghost use Rattle.regions.specs.Carry as Carry;
-ghost use Rattle.regions.specs.Carry.{KeysBelow};
 
 // Hands the marks of each key's first number on to its second in two lists, one key after the other: neither list waits for the other's stores.
 pub fn carry_both(keys: &[u64], a: &mut [bool], b: &mut [bool])

@@ -16,14 +16,14 @@ use lib.IntN.{ℤ}
 use borrow.Author.Tests.{eqb-true, eq-eqb, ne-eqb}
 use Rattle.tables.specs.Order.{one, member, Rearranged}
 use Rattle.tables.specs.Laws.{at-member, member-rearranged}
-use Rattle.tables.specs.Pairs.{span, pair}
+use Rattle.tables.specs.Pairs.{span, pair, KeysBelow}
 use Rattle.tables.specs.Radix.{RisingBy}
 use Rattle.lists.specs.Limits.{componentLimit}
 use Rattle.lists.specs.Records.{portCount}
 use Rattle.lists.specs.First.{firstFrom, some}
 use Rattle.lists.specs.Ends.{Settled}
 use Rattle.lists.proofs.Search.{never, both, some-more}
-use Rattle.regions.specs.Carry.{Crossings, KeysBelow}
+use Rattle.regions.specs.Carry.{Crossings}
 use Rattle.signals.specs.Signals.{isSignal, sourceMember, sinkMember, signals}
 use Rattle.signals.specs.Flags.{Indices}
 use Rattle.signals.specs.Seen.{SignalEnds}

@@ -1,6 +1,6 @@
 -- The list of a function's values, and the keys of the port connections.
 --     tabulated-length, tabulated-at, tab-length, tab-at      the list by its places; the same of numbers
---     keys-of                 the keys of all port connections, sorted
+--     listed-keys             the keys of all port connections
 --     member-tab              a value is a member where the function has it at some place
 --     first-cong              a search by a test that is the same
 -- Assumes nothing.
@@ -16,7 +16,7 @@ use lib.Seq.{getD-at, ext-getD}
 use lib.Dec.{eqb}
 use lib.IntN.{ℤ}
 use borrow.Author.Tests.{eqb-true, eqb-false}
-use Rattle.tables.specs.Order.{Sorted, member}
+use Rattle.tables.specs.Order.{member}
 use Rattle.tables.specs.Laws.{at-member, member-none}
 use Rattle.lists.specs.Records.{portCount}
 use Rattle.lists.specs.First.{firstFrom, isFound, some, tabulate}
@@ -24,7 +24,7 @@ use Rattle.lists.specs.declared.Found.{Found}
 use Rattle.lists.specs.declared.Found.the-variants.{At, Nothing}
 use Rattle.lists.proofs.Search.{found-at, none-found}
 use Rattle.signals.specs.Signals.{isSignal}
-use Rattle.signals.specs.Keys.{signalKey, KeysOf}
+use Rattle.signals.specs.Keys.{signalKey, signalKeys}
 
 pub first-cong : (P Q : ℕ → Bool) (k n : ℕ) → ((j : ℕ) → k ≤ j → j < k + n → P j ≡ Q j) → firstFrom P k n ≡ firstFrom Q k n
 unfolding firstFrom
@@ -67,11 +67,10 @@ module _ (f : ℕ → ℕ) where
           let l : k < n = rw (tab-length n) at h in
           eqb-false (f k) v (none-found (λ k. eqb (f k) v) 0 n e k (omega arith) (omega arith)) (sym (tab-at n k l) ∙ q))
 
-pub keys-of : (ps : List ℤ) (firsts seconds : List ℕ) (nowhere : ℕ) {keys keys′ : List ℕ} → length keys ≡ portCount ps
+pub listed-keys : (ps : List ℤ) (firsts seconds : List ℕ) (nowhere : ℕ) {keys : List ℕ} → length keys ≡ portCount ps
     → ((k : ℕ) → k < portCount ps → getD keys k 0 ≡ signalKey (isSignal ps k) (getD firsts k 0) (getD seconds k 0) nowhere)
-    → Sorted keys keys′ → KeysOf ps firsts seconds nowhere keys′
-keys-of ps firsts seconds nowhere {keys} {keys′} long each s =
+    → keys ≡ signalKeys ps firsts seconds nowhere
+listed-keys ps firsts seconds nowhere {keys} long each =
     let n = portCount ps in
     let key : ℕ → ℕ = λ k. signalKey (isSignal ps k) (getD firsts k 0) (getD seconds k 0) nowhere in
-    let same : keys ≡ tabulate key n = ext-getD 0 keys (tabulate key n) (long ∙ sym (tab-length key n)) (λ k h. each k (omega arith) ∙ sym (tab-at key n k (omega arith))) in
-    record { sorted = rw same at s }
+    ext-getD 0 keys (tabulate key n) (long ∙ sym (tab-length key n)) (λ k h. each k (omega arith) ∙ sym (tab-at key n k (omega arith)))

@@ -1,27 +1,27 @@
 -- The pairs of a table of keys turned round.
 --     turned-more, turned-all        a loop that turns one pair more
 --     turned-low, turned-rising      of a sorted table of pairs of small numbers: these numbers are small, and the second rise
---     keys-low                       the first numbers of a table of keys
+--     keys-below                     the numbers of a table of keys
 --     turned-keys-of                 so the turned keys, sorted, are the table backward
 -- Assumes nothing.
 use mathlib.Core.Path.{_≡_, refl, sym, ap, _∙_}
 use mathlib.Core.Bool.{Bool, true, false}
 use mathlib.Core.List.{List, [], _∷_, _++_, map}
-use Prim.Native.Nat.{ℕ, _+_, _/_, _%_, _<_}
+use Prim.Native.Nat.{ℕ, _+_, _/_, _%_, _≤_, _<_}
 use native.Mathlib.Numerals.{add-one}
 use native.Mathlib.Omega.{arith}
 use lib.ListN.{length, getD, set, take, length-map, List·getD-map}
 use lib.Seq.{ext-getD, take-all, take-suc, take-suc-set}
 use lib.IntN.{ℤ}
 use Rattle.tables.specs.Order.{All, Ascending, Sorted}
-use Rattle.tables.specs.Laws.{all-at, at-all, member-at, at-member, member-rearranged, rearranged-map, rearranged-trans}
-use Rattle.tables.specs.Pairs.{span}
+use Rattle.tables.specs.Laws.{at-all, rearranged-map, rearranged-trans}
+use Rattle.tables.specs.Pairs.{span, KeysBelow}
 use Rattle.tables.specs.Radix.{RisingBy}
 use Rattle.lists.specs.Limits.{componentLimit}
 use Rattle.lists.specs.Records.{portCount}
 use Rattle.lists.specs.First.{tabulate}
 use Rattle.signals.specs.Signals.{isSignal}
-use Rattle.signals.specs.Keys.{signalKey, turned, KeysOf}
+use Rattle.signals.specs.Keys.{signalKey, signalKeys, turned, KeysOf}
 use Rattle.signals.proofs.Tabulated.{tab-length, tab-at}
 
 -- ---- the loop
@@ -48,18 +48,16 @@ turned-all keys out i h e = ap (λ (n : ℕ). take n out) (sym h) ∙ e ∙ ap (
 turned-at : (keys : List ℕ) (i : ℕ) → getD (map turned keys) i 0 ≡ turned (getD keys i 0)
 turned-at keys i = List·getD-map turned keys i 0
 
-pub turned-low : (keys : List ℕ) → All (λ x. x / span < span) keys → All (λ x. x / span < span) (map turned keys)
-turned-low [] a = tt
-turned-low (x ∷ xs) a = (omega (arith, a .0), turned-low xs (a .1))
+module _ (m : ℕ) (few : m ≤ span) (keys : List ℕ) (below : KeysBelow m keys) where
+  pub turned-low : All (λ x. x / span < m) (map turned keys)
+  turned-low = at-all (λ x. x / span < m) (map turned keys) (λ i h.
+      let l : i < length keys = omega (arith, length-map keys turned) in omega (arith, turned-at keys i, below .first i l, below .second i l))
 
-module _ (keys : List ℕ) (rises : Ascending keys) (low : All (λ x. x / span < span) keys) where
   second-at : (i : ℕ) → i < length keys → getD (map turned keys) i 0 % span ≡ getD keys i 0 / span
-  second-at i h =
-      ap (λ (x : ℕ). x % span) (turned-at keys i)
-      ∙ (let l = all-at (λ x. x / span < span) keys low i h in omega arith)
+  second-at i h = omega (arith, turned-at keys i, below .first i h)
 
-  pub turned-rising : RisingBy (λ x. x % span) (map turned keys)
-  turned-rising = record {
+  pub turned-rising : Ascending keys → RisingBy (λ x. x % span) (map turned keys)
+  turned-rising rises = record {
     at = λ i j l h.
         let k : j < length keys = omega (arith, length-map keys turned) in
         let up = rises .at i j l k in
@@ -73,9 +71,23 @@ turned-key : (t : Bool) (a b : ℕ) → a < span → b < span → turned (signal
 turned-key true a b h l = omega arith
 turned-key false a b h l = omega arith
 
-key-low : (t : Bool) (a b : ℕ) → a < span → b < span → signalKey t a b componentLimit / span < span
-key-low true a b h l = omega arith
-key-low false a b h l = omega arith
+module _ (m : ℕ) (few : m ≤ span) (more : componentLimit < m) where
+  key-low : (t : Bool) (a b : ℕ) → a < m → b < m → (signalKey t a b componentLimit / span < m) × (signalKey t a b componentLimit % span < m)
+  key-low true a b h l = (omega arith, omega arith)
+  key-low false a b h l = (omega arith, omega arith)
+
+  pub keys-below : (ps : List ℤ) (firsts seconds : List ℕ) → ((k : ℕ) → k < portCount ps → getD firsts k 0 < m)
+      → ((k : ℕ) → k < portCount ps → getD seconds k 0 < m) → KeysBelow m (signalKeys ps firsts seconds componentLimit)
+  keys-below ps firsts seconds first second = record { first = λ k h. low k h .0; second = λ k h. low k h .1 }
+    where
+      key : ℕ → ℕ
+      key k = signalKey (isSignal ps k) (getD firsts k 0) (getD seconds k 0) componentLimit
+
+      low : (k : ℕ) → k < length (signalKeys ps firsts seconds componentLimit)
+          → (getD (signalKeys ps firsts seconds componentLimit) k 0 / span < m) × (getD (signalKeys ps firsts seconds componentLimit) k 0 % span < m)
+      low k h =
+          let there : k < portCount ps = omega (arith, tab-length key (portCount ps)) in
+          rw (tab-at key (portCount ps) k there) (key-low (isSignal ps k) (getD firsts k 0) (getD seconds k 0) (first k there) (second k there))
 
 module _ {ps : List ℤ} {firsts seconds : List ℕ} {keys : List ℕ} (t : KeysOf ps firsts seconds componentLimit keys)
     (first : (k : ℕ) → k < portCount ps → getD firsts k 0 < span) (second : (k : ℕ) → k < portCount ps → getD seconds k 0 < span) where
@@ -84,17 +96,6 @@ module _ {ps : List ℤ} {firsts seconds : List ℕ} {keys : List ℕ} (t : Keys
 
   back : ℕ → ℕ
   back k = signalKey (isSignal ps k) (getD seconds k 0) (getD firsts k 0) componentLimit
-
-  pub keys-low : All (λ x. x / span < span) keys
-  unfolding key
-  keys-low = at-all (λ x. x / span < span) keys (λ i h.
-      let v = getD keys i 0 in
-      let n = portCount ps in
-      let (k, l, e) = member-at v (tabulate key n) (sym (member-rearranged (t .sorted .rearranged) v) ∙ at-member v keys i h refl) in
-      let there : k < n = omega (arith, tab-length key n) in
-      let is : key k ≡ v = sym (tab-at key n k there) ∙ e in
-      let low = key-low (isSignal ps k) (getD firsts k 0) (getD seconds k 0) (first k there) (second k there) in
-      rw is at low)
 
   turned-keys : tabulate back (portCount ps) ≡ map turned (tabulate key (portCount ps))
   unfolding key back

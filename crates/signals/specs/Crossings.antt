@@ -8,11 +8,11 @@ use lib.Dec.{eqb}
 use lib.ListN.{length, getD, take}
 use lib.IntN.{ℤ}
 use Rattle.tables.specs.Order.{member}
-use Rattle.tables.specs.Pairs.{span, pair}
+use Rattle.tables.specs.Pairs.{span, pair, KeysBelow}
 use Rattle.lists.specs.Limits.{componentLimit}
 use Rattle.lists.specs.First.{some}
 use Rattle.lists.specs.Ends.{Settled}
-use Rattle.regions.specs.Carry.{Crossings, KeysBelow}
+use Rattle.regions.specs.Carry.{Crossings}
 use Rattle.signals.specs.Signals.{isSignal, signals}
 
 -- the pair of the regions at the ends of connection k, or of 0 and 0 for a support

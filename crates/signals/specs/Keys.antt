@@ -40,6 +40,10 @@ pub record Sortable (m : ℕ) (firsts seconds : List ℕ) (nowhere : ℕ) : Type
   pub second : (k : ℕ) → k < m → getD seconds k 0 < span
   pub nowhere-small : nowhere < 2 ^ 32
 
--- the sorted keys of the port connections
+-- the keys of the port connections, in their order
+abbrev pub signalKeys : List ℤ → List ℕ → List ℕ → ℕ → List ℕ
+signalKeys ps firsts seconds nowhere = tabulate (λ k. signalKey (isSignal ps k) (getD firsts k 0) (getD seconds k 0) nowhere) (portCount ps)
+
+-- the same sorted
 pub record KeysOf (ps : List ℤ) (firsts seconds : List ℕ) (nowhere : ℕ) (keys : List ℕ) : Type 0 where
-  pub sorted : Sorted (tabulate (λ k. signalKey (isSignal ps k) (getD firsts k 0) (getD seconds k 0) nowhere) (portCount ps)) keys
+  pub sorted : Sorted (signalKeys ps firsts seconds nowhere) keys

@@ -1,5 +1,6 @@
 // The pairs of regions that signal connections lead from and to, and marks carried along them.
 use super::flags::spread;
+use lists::COMPONENTS;
 use lists::CONNECTIONS;
 use lists::PORT;
 use lists::ids::SUPPORT;
@@ -10,13 +11,13 @@ ghost use mathlib.Core.Bool.{true, cond};
 ghost use Prim.Native.Nat.{_≤_, _<_};
 ghost use lib.ListN.{length, getD, take};
 ghost use Rattle.tables.specs.Order.{one};
-ghost use Rattle.tables.specs.Pairs.{pair};
+ghost use Rattle.tables.specs.Pairs.{pair, KeysBelow};
 ghost use Rattle.lists.specs.Limits.{componentLimit};
 ghost use Rattle.lists.specs.Records.{portCount};
 ghost use Rattle.lists.specs.Within.{PortConnections};
 ghost use Rattle.signals.specs.Signals.{isSignal};
 ghost use Rattle.regions.specs.Graph.{marked};
-ghost use Rattle.regions.specs.Carry.{carry, KeysBelow};
+ghost use Rattle.regions.specs.Carry.{carry};
 ghost use Rattle.signals.specs.Flags.{Flags, Indices};
 ghost use Rattle.signals.specs.Seen.{SignalEnds};
 ghost use Rattle.signals.specs.Crossings.{regionKey, CrossingKeys, FoundCrossings};
@@ -82,8 +83,9 @@ pub fn find_crossings(
     ensures { λ r. ⌜ FoundCrossings (now (ports .entry)) (now (sources .entry)) (now (sinks .entry)) (now (labels .entry)) r (now (keys .exit)) ⌝ }
 {
     let mut listed = [0u64; CONNECTIONS];
+    let mut ends = [0usize; COMPONENTS];
     let count = list_crossings(ports, sources, sinks, labels, &mut listed);
-    tables::lay_by_first(&listed[..count], keys);
+    tables::lay_by_first(&listed[..count], keys, &mut ends);
     count
 }
 

@@ -9,13 +9,13 @@ ghost use mathlib.Core.List.{List, map};
 ghost use mathlib.Core.Bool.{cond};
 ghost use Prim.Native.Nat.{ℕ, _+_, _*_, _/_, _^_, _≤_, _<_};
 ghost use lib.ListN.{length, getD, take};
-ghost use Rattle.tables.specs.Pairs.{pair, span};
-ghost use Rattle.tables.specs.Order.{All, Ascending, Sorted};
+ghost use Rattle.tables.specs.Pairs.{pair, span, KeysBelow};
+ghost use Rattle.tables.specs.Order.{Ascending, Sorted};
 ghost use Rattle.lists.specs.Records.{portCount};
 ghost use Rattle.lists.specs.Limits.{componentLimit};
 ghost use Rattle.lists.specs.Within.{PortConnections};
 ghost use Rattle.signals.specs.Signals.{isSignal};
-ghost use Rattle.signals.specs.Keys.{Slots, signalKey, turned, KeysOf, Sortable};
+ghost use Rattle.signals.specs.Keys.{Slots, signalKey, signalKeys, turned, KeysOf, Sortable};
 
 // A port of a member: ports are 0 to 255.
 pub const PORTS: usize = 1 << 8;
@@ -48,7 +48,26 @@ fn signal_key(ports: &[i64], k: usize, first: usize, second: usize, nowhere: usi
     first as u64 * SPAN + second as u64
 }
 
-// The keys of the signal connections, sorted: pairs of firsts[k] and seconds[k]. The spare is for the sort.
+// Lists the keys of the port connections: pairs of firsts[k] and seconds[k].
+pub(crate) fn list_keys(
+    ports: &[i64],
+    firsts: &[usize],
+    seconds: &[usize],
+    nowhere: usize,
+    keys: &mut [u64],
+)
+    requires { ⌜ PortConnections (now ports) ⌝ }
+    requires { ⌜ Sortable (portCount (now ports)) (now firsts) (now seconds) nowhere × (length (now keys) ≡ portCount (now ports)) ⌝ }
+    ensures { λ _. ⌜ now (keys .exit) ≡ signalKeys (now (ports .entry)) (now (firsts .entry)) (now (seconds .entry)) nowhere ⌝ }
+{
+    let mut k: usize = 0;
+    while k < keys.len() {
+        keys[k] = signal_key(ports, k, firsts[k], seconds[k], nowhere);
+        k += 1;
+    }
+}
+
+// The same sorted. The spare is for the sort.
 pub fn signal_keys(
     ports: &[i64],
     firsts: &[usize],
@@ -62,11 +81,7 @@ pub fn signal_keys(
     requires { ⌜ (length (now keys) ≡ portCount (now ports)) × (portCount (now ports) ≤ length (now spare)) ⌝ }
     ensures { λ _. ⌜ KeysOf (now (ports .entry)) (now (firsts .entry)) (now (seconds .entry)) nowhere (now (keys .exit)) ⌝ }
 {
-    let mut k: usize = 0;
-    while k < keys.len() {
-        keys[k] = signal_key(ports, k, firsts[k], seconds[k], nowhere);
-        k += 1;
-    }
+    list_keys(ports, firsts, seconds, nowhere, keys);
     tables::sort(keys, spare);
 }
 
@@ -83,13 +98,14 @@ fn turn(keys: &[u64], out: &mut [u64])
     }
 }
 
-// The pairs of a sorted table turned round, sorted by one pass: their second numbers rise. The spare is for them before it.
-pub fn turned_keys(keys: &[u64], out: &mut [u64], spare: &mut [u64])
+// The pairs of a sorted table turned round, sorted by one pass: their second numbers rise. The spare is for them before it. Leaves in the
+// counts, of which there is one for each number of a pair, where the keys of each first number end.
+pub fn turned_keys(keys: &[u64], out: &mut [u64], spare: &mut [u64], counts: &mut [usize])
     requires { ⌜ (length (now out) ≡ length (now keys)) × (length (now keys) ≤ length (now spare)) ⌝ }
-    requires { ⌜ Ascending (now keys) × All (λ x. x / span < span) (now keys) ⌝ }
+    requires { ⌜ Ascending (now keys) × ((length (now counts) ≤ span) × KeysBelow (length (now counts)) (now keys)) ⌝ }
     ensures { λ _. ⌜ Sorted (map turned (now (keys .entry))) (now (out .exit)) ⌝ }
 {
     let n = keys.len();
     turn(keys, spare);
-    tables::lay_by_first(&spare[..n], out);
+    tables::lay_by_first(&spare[..n], out, counts);
 }

@@ -1,5 +1,6 @@
 // The stages of the analysis over local arrays: tables of edges, regions.
 use super::edges::PORTS;
+use super::edges::list_keys;
 use super::edges::settle_slots;
 use super::edges::signal_keys;
 use super::edges::turned_keys;
@@ -33,21 +34,25 @@ ghost use Rattle.signals.specs.Flags.{Flags, Numbers, Indices};
 ghost use Rattle.signals.specs.Seen.{SignalEnds};
 ghost use Rattle.signals.specs.Stages.{Tables, FedTable, selfAt, cyclicAt};
 
-// Sorts the signal edges into a table, forward, given their settled ends; backward are the same edges turned round.
+// Sorts the signal edges into a table, forward, given their settled ends; backward are the same edges turned round. Leaves hints of where
+// the rows of each end.
 pub fn build_tables(
     ports: &[i64],
     sources: &[usize],
     sinks: &[usize],
     forward: &mut [u64],
     backward: &mut [u64],
+    forward_ends: &mut [usize; HINTED],
+    backward_ends: &mut [usize; HINTED],
 )
     requires { ⌜ PortConnections (now ports) × ((cs : List ℤ) × ((componentCount cs ≤ componentLimit) × SettledEnds cs (now ports) (now sources) (now sinks))) ⌝ }
     requires { ⌜ (length (now forward) ≡ portCount (now ports)) × (length (now backward) ≡ portCount (now ports)) ⌝ }
     ensures { λ _. ⌜ ((cs : List ℤ) → SettledEnds cs (now (ports .entry)) (now (sources .entry)) (now (sinks .entry)) → Tables cs (now (ports .entry)) (now (sources .entry)) (now (sinks .entry)) (now (forward .exit)) (now (backward .exit))) ⌝ }
 {
     let mut spare = [0u64; CONNECTIONS];
-    signal_keys(ports, sources, sinks, COMPONENTS, forward, &mut spare);
-    turned_keys(forward, backward, &mut spare);
+    list_keys(ports, sources, sinks, COMPONENTS, forward);
+    tables::sort_edges(forward, &mut spare, forward_ends);
+    turned_keys(forward, backward, &mut spare, backward_ends);
 }
 
 // Sorts the signal edges by the port that they feed, given their settled ends.

@@ -15,7 +15,8 @@ use Rattle.lists.specs.Limits.{componentLimit}
 use Rattle.lists.specs.Records.{componentCount}
 use Rattle.lists.specs.First.{some}
 use Rattle.regions.specs.Graph.{marked}
-use Rattle.regions.specs.Carry.{carry, Crossings, KeysBelow}
+use Rattle.tables.specs.Pairs.{KeysBelow}
+use Rattle.regions.specs.Carry.{carry, Crossings}
 use Rattle.signals.specs.Signals.{signals}
 use Rattle.signals.specs.Regions.{labels, hasDrive}
 use Rattle.signals.specs.Flags.{Flags, Indices}

@@ -11,6 +11,7 @@ use Rattle.tables.specs.Order.{All, Rearranged}
 use Rattle.tables.specs.Laws.{at-all}
 use Rattle.tables.specs.Pairs.{span}
 use Rattle.tables.specs.Radix.{LaidByFirst}
+use Rattle.lists.specs.Limits.{componentLimit}
 use Rattle.signals.proofs.Crossed.{laid-below, laid-crossings}
 use Rattle.signals.proofs.crossings.find_crossings.Statement.{statement}
 use Rattle.signals.proofs.crossings.find_crossings.Tie as tie
@@ -27,17 +28,17 @@ room c = omega (arith, c .list-crossings .ensures .0, c .list-crossings .kept .1
 lent : (c : tie.After-list-crossings) → length (listed c) ≡ c .list-crossings .result
 lent c = length-take-le _ _ (room c)
 
-low : (c : tie.After-list-crossings) → All (λ x. x / span < span) (listed c)
+low : (c : tie.After-list-crossings) → All (λ x. x / span < componentLimit) (listed c)
 low c =
     let s = start c in
     let still : Rearranged (listed c) (listed c) = record { same = λ v. refl } in
     let below = laid-below (s .pre .1 .0 .0) (s .pre .1 .0 .1) (s .pre .1 .1) (c .list-crossings .ensures .1) still in
-    at-all (λ x. x / span < span) (listed c) (λ i h. omega (arith, below .first i h))
+    at-all (λ x. x / span < componentLimit) (listed c) (below .first)
 
 returns : tie.Need-returns
 returns c =
-    let out = c .before .before .lay-by-first in
-    let l = c .before .before .before .before .before .before in
+    let out = c .before .before .before .lay-by-first in
+    let l = c .before .before .before .before .before .before .before .before in
     let s = start l in
     let r = l .list-crossings .result in
     let laid = subst (λ (n : ℕ). LaidByFirst (listed l) (take n (out .last .1 .0))) (lent l) (out .ensures) in
@@ -55,8 +56,9 @@ find-crossings-spec =
     (λ c κs. search needs)
     (λ c. search needs)
     (λ c. sym (lent (c .before .before)))
+    (λ c. search needs)
     (λ c κs.
-    let l = c .before .before .before in
-    (omega (arith, lent l, l .list-crossings .ensures .0, start l .pre .0 .1), low l))
+    let l = c .before .before .before .before in
+    (omega (arith, lent l, l .list-crossings .ensures .0, start l .pre .0 .1), (omega arith, low l)))
     (λ c. search needs)
     returns)
