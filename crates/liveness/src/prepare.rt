@@ -4,8 +4,6 @@ use signals::stages::build_tables;
 use signals::stages::find_regions;
 use signals::stages::place_labels;
 use signals::stages::place_members;
-use tables::SECOND_BITS;
-use tables::rows::hint_rows;
 ghost use Rattle.lists.specs.Ids.{IdTable};
 ghost use Rattle.lists.specs.Ends.{SettledEnds};
 ghost use Rattle.liveness.specs.Scene.{Scene, PreparedRoom, Prepares};
@@ -32,9 +30,15 @@ pub fn prepare(
     ensures { λ r. ⌜ Prepares (now (components .entry)) (now (ports .entry)) (now (sources .entry)) (now (sinks .entry)) (now (forward .exit)) (now (backward .exit)) (now (labels .exit)) (now (members .exit)) (now («region_at» .exit)) (now (stack .exit)) r ⌝ }
 {
     regions::clear(stack);
-    build_tables(ports, sources, sinks, forward, backward);
-    hint_rows(forward, SECOND_BITS, forward_rows);
-    hint_rows(backward, SECOND_BITS, backward_rows);
+    build_tables(
+        ports,
+        sources,
+        sinks,
+        forward,
+        backward,
+        forward_rows,
+        backward_rows,
+    );
     let count = find_regions(
         forward,
         backward,

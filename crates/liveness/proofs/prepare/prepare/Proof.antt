@@ -5,7 +5,7 @@ use mathlib.Core.Path.{_≡_, _∙_}
 use Prim.Native.Nat.{ℕ, _≤_}
 use mathlib.Core.List.{List}
 use native.Mathlib.Omega.{arith}
-use lib.ListN.{length}
+use lib.ListN.{length, getD}
 use lib.IntN.{ℤ}
 use Rattle.lists.specs.Limits.{componentLimit}
 use Rattle.lists.specs.Records.{componentCount}
@@ -13,7 +13,7 @@ use Rattle.lists.proofs.Table.{table-long}
 use Rattle.regions.specs.Keys.{edges}
 use Rattle.regions.proofs.Fill.{cleared-zeros}
 use Rattle.signals.specs.Signals.{signals}
-use Rattle.signals.specs.Flags.{Indices}
+use Rattle.signals.specs.Flags.{Indices, Numbers}
 use Rattle.signals.specs.Stages.{Tables}
 use Rattle.signals.proofs.Ends.{ends-within}
 use Rattle.signals.proofs.Graph.{edges-signals, edges-turned}
@@ -23,16 +23,30 @@ use Rattle.liveness.proofs.prepare.prepare.Tie as tie
 
 build-tables-requires : tie.Need-build-tables-requires
 build-tables-requires c κs =
-    let s = c .before .before .before .before .before .before .before .before .before .before .before .before .before .before .before in
+    let s = c .before .before .before .before .before .before .before .before .before .before .before .before .before .before .before .before .before in
     let room = s .pre .1 in (
       (s .pre .0 .0 .connections, (s .args .components .now, (s .pre .0 .0 .components .few, s .pre .0 .1 .1))),
       (room .forward-room, room .backward-room),
     )
 
--- ---- after the tables are built
+-- ---- the steps, one before the other
+
+abbrev cleared : tie.After-build-tables → tie.After-clear
+cleared c = c .before .before .before .before .before .before .before
 
 abbrev start : tie.After-build-tables → tie.Start
-start c = c .before .before .before .before .before .before .before .before .before .before .before .before .before .before .before .before
+start c = cleared c .before .before .before .before .before .before .before .before .before .before .before
+
+abbrev built : tie.After-find-regions → tie.After-build-tables
+built c = c .before .before .before .before .before .before .before .before .before .before .before
+
+abbrev found : tie.After-place-members → tie.After-find-regions
+found c = c .before .before .before .before .before .before
+
+abbrev placed : tie.After-place-labels → tie.After-place-members
+placed c = c .before .before .before .before .before .before
+
+-- ---- after the tables are built
 
 abbrev cs : tie.After-build-tables → List ℤ
 cs c = start c .args .components .now
@@ -57,9 +71,9 @@ graph c =
 
 find-regions-requires : tie.Need-find-regions-requires
 find-regions-requires c κs =
-    let b = c .before .before .before .before .before .before .before .before .before .before .before .before .before .before .before .before in
+    let b = c .before .before .before .before .before .before .before .before .before .before in
     let room = start b .pre .1 in
-    let cleared = c .before .before .before .before .before .before .before .before .before .before .before .before .before .before .before .before .before .before .before .before .before in
+    let clear = cleared b .clear in
     let t = tables b in (
       (
         t .forward-keys .sorted .ascending,
@@ -68,35 +82,48 @@ find-regions-requires c κs =
           rw (room .labels-room) (edges-turned (few b) (t .source-members) (t .sink-members) (ends-within (cs b) (ps b) (start b .pre .0 .0 .ends)) (t .forward-keys) (t .backward-keys)),
         ),
       ),
-      (omega (arith, room .labels-room, few b), (omega (arith, room .labels-room, room .stack-room, cleared .clear .kept .0), rw (cleared .clear .ensures) (cleared-zeros (length (start b .args .stack .now))))),
+      (
+        omega (arith, room .labels-room, few b),
+        (omega (arith, room .labels-room, room .stack-room, clear .kept .0), rw (clear .ensures) (cleared-zeros (length (start b .args .stack .now)))),
+      ),
     )
 
 place-members-requires : tie.Need-place-members-requires
-place-members-requires c κs = let s = c .before .before .before .before .before .before .before .before .before .before .before .before .before .before .before .before .before .before .before .before .before .before .before .before .before .before .before .before .before .before .before .before .before .before .before .before .before .before in ((s .args .components .now, s .pre .0 .1 .0), omega (arith, table-long (s .pre .0 .1 .0), s .pre .1 .members-room))
+place-members-requires c κs =
+    let s = start (built (c .before .before .before .before .before)) in
+    ((s .args .components .now, s .pre .0 .1 .0), omega (arith, table-long (s .pre .0 .1 .0), s .pre .1 .members-room))
 
 -- the members of all components are nodes
 indices-at : {n m k : ℕ} {index : List ℕ} → n ≡ k → m ≡ k → Indices k k index → Indices n m index
 indices-at e f i = record { long = omega (arith, e, i .long); below = λ p h. omega (arith, f, i .below p (omega (arith, e))) }
 
+-- there is a label for each component
+labels-long : (c : tie.After-find-regions) → length (c .find-regions .last .1 .1 .0) ≡ componentCount (cs (built c))
+labels-long c = c .find-regions .kept .1 .1 .0 ∙ start (built c) .pre .1 .labels-room
+
 place-labels-requires : tie.Need-place-labels-requires
 place-labels-requires c κs =
-    let placed = c .before .before .before .before .before in
-    let found = c .before .before .before .before .before .before .before .before .before .before .before in
-    let b = c .before .before .before .before .before .before .before .before .before .before .before .before .before .before .before .before .before .before .before .before .before .before .before .before .before .before .before .before in
-    let room = start b .pre .1 in
-    let long = found .find-regions .kept .1 .1 .0 ∙ room .labels-room in
-    (indices-at long long (members-below (cs b) (placed .place-members .ensures (cs b) (start b .pre .0 .1 .0) (start b .pre .0 .0 .distinct))), omega (arith, long, room .regions-room))
+    let p = c .before .before .before .before .before in
+    let b = built (found p) in
+    let long = labels-long (found p) in (
+      indices-at long long (members-below (cs b) (p .place-members .ensures (cs b) (start b .pre .0 .1 .0) (start b .pre .0 .0 .distinct))),
+      omega (arith, long, start b .pre .1 .regions-room),
+    )
+
+-- the labels of the members, of which there are as many, by another name
+numbers-at : (members : List ℕ) {n m : ℕ} {labels labels′ out : List ℕ} → n ≡ m → labels ≡ labels′
+    → Numbers n (λ p. getD labels (getD members p 0) 0) out → Numbers m (λ p. getD labels′ (getD members p 0) 0) out
+numbers-at members e f o = rw (e, f) at o
 
 returns : tie.Need-returns
 returns c =
     let labelled = c .before .before in
-    let placed = c .before .before .before .before .before .before .before .before in
-    let found = c .before .before .before .before .before .before .before .before .before .before .before .before .before .before in
-    let b = c .before .before .before .before .before .before .before .before .before .before .before .before .before .before .before .before .before .before .before .before .before .before .before .before .before .before .before .before .before .before .before in
+    let p = placed labelled in
+    let f = found p in
+    let b = built f in
     let room = start b .pre .1 in
-    let long = found .find-regions .kept .1 .1 .0 ∙ room .labels-room in
-    let regions = regions-are (cs b) (ps b) (forward b) (graph b) (rw (room .labels-room) at (found .find-regions .ensures)) in
-    let numbers = placed .place-members .ensures (cs b) (start b .pre .0 .1 .0) (start b .pre .0 .0 .distinct) in
+    let regions = regions-are (cs b) (ps b) (forward b) (graph b) (rw (room .labels-room) at (f .find-regions .ensures)) in
+    let numbers = p .place-members .ensures (cs b) (start b .pre .0 .1 .0) (start b .pre .0 .0 .distinct) in
     record {
       prepared = record {
         tables = tables b;
@@ -104,11 +131,15 @@ returns c =
         sinks-long = start b .pre .0 .1 .1 .sinks-long;
         labels-are = regions .0;
         members-are = numbers;
-        regions-are = labels-placed (cs b) numbers (ps b) (rw (long, regions .0) at (labelled .place-labels .ensures));
+        regions-are = labels-placed (cs b) numbers (ps b) (numbers-at (p .place-members .last .1 .0) (labels-long f) (regions .0) (labelled .place-labels .ensures));
       };
       count = regions .1;
-      stack-zeros = found .find-regions .ensures .stack-zeros;
+      stack-zeros = f .find-regions .ensures .stack-zeros;
     }
+
+stack-long : tie.Need-same-length-6
+stack-long c =
+    let f = found (placed (c .before .before)) in f .find-regions .kept .1 .1 .1 .0 ∙ cleared (built f) .clear .kept .0
 
 pub prepare-spec : {M : Type 1} → statement M
 prepare-spec =
@@ -116,8 +147,6 @@ prepare-spec =
     (tie.spec
     (λ c κs. search needs)
     build-tables-requires
-    (λ c κs. search needs)
-    (λ c κs. search needs)
     find-regions-requires
     place-members-requires
     place-labels-requires
@@ -126,5 +155,5 @@ prepare-spec =
     (λ c. search needs)
     (λ c. search needs)
     (λ c. search needs)
-    (λ c. c .before .before .before .before .before .before .before .before .before .before .before .before .before .before .find-regions .kept .1 .1 .1 .0 ∙ c .before .before .before .before .before .before .before .before .before .before .before .before .before .before .before .before .before .before .before .before .before .before .before .before .before .before .before .before .before .before .before .before .before .before .before .before .clear .kept .0)
+    stack-long
     returns)
