@@ -8,10 +8,9 @@ use mathlib.Core.List.{List}
 use Prim.Native.Nat.{ℕ, _+_, _/_, _%_, _≤_, _<_, _-_}
 use native.Mathlib.Omega.{arith}
 use lib.ListN.{length, getD, set, drop, length-set}
-use Rattle.tables.specs.Pairs.{span}
+use Rattle.tables.specs.Pairs.{span, KeysBelow}
 use Rattle.regions.specs.Graph.{marked}
 use Rattle.regions.specs.Carry as Carry
-use Rattle.regions.specs.Carry.{KeysBelow}
 use Rattle.regions.proofs.Carried.{carry-turn, carry-all}
 use Rattle.regions.proofs.carry.carry_both.Statement.{statement}
 use Rattle.regions.proofs.carry.carry_both.Tie as tie
