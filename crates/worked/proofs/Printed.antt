@@ -2,7 +2,7 @@
 -- Assumes nothing.
 use Prim.Native.Nat.{ℕ}
 use mathlib.Core.Path.{_≡_, refl, ap, ap₂, _∙_}
-use mathlib.Core.List.{List, []}
+use mathlib.Core.List.{List, [], _∷_}
 use lib.ListN.{length}
 use lib.IntN.{ℤ}
 use Rattle.sets.specs.Members.{countBelow}
@@ -21,10 +21,10 @@ use Rattle.sheet.specs.Entry.{componentsOf, connectionsOf, frontiersOf}
 use Rattle.sheet.specs.Writing.{fieldLines}
 use Rattle.circuit.specs.Forest as forest
 use Rattle.circuit.specs.Groups.{rootsBelow, groupsOf}
-use Rattle.circuit.specs.Topology.{joins}
+use Rattle.circuit.specs.Topology.{netKinds, fragmentKinds, joins, joinsOf, netsOf, fragmentsOf}
 use Rattle.faces.specs.Ports.{opposite, faceOr, neither, repeaterPorts, portsFor}
 use Rattle.faces.specs.Select.{serves, selectPort, transferOf}
-use Rattle.faces.specs.Step.{shiftBetween, facingBetween}
+use Rattle.faces.specs.Step.{facingBetween}
 use Rattle.scene.specs.Kept.{portsBetween, rowsBelow}
 use Rattle.regions.specs.Graph as graph
 use Rattle.regions.specs.Kosaraju as walk
@@ -40,19 +40,29 @@ use Rattle.report.specs.Entry.{fits, answerBy, reportChecked, Reported}
 use Rattle.report.specs.declared.Printed.{Printed}
 use Rattle.report.specs.declared.Printed.the-variants.{Written}
 use Rattle.worked.specs.Example.{sheetText, leverAndRepeater, fromLever, andSupport, reportText, programParse, Example}
+use Rattle.worked.proofs.Forests.{single-places}
+use Rattle.worked.proofs.Dropped.{dropped-uncounted}
 
 example-reads : programParse sheetText ≡ Lists leverAndRepeater fromLever []
 unfolding parse readList readFields readLine readNumber readMagnitude readDigits readEnd
 example-reads = refl
 
+-- the forests apart, since a report reads its groups' numbers at each component
+example-nets : netsOf leverAndRepeater fromLever ≡ 0 ∷ 1 ∷ []
+unfolding firstFrom placeBelow forest.range forest.redirect forest.link forest.uniteRoots forest.unite forest.uniteAll rootsBelow groupsOf joins graph.range
+example-nets = ap (λ (f : forest.Forest). groupsOf (forest.uniteAll f (joinsOf leverAndRepeater fromLever netKinds)) 2) single-places
+
+example-fragments : fragmentsOf leverAndRepeater fromLever ≡ 0 ∷ 0 ∷ []
+unfolding firstFrom placeBelow forest.range forest.redirect forest.link forest.uniteRoots forest.unite forest.uniteAll rootsBelow groupsOf joins graph.range
+example-fragments = ap (λ (f : forest.Forest). groupsOf (forest.uniteAll f (joinsOf leverAndRepeater fromLever fragmentKinds)) 2) single-places
+
 example-prints : reportOf leverAndRepeater fromLever [] ≡ reportText
-unfolding countBelow firstFrom tabulate placeBelow smallerIds digitsThen fieldLines forest.range forest.singletons forest.redirect forest.link forest.uniteRoots forest.unite forest.uniteAll rootsBelow groupsOf joins opposite faceOr neither repeaterPorts portsFor serves selectPort transferOf facingBetween portsBetween rowsBelow graph.range graph.filter graph.each graph.next walk.visit walk.order walk.paint walk.label walk.labels walk.reached signals sourceKind firstAt onFrontier isCyclic hasDrive fedFromOutside neighbours isInferred membersWhere drive potential fedBy statusOf portRows verdictRows sourcesAt sourceRowsBelow isImmediate upstream isInferredFor allRows spaced memberId idsBelow portLines verdictLines reportOf
-example-prints = refl
+unfolding countBelow firstFrom tabulate placeBelow smallerIds digitsThen fieldLines opposite faceOr neither repeaterPorts portsFor serves selectPort transferOf facingBetween portsBetween rowsBelow graph.range graph.filter graph.each graph.next walk.visit walk.order walk.paint walk.label walk.labels walk.reached signals sourceKind firstAt onFrontier isCyclic hasDrive fedFromOutside neighbours isInferred membersWhere drive potential fedBy statusOf portRows verdictRows sourcesAt sourceRowsBelow isImmediate upstream isInferredFor allRows spaced memberId idsBelow portLines verdictLines reportOf
+example-prints = simp (example-nets, example-fragments)
 
 -- `connections=` counts those kept
 example-drops : reportOf leverAndRepeater andSupport [] ≡ reportText
-unfolding countBelow firstFrom tabulate placeBelow smallerIds digitsThen fieldLines forest.range forest.singletons forest.redirect forest.link forest.uniteRoots forest.unite forest.uniteAll rootsBelow groupsOf joins opposite faceOr neither repeaterPorts portsFor serves selectPort transferOf shiftBetween facingBetween portsBetween rowsBelow graph.range graph.filter graph.each graph.next walk.visit walk.order walk.paint walk.label walk.labels walk.reached signals sourceKind firstAt onFrontier isCyclic hasDrive fedFromOutside neighbours isInferred membersWhere drive potential fedBy statusOf portRows verdictRows sourcesAt sourceRowsBelow isImmediate upstream isInferredFor allRows spaced memberId idsBelow portLines verdictLines reportOf
-example-drops = refl
+example-drops = dropped-uncounted ∙ example-prints
 
 lists-accepted : sheetRefusal leverAndRepeater fromLever [] ≡ Accepted
 unfolding firstFrom allFrom recordInRange firstOutOfRange recordBefore firstNotAscending placeBelow firstRepeated notWhole groupingLists

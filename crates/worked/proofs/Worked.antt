@@ -1,7 +1,7 @@
 -- W1 to W12, as antt computes them: each plot, and then the single list.
 -- Assumes nothing.
 use Prim.Native.Nat.{ℕ}
-use mathlib.Core.Path.{_≡_, refl, ap₂}
+use mathlib.Core.Path.{_≡_, refl, ap, ap₂}
 use mathlib.Core.List.{List, [], _∷_}
 use lib.ListN.{getD}
 use Rattle.sets.specs.Members.{countBelow}
@@ -14,7 +14,7 @@ use Rattle.lines.specs.Decimal.{digitsThen}
 use Rattle.sheet.specs.Writing.{fieldLines}
 use Rattle.circuit.specs.Forest as forest
 use Rattle.circuit.specs.Groups.{rootsBelow, groupsOf}
-use Rattle.circuit.specs.Topology.{joins, netsOf, netCount}
+use Rattle.circuit.specs.Topology.{netKinds, joins, joinsOf, netsOf, netCount}
 use Rattle.faces.specs.Ports.{opposite, faceOr, neither, repeaterPorts, portsFor}
 use Rattle.faces.specs.Select.{serves, selectPort, transferOf}
 use Rattle.faces.specs.Step.{facingBetween}
@@ -28,6 +28,7 @@ use Rattle.signals.specs.Drive.{membersWhere, drive, potential}
 use Rattle.assessment.specs.Verdicts.{fedBy, statusOf, portRows, verdictRows, sourcesAt, sourceRowsBelow}
 use Rattle.report.specs.Report.{allRows, verdictLines, reportOf}
 use Rattle.worked.specs.Plots.{dust, Answers, groupingChecks, idsOf, three, expected, Worked, w1, w2, w3, w4, w5, w6, w7, w8, w9, w10, w11, w12}
+use Rattle.worked.proofs.Forests.{single-places}
 
 abbrev Is : Answers → ℕ → Type 0
 Is answers k = answers ≡ getD expected k []
@@ -38,12 +39,12 @@ w1-is = refl
 
 -- the forest of W2 has a place for each component that a scene may have: its numbers are computed once
 w2-numbers : netsOf three (dust 2 0) ≡ 1 ∷ 0 ∷ 1 ∷ []
-unfolding firstFrom placeBelow forest.range forest.singletons forest.redirect forest.link forest.uniteRoots forest.unite forest.uniteAll rootsBelow groupsOf joins
-w2-numbers = refl
+unfolding firstFrom placeBelow forest.range forest.redirect forest.link forest.uniteRoots forest.unite forest.uniteAll rootsBelow groupsOf joins graph.range
+w2-numbers = ap (λ (f : forest.Forest). groupsOf (forest.uniteAll f (joinsOf three (dust 2 0) netKinds)) 3) single-places
 
 w2-count : netCount three (dust 2 0) ≡ 2
-unfolding firstFrom placeBelow forest.range forest.singletons forest.redirect forest.link forest.uniteRoots forest.unite forest.uniteAll rootsBelow joins
-w2-count = refl
+unfolding firstFrom placeBelow forest.redirect forest.link forest.uniteRoots forest.unite forest.uniteAll rootsBelow joins graph.range
+w2-count = ap (λ (f : forest.Forest). rootsBelow (forest.uniteAll f (joinsOf three (dust 2 0) netKinds)) 3) single-places
 
 w2-is : Is w2 1
 unfolding firstFrom allFrom tabulate recordInRange firstOutOfRange recordBefore firstNotAscending placeBelow firstRepeated notWhole groupingLists graph.range graph.filter
