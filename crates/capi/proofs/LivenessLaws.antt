@@ -116,12 +116,12 @@ laid-there rows old new k l e = rw e (omega (arith, l, length-append rows (drop 
 laid-taken : (rows old new : List ℕ) (k : ℕ) → length rows ≡ k → new ≡ laid rows old → take k new ≡ rows
 laid-taken rows old new k l e = rw e (laid-front rows old k l)
 
--- the words of a set of sixteen words of 64 bits
-pub record SixteenWords (words : List ℕ) : Type 0 where
+-- as many words as a set has, of 64 bits each
+pub record WordsOfSet (words : List ℕ) : Type 0 where
   pub long : length words ≡ wordCount
   pub fit : (i : ℕ) → getD words i 0 < 2 ^ 64
 
-set-words : {n : ℕ} {P : ℕ → Bool} {words : List ℕ} → SixteenWords words → SetWhere n P words → words ≡ setWords n P
+set-words : {n : ℕ} {P : ℕ → Bool} {words : List ℕ} → WordsOfSet words → SetWhere n P words → words ≡ setWords n P
 set-words {n} {P} {words} w s = set-unique words n P (w .long) (w .fit) (s .member)
 
 module _ {cs ps fs : List ℤ} {regions regions′ sources sources′ inputs inputs′ stack stack′ : List ℕ} {r : Analysis}
@@ -144,7 +144,7 @@ module _ {cs ps fs : List ℤ} {regions regions′ sources sources′ inputs inp
   inputs-front : take (r .inputs * 3) inputs′ ≡ inputRows cs ps fs
   inputs-front = laid-taken (inputRows cs ps fs) inputs inputs′ (r .inputs * 3) (sym (a .input-count)) (a .inputs-left)
 
-  sets-are : SixteenWords (r .drive .words) → SixteenWords (r .potential .words) → SixteenWords (r .cyclic .words) → SixteenWords (r .«has_drive» .words)
+  sets-are : WordsOfSet (r .drive .words) → WordsOfSet (r .potential .words) → WordsOfSet (r .cyclic .words) → WordsOfSet (r .«has_drive» .words)
       → (r .drive .words ++ (r .potential .words ++ (r .cyclic .words ++ r .«has_drive» .words))) ≡ setsOf cs ps fs
   sets-are d p c h = rw (set-words d (a .drive-set), set-words p (a .potential-set), set-words c (a .cyclic-set), set-words h (a .has-drive-set))
 
@@ -156,7 +156,7 @@ module _ {cs ps fs : List ℤ} {regions regions′ sources sources′ inputs inp
       omega (arith, e, a .region-count, two, three)
 
   pub accepted-alive : {checks : Checked} {out₁ out₁′ out₂ out₂′ out₃ out₃′ out₄ out₄′ work work′ : List ℕ} {n : ℕ} → checks ≡ Accepted
-      → SixteenWords (r .drive .words) → SixteenWords (r .potential .words) → SixteenWords (r .cyclic .words) → SixteenWords (r .«has_drive» .words)
+      → WordsOfSet (r .drive .words) → WordsOfSet (r .potential .words) → WordsOfSet (r .cyclic .words) → WordsOfSet (r .«has_drive» .words)
       → Written (componentCount cs) r regions′ sources′ inputs′ out₁ out₁′ out₂ out₂′ out₃ out₃′ out₄ out₄′ work work′ n
       → LivenessLaid checks cs ps fs out₁ out₁′ out₂ out₂′ out₃ out₃′ out₄ out₄′ work work′ n
   accepted-alive {out₁ = out₁} {out₂ = out₂} {out₃ = out₃} {out₄ = out₄} {n = n} e d p c h w =

@@ -53,7 +53,7 @@ abbrev pub livenessNumber : Checked → ℕ → ℕ → ℕ → ℕ
 livenessNumber Accepted regions sources inputs = 65536 * regions + 4294967296 * sources + 281474976710656 * inputs
 livenessNumber (Refused refusal) regions sources inputs = packed (Refused refusal)
 
--- sixteen words each: the members that are driven and that may be, the regions that are cyclic and that hold a drive source
+-- `wordCount` words each: the members that are driven and that may be, the regions that are cyclic and that hold a drive source
 abbrev pub setsOf : List ℤ → List ℤ → List ℤ → List ℕ
 setsOf cs ps fs =
     setWords (componentCount cs) (marked (drive cs ps fs))

@@ -16,7 +16,7 @@ use Rattle.lists.specs.declared.Checked.{Checked}
 use Rattle.lists.specs.declared.Checked.the-variants.{Accepted}
 use Rattle.checks.proofs.Small.{liveness-small}
 use Rattle.liveness.specs.Entry.{AnalyzedBy}
-use Rattle.capi.proofs.LivenessLaws.{SixteenWords, found, few-regions, regions-there, sources-there, inputs-there, accepted-alive, refused-alive}
+use Rattle.capi.proofs.LivenessLaws.{WordsOfSet, found, few-regions, regions-there, sources-there, inputs-there, accepted-alive, refused-alive}
 use Rattle.capi.proofs.alive.by_rows.Statement.{statement}
 use Rattle.capi.proofs.alive.by_rows.Tie as tie
 
@@ -82,7 +82,7 @@ write-answer-requires c κs =
     }
 
 -- a set that a call gives back has its words
-words-of : (s : ComponentSet) (v : List Val) → shadow (the-field .row .own (the-field .into s) v) → SixteenWords (s .words)
+words-of : (s : ComponentSet) (v : List Val) → shadow (the-field .row .own (the-field .into s) v) → WordsOfSet (s .words)
 words-of s v ok =
     let word : (i : ℕ) → Fits w64 (getD (s .words) i 0) = λ i. search needs in
     record { long = search needs; fit = λ i. word i .fits }
