@@ -34,7 +34,7 @@ use Rattle.signals.specs.Flags.{Flags, Numbers}
 use Rattle.signals.proofs.Tabulated.{first-cong, tabulated-at}
 use Rattle.lists.proofs.Some.{some-at, some-found, and-true}
 use Rattle.signals.proofs.Neighbours.{or-left, or-right, either}
-use Rattle.assessment.proofs.Statuses.{same-truth}
+use Rattle.signals.proofs.Tested.{same-truth}
 use Rattle.signals.proofs.Within.{signals-within, scene-regions, label-under}
 
 -- what holds at some place by the one test or at some by the other

@@ -1,5 +1,4 @@
 -- Whether a port is fed, by the table of fed ports, and its status, by the flags of its slot.
---     same-truth                 two truth values that imply each other
 --     fed-within                 what the table of fed ports names are members
 --     fed-same                   `slotFed` by the connections
 --     slot-feeds, status-is      a port connection feeds a slot exactly where it feeds its port; so `statusAt` is `statusOf`
@@ -35,14 +34,10 @@ use Rattle.assessment.specs.Rows.{slotFed, FedWithin}
 use Rattle.assessment.specs.Places.{places, slotOf, nobody, slotCount, slotAt, SlotRoom, SlotFlags, LiveMarks, statusAt}
 use Rattle.signals.proofs.Tabulated.{first-cong}
 use Rattle.signals.proofs.Ends.{ends-below, sink-is}
+use Rattle.signals.proofs.Tested.{same-truth}
 use Rattle.signals.proofs.Graph.{parts-same, and-turn, feeds, noSlot, fed-at, hasPair, pairs-member, settled-small, source-at, sink-at}
 use Rattle.lists.proofs.Some.{some-found, some-at, and-true}
 use Rattle.assessment.proofs.Required.{and-none}
-
-pub same-truth : (a b : Bool) → (a ≡ true → b ≡ true) → (b ≡ true → a ≡ true) → a ≡ b
-same-truth true b f g = sym (f refl)
-same-truth false true f g = g refl
-same-truth false false f g = refl
 
 -- ---- the table of fed ports
 

@@ -5,7 +5,7 @@
 --     Neighbours                        the neighbours seen
 --     Staged                            the stages give `labels` and `isCyclic`
 --     Within                            the signals of a scene stay within its members
---     Sinks                             flags by the region of a connection's sink
+--     Tested                            tests of the edges of a table
 --     Crossed                           the pairs of regions that signals lead from and to
 pub mod Tabulated
 pub mod Ends
@@ -17,5 +17,5 @@ pub mod Stores
 pub mod Lent
 pub mod Staged
 pub mod Within
-pub mod Sinks
+pub mod Tested
 pub mod Crossed

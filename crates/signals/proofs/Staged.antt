@@ -1,15 +1,15 @@
 -- What the stages leave in their arrays is what the definitions say.
 --     regions-are, labels-long         the labels and the number of the regions
---     labels-below, regions-few        each label is below the number of nodes, and there are no more regions
---     source-ends, sink-ends           the settled ends of signal connections are nodes
---     cyclic-is, cyclic-flags          the flags of the cyclic regions
+--     regions-few                      there are no more regions than nodes
+--     sink-ends                        the settled sinks of signal connections are nodes
+--     cyclic-is                        the cyclic regions
 --     members-below, labels-placed     members and labels by list place
 --     marks-are                        the gathered marks
 -- Assumes nothing.
 use mathlib.Core.Path.{_≡_, sym, ap, _∙_}
 use mathlib.Core.Bool.{Bool, false, _&&_, _||_}
 use mathlib.Core.List.{List}
-use Prim.Native.Nat.{ℕ, _≤_, _<_}
+use Prim.Native.Nat.{ℕ, _≤_}
 use native.Mathlib.Omega.{arith}
 use lib.Dec.{eqb, leb}
 use lib.ListN.{length, getD}
@@ -27,31 +27,26 @@ use Rattle.regions.specs.Keys.{edges}
 use Rattle.regions.specs.Kosaraju as Kosaraju
 use Rattle.regions.specs.Search.{Regions}
 use Rattle.regions.proofs.Theorems.{keys-regions}
-use Rattle.signals.specs.Signals.{isSignal, sourceMember, sinkMember, signals}
+use Rattle.signals.specs.Signals.{signals}
 use Rattle.signals.specs.Regions.{labels, regionCount, regionAt, isCyclic}
 use Rattle.signals.specs.Drive.{membersWhere}
 use Rattle.signals.specs.Flags.{Flags, Numbers, Gathered, Indices}
-use Rattle.signals.specs.Seen.{SignalEnds}
-use Rattle.signals.specs.Stages.{selfAt, cyclicAt}
+use Rattle.signals.specs.Keys.{KeysOf}
+use Rattle.signals.specs.Seen.{SignalEnds, ofEdge}
+use Rattle.signals.specs.Stages.{cyclicAt}
 use Rattle.signals.proofs.Tabulated.{first-cong, tabulated-length, tabulated-at}
 use Rattle.signals.proofs.Ends.{EndsWithin}
-use Rattle.signals.proofs.Graph.{source-at, sink-at, and-assoc}
+use Rattle.signals.proofs.Graph.{sink-at}
+use Rattle.signals.proofs.Tested.{signal-tests}
 
--- ---- the ends of signal connections
+-- ---- the sinks of signal connections
 
 module _ {cs ps : List ℤ} {sources sinks : List ℕ} (few : componentCount cs ≤ componentLimit) (s : Settled cs ps 0 sources) (t : Settled cs ps 2 sinks)
     (ends : EndsWithin cs ps) where
-  pub source-ends : portCount ps ≤ length sources → SignalEnds (componentCount cs) ps sources
-  source-ends long = record { long = long; below = λ k h e. rw (source-at few s t k h) (ends k h e .0) }
-
   pub sink-ends : portCount ps ≤ length sinks → SignalEnds (componentCount cs) ps sinks
   sink-ends long = record { long = long; below = λ k h e. rw (sink-at few s t k h) (ends k h e .1) }
 
 -- ---- regions
-
--- a bound of the one graph is one of the other
-ap-less : {m : ℕ} {g h : Edges} (f : Edges → ℕ) → g ≡ h → f g < m → f h < m
-ap-less f e l = omega (arith, l, ap f e)
 
 module _ (cs ps : List ℤ) (keys : List ℕ) (graph : edges (componentCount cs) keys ≡ signals cs ps) where
   pub regions-are : {numbers : List ℕ} {count : ℕ} {stack : List ℕ} → Regions (componentCount cs) (edges (componentCount cs) keys) numbers count stack
@@ -65,34 +60,18 @@ module _ (cs ps : List ℤ) (keys : List ℕ) (graph : edges (componentCount cs)
       let n = componentCount cs in
       ap (λ (g : Edges). length (Kosaraju.regionOf n g)) (sym graph) ∙ keys-regions n keys .long
 
-  pub labels-below : (m : ℕ) → componentCount cs ≤ m → Indices (length (labels cs ps)) m (labels cs ps)
-  labels-below m h =
-      let n = componentCount cs in
-      let laws = keys-regions n keys in
-      record {
-        long = omega arith;
-        below = λ p l. ap-less (λ (g : Edges). at (Kosaraju.regionOf n g) p) graph
-            (omega (arith, laws .below p (omega (arith, labels-long)), laws .few));
-      }
-
   pub regions-few : regionCount cs ps ≤ componentCount cs
   regions-few = let n = componentCount cs in omega (arith, keys-regions n keys .few, ap (λ (g : Edges). Kosaraju.count n g) graph)
 
-  module _ {sources sinks : List ℕ} (few : componentCount cs ≤ componentLimit) (s : Settled cs ps 0 sources) (t : Settled cs ps 2 sinks) where
-    pub cyclic-is : (r : ℕ) → cyclicAt ps sources sinks (labels cs ps) r ≡ isCyclic cs ps r
+  module _ {sources sinks : List ℕ} (few : componentCount cs ≤ componentLimit) (s : Settled cs ps 0 sources) (t : Settled cs ps 2 sinks)
+      (ends : EndsWithin cs ps) (table : KeysOf ps sources sinks componentLimit keys) where
+    pub cyclic-is : (r : ℕ) → cyclicAt keys (labels cs ps) r ≡ isCyclic cs ps r
     unfolding isCyclic
     cyclic-is r =
         let l = labels cs ps in
-        ap (λ (n : ℕ). leb 2 (countBelow (λ m. eqb (at l m) r) n) || some (selfAt ps sources sinks l r) (portCount ps)) labels-long
-        ∙ ap (λ (b : Bool). leb 2 (countBelow (λ m. eqb (at l m) r) (componentCount cs)) || b)
-        (ap isFound (first-cong (selfAt ps sources sinks l r)
-        (λ k. isSignal ps k && (eqb (sourceMember cs ps k) (sinkMember cs ps k) && eqb (at l (sinkMember cs ps k)) r)) 0 (portCount ps) (λ k p q.
-        rw (source-at few s t k (omega arith), sink-at few s t k (omega arith))
-        (and-assoc (isSignal ps k) (eqb (sourceMember cs ps k) (sinkMember cs ps k)) (eqb (at l (sinkMember cs ps k)) r)))))
-
-    pub cyclic-flags : {numbers : List ℕ} {m : ℕ} {flags : List Bool} → numbers ≡ labels cs ps
-        → Flags m (cyclicAt ps sources sinks numbers) flags → Flags m (isCyclic cs ps) flags
-    cyclic-flags e f = record { long = f .long; at = λ r h. f .at r h ∙ ap (λ (l : List ℕ). cyclicAt ps sources sinks l r) e ∙ cyclic-is r }
+        let itself : ℕ → ℕ → Bool = λ a b. eqb a b && eqb (at l b) r in
+        ap (λ (n : ℕ). leb 2 (countBelow (λ m. eqb (at l m) r) n) || some (λ i. ofEdge n itself (getD keys i 0)) (length keys)) labels-long
+        ∙ ap (λ (b : Bool). leb 2 (countBelow (λ m. eqb (at l m) r) (componentCount cs)) || b) (signal-tests few s t ends table itself)
 
 -- ---- by list place
 

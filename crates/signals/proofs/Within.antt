@@ -1,5 +1,5 @@
 -- The signals of an accepted scene lead from member to member, so the laws of the regions hold of them.
---     signal-at, at-signal                an edge is a signal connection
+--     signal-at                           an edge is a signal connection
 --     signals-within                      the ends of a signal are members
 --     scene-regions                       the laws of its regions
 --     labels-count, label-under           a label for each member, below their number
@@ -14,7 +14,7 @@ use native.Mathlib.Omega.{arith}
 use lib.Dec.{eqb}
 use lib.ListN.{length}
 use lib.IntN.{ℤ}
-use borrow.Author.Tests.{eqb-true, eq-eqb}
+use borrow.Author.Tests.{eqb-true}
 use Rattle.lists.specs.Records.{componentCount, portCount}
 use Rattle.lists.specs.Ids.{firstEndMissing}
 use Rattle.lists.specs.declared.Found.the-variants.{Nothing}
@@ -27,7 +27,7 @@ use Rattle.signals.specs.Signals.{isSignal, sourceMember, sinkMember, si
 use Rattle.signals.specs.Regions.{labels, regionAt}
 use Rattle.signals.specs.Flags.{Numbers, Indices}
 use Rattle.signals.proofs.Ends.{ends-within}
-use Rattle.lists.proofs.Some.{some-at, some-found}
+use Rattle.lists.proofs.Some.{some-found}
 
 -- ---- an edge is a signal connection
 
@@ -40,12 +40,6 @@ module _ (cs ps : List ℤ) where
       let e = both (isSignal ps k) (eqb (sourceMember cs ps k) a && eqb (sinkMember cs ps k) b) t in
       let g = both (eqb (sourceMember cs ps k) a) (eqb (sinkMember cs ps k) b) (e .1) in
       (k, h, e .0, eqb-true (sourceMember cs ps k) a (g .0), eqb-true (sinkMember cs ps k) b (g .1))
-
-  pub at-signal : {a b : ℕ} (k : ℕ) → k < portCount ps → isSignal ps k ≡ true → sourceMember cs ps k ≡ a → sinkMember cs ps k ≡ b → signals cs ps a b ≡ true
-  unfolding signals
-  at-signal {a} {b} k h e p q =
-      some-at (λ j. isSignal ps j && (eqb (sourceMember cs ps j) a && eqb (sinkMember cs ps j) b)) (portCount ps) k h
-      (rw (e, eq-eqb (sourceMember cs ps k) a p, eq-eqb (sinkMember cs ps k) b q))
 
 module _ (cs ps : List ℤ) (ends : firstEndMissing cs ps ≡ Nothing) where
   pub signals-within : Within (componentCount cs) (signals cs ps)

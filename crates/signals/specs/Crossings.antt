@@ -1,34 +1,29 @@
--- The pairs of regions that signal connections lead from and to, as the program lists them.
+-- The pairs of regions that signal edges lead from and to, as the program lists them.
 -- Assumes nothing: these are definitions.
-use Prim.Native.Nat.{ℕ, _/_, _%_, _≤_}
+use Prim.Native.Nat.{ℕ, _≤_}
 use mathlib.Core.Path.{_≡_}
-use mathlib.Core.Bool.{Bool, cond, not, _&&_}
+use mathlib.Core.Bool.{Bool, not, _&&_}
 use mathlib.Core.List.{List}
 use lib.Dec.{eqb}
 use lib.ListN.{length, getD, take}
-use lib.IntN.{ℤ}
 use Rattle.tables.specs.Order.{member}
-use Rattle.tables.specs.Pairs.{span, pair, KeysBelow}
+use Rattle.tables.specs.Pairs.{pair, KeysBelow}
 use Rattle.lists.specs.Limits.{componentLimit}
 use Rattle.lists.specs.First.{some}
-use Rattle.lists.specs.Ends.{Settled}
 use Rattle.regions.specs.Carry.{Crossings}
-use Rattle.signals.specs.Signals.{isSignal, signals}
+use Rattle.regions.specs.Keys.{edges}
+use Rattle.signals.specs.Seen.{ofEdge}
 
--- the pair of the regions at the ends of connection k, or of 0 and 0 for a support
-abbrev pub regionKey : List ℤ → List ℕ → List ℕ → List ℕ → ℕ → ℕ
-regionKey ps sources sinks labels k = cond (isSignal ps k) (pair (getD labels (getD sources k 0) 0) (getD labels (getD sinks k 0) 0)) 0
+-- the regions of two nodes differ, and v is their pair
+abbrev pub crosses : List ℕ → ℕ → ℕ → ℕ → Bool
+crosses labels v a b = not (eqb (getD labels a 0) (getD labels b 0)) && eqb v (pair (getD labels a 0) (getD labels b 0))
 
--- the two numbers of a key differ
-abbrev pub isCrossing : ℕ → Bool
-isCrossing key = not (eqb (key / span) (key % span))
+-- the keys are the pairs of two regions that an edge leads from and to
+pub record CrossingKeys (forward labels keys : List ℕ) : Type 0 where
+  pub has : (v : ℕ) → member v keys ≡ some (λ i. ofEdge (length labels) (crosses labels v) (getD forward i 0)) (length forward)
 
--- the keys are those of the first m places whose two numbers differ
-pub record CrossingKeys (key : ℕ → ℕ) (m : ℕ) (keys : List ℕ) : Type 0 where
-  pub has : (v : ℕ) → member v keys ≡ some (λ k. isCrossing (key k) && eqb v (key k)) m
-
--- the first `count` keys are the pairs of two regions that a signal connection leads from and to, by rising first number
-pub record FoundCrossings (ps : List ℤ) (sources sinks labels : List ℕ) (count : ℕ) (keys : List ℕ) : Type 0 where
+-- the first `count` keys are the same, by rising first number
+pub record FoundCrossings (forward labels : List ℕ) (count : ℕ) (keys : List ℕ) : Type 0 where
   pub few : count ≤ length keys
   pub below : KeysBelow componentLimit (take count keys)
-  pub pairs : (cs : List ℤ) → Settled cs ps 0 sources → Settled cs ps 2 sinks → Crossings (signals cs ps) labels (take count keys)
+  pub pairs : Crossings (edges (length labels) forward) labels (take count keys)

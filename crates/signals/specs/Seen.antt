@@ -1,10 +1,10 @@
--- What the search for inferred inputs keeps: the neighbours seen so far, and tests by connection and by region.
+-- What the search for inferred inputs keeps: the neighbours seen so far; and tests of the edges of a table.
 -- Assumes nothing: these are definitions.
 use Prim.Native.Nat.{ℕ, _/_, _%_, _≤_, _<_}
 use mathlib.Core.Path.{_≡_}
 use mathlib.Core.Bool.{Bool, true, false, not, _&&_}
 use mathlib.Core.List.{List}
-use lib.Dec.{eqb}
+use lib.Dec.{eqb, ltb}
 use lib.ListN.{length, getD}
 use lib.IntN.{ℤ}
 use Rattle.tables.specs.Order.{Ascending}
@@ -27,14 +27,23 @@ pub record Rows (n : ℕ) (keys : List ℕ) : Type 0 where
   pub rising : Ascending keys
   pub within : (i : ℕ) → i < length keys → getD keys i 0 / span < n → getD keys i 0 % span < n
 
+-- the first r keys are the edges from nodes below n, and lead to such nodes
+pub record EdgeKeys (n : ℕ) (keys : List ℕ) (r : ℕ) : Type 0 where
+  pub few : r ≤ length keys
+  pub first : (i : ℕ) → i < r → getD keys i 0 / span < n
+  pub second : (i : ℕ) → i < r → getD keys i 0 % span < n
+  pub past : (i : ℕ) → r ≤ i → i < length keys → n ≤ getD keys i 0 / span
+
+-- a key is an edge from a node below n, and its two nodes pass the test
+abbrev pub ofEdge : ℕ → (ℕ → ℕ → Bool) → ℕ → Bool
+ofEdge n test key = ltb (key / span) n && test (key / span) (key % span)
+
 -- the ends of a signal connection are nodes below n
 pub record SignalEnds (n : ℕ) (ps : List ℤ) (members : List ℕ) : Type 0 where
   pub long : portCount ps ≤ length members
   pub below : (k : ℕ) → k < portCount ps → isSignal ps k ≡ true → getD members k 0 < n
 
--- connection k leads into region r, from another region's node that is not passive
-abbrev pub outsideAt : List ℤ → List ℕ → List ℕ → List ℕ → List Bool → ℕ → ℕ → Bool
-outsideAt ps sources sinks labels passive r k =
-    (isSignal ps k
-    && (not (eqb (getD labels (getD sources k 0) 0) (getD labels (getD sinks k 0) 0)) && not (marked passive (getD sources k 0))))
-    && eqb (getD labels (getD sinks k 0) 0) r
+-- an edge leads into region r, from another region's node that is not passive
+abbrev pub outsideKey : List ℕ → List Bool → ℕ → ℕ → Bool
+outsideKey labels passive r key =
+    ofEdge (length labels) (λ a b. (not (eqb (getD labels a 0) (getD labels b 0)) && not (marked passive a)) && eqb (getD labels b 0) r) key

@@ -8,14 +8,14 @@ use lib.ListN.{length, getD}
 use lib.IntN.{ℤ}
 use Rattle.sets.specs.Members.{countBelow}
 use Rattle.lists.specs.Limits.{componentLimit}
-use Rattle.lists.specs.Records.{component, portCount}
+use Rattle.lists.specs.Records.{component}
 use Rattle.lists.specs.First.{some}
 use Rattle.lists.specs.Ends.{Settled}
 use Rattle.regions.specs.Graph.{marked}
 use Rattle.regions.specs.Keys.{edges}
 use Rattle.signals.specs.Regions.{wire}
-use Rattle.signals.specs.Signals.{isSignal}
 use Rattle.signals.specs.Keys.{Slots, KeysOf, ports}
+use Rattle.signals.specs.Seen.{ofEdge}
 
 -- the members at the ends of each port connection, and the sorted tables of the signal edges, forward and backward
 pub record Tables (cs ps : List ℤ) (sources sinks forward backward : List ℕ) : Type 0 where
@@ -42,12 +42,11 @@ inferredBy cs members regionAt hasDrive fed forward backward labels p =
     (length labels))
     1)
 
--- port connection k leads from a node of region r to itself
-abbrev pub selfAt : List ℤ → List ℕ → List ℕ → List ℕ → ℕ → ℕ → Bool
-selfAt ps sources sinks labels r k =
-    (isSignal ps k && eqb (getD sources k 0) (getD sinks k 0)) && eqb (getD labels (getD sinks k 0) 0) r
+-- an edge leads from a node of region r to itself
+abbrev pub selfKey : List ℕ → ℕ → ℕ → Bool
+selfKey labels r key = ofEdge (length labels) (λ a b. eqb a b && eqb (getD labels b 0) r) key
 
--- region r has two nodes or more, or such a connection
-abbrev pub cyclicAt : List ℤ → List ℕ → List ℕ → List ℕ → ℕ → Bool
-cyclicAt ps sources sinks labels r =
-    leb 2 (countBelow (λ m. eqb (getD labels m 0) r) (length labels)) || some (selfAt ps sources sinks labels r) (portCount ps)
+-- region r has two nodes or more, or such an edge
+abbrev pub cyclicAt : List ℕ → List ℕ → ℕ → Bool
+cyclicAt forward labels r =
+    leb 2 (countBelow (λ m. eqb (getD labels m 0) r) (length labels)) || some (λ i. selfKey labels r (getD forward i 0)) (length forward)

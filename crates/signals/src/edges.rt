@@ -16,6 +16,7 @@ ghost use Rattle.lists.specs.Limits.{componentLimit};
 ghost use Rattle.lists.specs.Within.{PortConnections};
 ghost use Rattle.signals.specs.Signals.{isSignal};
 ghost use Rattle.signals.specs.Keys.{Slots, signalKey, signalKeys, turned, KeysOf, Sortable};
+ghost use Rattle.signals.specs.Seen.{Rows, EdgeKeys};
 
 // A port of a member: ports are 0 to 255.
 pub const PORTS: usize = 1 << 8;
@@ -108,4 +109,12 @@ pub fn turned_keys(keys: &[u64], out: &mut [u64], spare: &mut [u64], counts: &mu
     let n = keys.len();
     turn(keys, spare);
     tables::lay_by_first(&spare[..n], out, counts);
+}
+
+// How many keys of a sorted table are edges of the nodes below n. They come first: the keys of supports are past them.
+pub(crate) fn edge_count(keys: &[u64], n: usize) -> usize
+    requires { ⌜ Rows n (now keys) ⌝ }
+    ensures { λ r. ⌜ EdgeKeys n (now (keys .entry)) r ⌝ }
+{
+    tables::lower_bound(keys, n as u64 * SPAN)
 }

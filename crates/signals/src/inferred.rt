@@ -1,26 +1,22 @@
 // Inferred inputs: wires at the edge of a region that nothing drives or feeds.
+use super::edges::edge_count;
 use lists::COMPONENT;
-use lists::PORT;
-use lists::ids::SUPPORT;
 use lists::numbers::natural_at;
 use tables::SPAN;
 use tables::rows::lower_bound_in;
 ghost use mathlib.Core.Path.{_≡_};
-ghost use mathlib.Core.Bool.{Bool, true, false, not, _&&_, _||_};
+ghost use mathlib.Core.Bool.{Bool, _&&_, _||_};
 ghost use Prim.Native.Nat.{ℕ, _≤_, _<_};
 ghost use lib.Dec.{eqb, leb};
 ghost use lib.ListN.{length, getD};
 ghost use Rattle.sets.specs.Members.{countBelow};
-ghost use Rattle.lists.specs.Records.{component, componentCount, portCount};
-ghost use Rattle.lists.specs.Within.{Components, PortConnections};
+ghost use Rattle.lists.specs.Records.{component, componentCount};
+ghost use Rattle.lists.specs.Within.{Components};
 ghost use Rattle.lists.specs.First.{some};
-ghost use Rattle.regions.specs.Graph.{marked};
 ghost use Rattle.regions.specs.Keys.{edges};
 ghost use Rattle.signals.specs.Regions.{wire, isPassive};
 ghost use Rattle.signals.specs.Flags.{Flags, Indices};
-ghost use Rattle.signals.specs.Seen.{SeenOf, Rows, SignalEnds, outsideAt};
-ghost use Rattle.signals.specs.Signals.{isSignal};
-ghost use mathlib.Core.Bool.{cond};
+ghost use Rattle.signals.specs.Seen.{SeenOf, Rows, outsideKey};
 
 // The distinct neighbours seen so far.
 pub enum Seen {
@@ -98,69 +94,22 @@ pub fn passive_flags(components: &[i64], flags: &mut [bool])
     }
 }
 
-// The region of the sink of port connection k, 0 for a support.
-pub(crate) fn sink_region(ports: &[i64], k: usize, sink: usize, labels: &[usize]) -> usize
-    requires { ⌜ PortConnections (now ports) × (k < portCount (now ports)) ⌝ }
-    requires { ⌜ (isSignal (now ports) k ≡ true → sink < length (now labels)) ⌝ }
-    ensures { λ r. ⌜ r ≡ cond (isSignal (now (ports .entry)) k) (getD (now (labels .entry)) sink 0) 0 ⌝ }
-{
-    if natural_at(ports, k * PORT + 4) == SUPPORT {
-        return 0;
-    }
-    labels[sink]
-}
-
-// Whether port connection k leads from another region's node that is not passive.
-fn is_outside(
-    ports: &[i64],
-    k: usize,
-    source: usize,
-    sink: usize,
-    labels: &[usize],
-    passive: &[bool],
-) -> bool
-    requires { ⌜ PortConnections (now ports) × (k < portCount (now ports)) ⌝ }
-    requires { ⌜ (isSignal (now ports) k ≡ true → (source < length (now labels)) × (sink < length (now labels))) × (length (now labels) ≤ length (now passive)) ⌝ }
-    ensures { λ r. ⌜ r ≡ (isSignal (now (ports .entry)) k
-        && (not (eqb (getD (now (labels .entry)) source 0) (getD (now (labels .entry)) sink 0)) && not (marked (now (passive .entry)) source))) ⌝ }
-{
-    if natural_at(ports, k * PORT + 4) == SUPPORT {
-        return false;
-    }
-    !(labels[source] == labels[sink]) & !passive[source]
-}
-
-// Flags the regions with a connection from another region's node that is not passive. There is no branch on a test.
-pub fn flag_outside(
-    ports: &[i64],
-    sources: &[usize],
-    sinks: &[usize],
-    labels: &[usize],
-    passive: &[bool],
-    fed: &mut [bool],
-)
-    requires { ⌜ PortConnections (now ports) ⌝ }
-    requires { ⌜ SignalEnds (length (now labels)) (now ports) (now sources) × SignalEnds (length (now labels)) (now ports) (now sinks) ⌝ }
-    requires { ⌜ (length (now labels) ≤ length (now passive)) × (Indices (length (now labels)) (length (now fed)) (now labels) × (0 < length (now fed))) ⌝ }
-    ensures { λ _. ⌜ Flags (length (now (fed .entry))) (λ r. some (outsideAt (now (ports .entry)) (now (sources .entry)) (now (sinks .entry)) (now (labels .entry)) (now (passive .entry)) r) (portCount (now (ports .entry)))) (now (fed .exit)) ⌝ }
+// Flags the regions with an edge from another region's node that is not passive. There is no branch on a test.
+pub fn flag_outside(forward: &[u64], labels: &[usize], passive: &[bool], fed: &mut [bool])
+    requires { ⌜ Rows (length (now labels)) (now forward) ⌝ }
+    requires { ⌜ (length (now labels) ≤ length (now passive)) × Indices (length (now labels)) (length (now fed)) (now labels) ⌝ }
+    ensures { λ _. ⌜ Flags (length (now (fed .entry))) (λ r. some (λ i. outsideKey (now (labels .entry)) (now (passive .entry)) r (getD (now (forward .entry)) i 0)) (length (now (forward .entry)))) (now (fed .exit)) ⌝ }
 {
     regions::clear_flags(fed);
-    let count = ports.len() / PORT;
-    let mut k: usize = 0;
-    while k < count {
-        let r = sink_region(ports, k, sinks[k], labels);
-        fed[r] = fed[r] | is_outside(ports, k, sources[k], sinks[k], labels, passive);
-        k += 1;
+    let count = edge_count(forward, labels.len());
+    let mut i: usize = 0;
+    while i < count {
+        let key = forward[i];
+        let from = (key / SPAN) as usize;
+        let r = labels[(key % SPAN) as usize];
+        fed[r] = fed[r] | (!(labels[from] == r) & !passive[from]);
+        i += 1;
     }
-}
-
-// Whether port connection k leads from a node to itself.
-pub(crate) fn is_self(ports: &[i64], k: usize, source: usize, sink: usize) -> bool
-    requires { ⌜ PortConnections (now ports) × (k < portCount (now ports)) ⌝ }
-    ensures { λ r. ⌜ r ≡ (isSignal (now (ports .entry)) k && eqb source sink) ⌝ }
-{
-    let transfer = natural_at(ports, k * PORT + 4);
-    !(transfer == SUPPORT) & (source == sink)
 }
 
 // Whether component p, member m, is an inferred input, given whether its region has a drive source or is fed from outside.

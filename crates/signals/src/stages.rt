@@ -1,21 +1,20 @@
 // The stages of the analysis over local arrays: tables of edges, regions.
 use super::edges::PORTS;
+use super::edges::edge_count;
 use super::edges::list_keys;
 use super::edges::settle_slots;
 use super::edges::signal_keys;
 use super::edges::turned_keys;
 use super::flags::count_into;
-use super::inferred::is_self;
-use super::inferred::sink_region;
 use lists::COMPONENTS;
 use lists::CONNECTIONS;
-use lists::PORT;
 use lists::ids::place_at;
 use regions::HINTED;
+use tables::SPAN;
 ghost use mathlib.Core.Path.{_≡_};
 ghost use mathlib.Core.Bool.{_||_};
 ghost use mathlib.Core.List.{List};
-ghost use Prim.Native.Nat.{_*_, _≤_, _<_};
+ghost use Prim.Native.Nat.{_*_, _≤_};
 ghost use lib.Dec.{leb};
 ghost use lib.ListN.{length, getD};
 ghost use lib.IntN.{ℤ};
@@ -31,8 +30,8 @@ ghost use Rattle.regions.specs.Keys.{edges, Reversed};
 ghost use Rattle.regions.specs.Graph.{marked};
 ghost use Rattle.regions.specs.Search.{Zeros, Regions};
 ghost use Rattle.signals.specs.Flags.{Flags, Numbers, Indices};
-ghost use Rattle.signals.specs.Seen.{SignalEnds};
-ghost use Rattle.signals.specs.Stages.{Tables, FedTable, selfAt, cyclicAt};
+ghost use Rattle.signals.specs.Seen.{Rows};
+ghost use Rattle.signals.specs.Stages.{Tables, FedTable, selfKey, cyclicAt};
 
 // Sorts the signal edges into a table, forward, given their settled ends; backward are the same edges turned round. Leaves hints of where
 // the rows of each end.
@@ -136,45 +135,31 @@ fn flag_large(sizes: &[usize], flags: &mut [bool])
     }
 }
 
-// Flags the regions with a connection from a node to itself. There is no branch on a test.
-fn flag_selves(
-    ports: &[i64],
-    sources: &[usize],
-    sinks: &[usize],
-    labels: &[usize],
-    flags: &mut [bool],
-)
-    requires { ⌜ PortConnections (now ports) ⌝ }
-    requires { ⌜ SignalEnds (length (now labels)) (now ports) (now sinks) × (portCount (now ports) ≤ length (now sources)) ⌝ }
-    requires { ⌜ Indices (length (now labels)) (length (now flags)) (now labels) × (0 < length (now flags)) ⌝ }
-    ensures { λ _. ⌜ Flags (length (now (flags .entry))) (λ r. some (selfAt (now (ports .entry)) (now (sources .entry)) (now (sinks .entry)) (now (labels .entry)) r) (portCount (now (ports .entry)))) (now (flags .exit)) ⌝ }
+// Flags the regions with an edge from a node to itself. There is no branch on a test.
+fn flag_selves(forward: &[u64], labels: &[usize], flags: &mut [bool])
+    requires { ⌜ Rows (length (now labels)) (now forward) × Indices (length (now labels)) (length (now flags)) (now labels) ⌝ }
+    ensures { λ _. ⌜ Flags (length (now (flags .entry))) (λ r. some (λ i. selfKey (now (labels .entry)) r (getD (now (forward .entry)) i 0)) (length (now (forward .entry)))) (now (flags .exit)) ⌝ }
 {
     regions::clear_flags(flags);
-    let count = ports.len() / PORT;
-    let mut k: usize = 0;
-    while k < count {
-        let r = sink_region(ports, k, sinks[k], labels);
-        flags[r] = flags[r] | is_self(ports, k, sources[k], sinks[k]);
-        k += 1;
+    let count = edge_count(forward, labels.len());
+    let mut i: usize = 0;
+    while i < count {
+        let key = forward[i];
+        let r = labels[(key % SPAN) as usize];
+        flags[r] = flags[r] | (key / SPAN == key % SPAN);
+        i += 1;
     }
 }
 
-// Flags the cyclic regions: those of two nodes or more, or with a connection from a node to itself.
-pub fn find_cyclic(
-    ports: &[i64],
-    sources: &[usize],
-    sinks: &[usize],
-    labels: &[usize],
-    flags: &mut [bool],
-)
-    requires { ⌜ PortConnections (now ports) ⌝ }
-    requires { ⌜ SignalEnds (length (now labels)) (now ports) (now sinks) × (portCount (now ports) ≤ length (now sources)) ⌝ }
-    requires { ⌜ Indices (length (now labels)) (length (now flags)) (now labels) × ((0 < length (now flags)) × (length (now flags) ≤ componentLimit)) ⌝ }
-    ensures { λ _. ⌜ Flags (length (now (flags .entry))) (cyclicAt (now (ports .entry)) (now (sources .entry)) (now (sinks .entry)) (now (labels .entry))) (now (flags .exit)) ⌝ }
+// Flags the cyclic regions: those of two nodes or more, or with an edge from a node to itself.
+pub fn find_cyclic(forward: &[u64], labels: &[usize], flags: &mut [bool])
+    requires { ⌜ Rows (length (now labels)) (now forward) ⌝ }
+    requires { ⌜ Indices (length (now labels)) (length (now flags)) (now labels) × (length (now flags) ≤ componentLimit) ⌝ }
+    ensures { λ _. ⌜ Flags (length (now (flags .entry))) (cyclicAt (now (forward .entry)) (now (labels .entry))) (now (flags .exit)) ⌝ }
 {
     let count = flags.len();
     let mut sizes = [0usize; COMPONENTS];
-    flag_selves(ports, sources, sinks, labels, flags);
+    flag_selves(forward, labels, flags);
     count_into(labels.len(), labels, &mut sizes[..count]);
     flag_large(&sizes[..count], flags);
 }

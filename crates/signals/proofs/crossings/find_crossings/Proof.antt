@@ -17,13 +17,13 @@ use Rattle.signals.proofs.crossings.find_crossings.Statement.{statement
 use Rattle.signals.proofs.crossings.find_crossings.Tie as tie
 
 abbrev start : tie.After-list-crossings → tie.Start
-start c = c .before .before .before .before .before .before
+start c = c .before .before .before .before .before
 
 abbrev listed : tie.After-list-crossings → List ℕ
-listed c = take (c .list-crossings .result) (c .list-crossings .last .1 .1 .1 .1 .0)
+listed c = take (c .list-crossings .result) (c .list-crossings .last .1 .1 .0)
 
-room : (c : tie.After-list-crossings) → c .list-crossings .result ≤ length (c .list-crossings .last .1 .1 .1 .1 .0)
-room c = omega (arith, c .list-crossings .ensures .0, c .list-crossings .kept .1 .1 .1 .1 .0, start c .pre .0 .0 .few)
+room : (c : tie.After-list-crossings) → c .list-crossings .result ≤ length (c .list-crossings .last .1 .1 .0)
+room c = omega (arith, c .list-crossings .ensures .0, c .list-crossings .kept .1 .1 .0, start c .pre .0 .1 .1)
 
 lent : (c : tie.After-list-crossings) → length (listed c) ≡ c .list-crossings .result
 lent c = length-take-le _ _ (room c)
@@ -32,7 +32,7 @@ low : (c : tie.After-list-crossings) → All (λ x. x / span < componentLimit) (
 low c =
     let s = start c in
     let still : Rearranged (listed c) (listed c) = record { same = λ v. refl } in
-    let below = laid-below (s .pre .1 .0 .0) (s .pre .1 .0 .1) (s .pre .1 .1) (c .list-crossings .ensures .1) still in
+    let below = laid-below (s .pre .0 .0) (s .pre .1) (c .list-crossings .ensures .1) still in
     at-all (λ x. x / span < componentLimit) (listed c) (below .first)
 
 returns : tie.Need-returns
@@ -43,9 +43,9 @@ returns c =
     let r = l .list-crossings .result in
     let laid = subst (λ (n : ℕ). LaidByFirst (listed l) (take n (out .last .1 .0))) (lent l) (out .ensures) in
     record {
-      few = omega (arith, out .kept .1 .0, l .list-crossings .ensures .0, s .pre .0 .1);
-      below = laid-below (s .pre .1 .0 .0) (s .pre .1 .0 .1) (s .pre .1 .1) (l .list-crossings .ensures .1) (laid .rearranged);
-      pairs = λ cs p q. laid-crossings (s .pre .1 .0 .0) (s .pre .1 .0 .1) (s .pre .1 .1) (l .list-crossings .ensures .1) (laid .rearranged) p q (laid .firsts);
+      few = omega (arith, out .kept .1 .0, l .list-crossings .ensures .0, s .pre .0 .1 .0);
+      below = laid-below (s .pre .0 .0) (s .pre .1) (l .list-crossings .ensures .1) (laid .rearranged);
+      pairs = laid-crossings (s .pre .0 .0) (s .pre .1) (l .list-crossings .ensures .1) (laid .rearranged) (laid .firsts);
     }
 
 pub find-crossings-spec : {M : Type 1} → statement M
@@ -59,6 +59,6 @@ find-crossings-spec =
     (λ c. search needs)
     (λ c κs.
     let l = c .before .before .before .before in
-    (omega (arith, lent l, l .list-crossings .ensures .0, start l .pre .0 .1), (omega arith, low l)))
+    (omega (arith, lent l, l .list-crossings .ensures .0, start l .pre .0 .1 .0), (omega arith, low l)))
     (λ c. search needs)
     returns)

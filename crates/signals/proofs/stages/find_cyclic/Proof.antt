@@ -9,29 +9,27 @@ use native.Mathlib.Omega.{arith}
 use lib.Dec.{leb}
 use lib.ListN.{length, getD, take, drop, replicate}
 use lib.Seq.{length-take-le}
-use lib.IntN.{ℤ}
 use Rattle.lists.specs.Limits.{componentLimit}
-use Rattle.lists.specs.Records.{portCount}
 use Rattle.lists.specs.First.{some}
 use Rattle.regions.specs.Graph.{marked}
 use Rattle.signals.specs.Flags.{Flags, Counted}
-use Rattle.signals.specs.Stages.{selfAt, cyclicAt}
+use Rattle.signals.specs.Stages.{selfKey, cyclicAt}
 use Rattle.signals.proofs.Lent.{front, front-long, indices-same}
 use Rattle.signals.proofs.stages.find_cyclic.Statement.{statement}
 use Rattle.signals.proofs.stages.find_cyclic.Tie as tie
 
 -- the sizes that are lent are as many as the flags
 small : (c : tie.Start) → length (c .args .flags .now) ≤ componentLimit
-small c = c .pre .1 .1 .1 .1
+small c = c .pre .1 .1
 
 share : tie.Need-slice-aggregate-count-into
-share c = sym (length-take-le _ _ (small (c .before .before .before .before .before .before .before .before .before)))
+share c = sym (length-take-le _ _ (small (c .before .before .before .before .before .before .before .before)))
 
 count-into-requires : tie.Need-count-into-requires
-count-into-requires c κs = let s = c .before .before .before .before .before .before .before .before .before in indices-same (sym (length-take-le _ _ (small s))) (s .pre .1 .1 .0)
+count-into-requires c κs = let s = c .before .before .before .before .before .before .before .before in indices-same (sym (length-take-le _ _ (small s))) (s .pre .1 .0)
 
 abbrev start : tie.After-count-into → tie.Start
-start c = c .before .before .before .before .before .before .before .before .before .before
+start c = c .before .before .before .before .before .before .before .before .before
 
 abbrev selves : tie.After-count-into → tie.After-flag-selves
 selves c = c .before .before .before .before
@@ -59,13 +57,13 @@ share-3 : tie.Need-slice-aggregate-flag-large
 share-3 c = sym (front-length (c .before .before))
 
 flag-large-requires : tie.Need-flag-large-requires
-flag-large-requires c κs = let counted = c .before .before .before in omega (arith, front-length counted, selves counted .flag-selves .kept .1 .1 .1 .1 .0)
+flag-large-requires c κs = let counted = c .before .before .before in omega (arith, front-length counted, selves counted .flag-selves .kept .1 .1 .0)
 
--- large, or with a connection from a node to itself
-joined : (ps : List ℤ) (sources sinks labels : List ℕ) {sizes : List ℕ} {flags₀ flags : List Bool} {n : ℕ} → length sizes ≡ n → Counted (length labels) labels sizes
-    → Flags n (λ r. some (selfAt ps sources sinks labels r) (portCount ps)) flags₀ → Flags (length sizes) (λ r. leb 2 (getD sizes r 0) || marked flags₀ r) flags
-    → Flags n (cyclicAt ps sources sinks labels) flags
-joined ps sources sinks labels e counts itself f = record {
+-- large, or with an edge from a node to itself
+joined : (forward labels : List ℕ) {sizes : List ℕ} {flags₀ flags : List Bool} {n : ℕ} → length sizes ≡ n → Counted (length labels) labels sizes
+    → Flags n (λ r. some (λ i. selfKey labels r (getD forward i 0)) (length forward)) flags₀ → Flags (length sizes) (λ r. leb 2 (getD sizes r 0) || marked flags₀ r) flags
+    → Flags n (cyclicAt forward labels) flags
+joined forward labels e counts itself f = record {
   long = omega (arith, e, f .long);
   at = λ r h. f .at r (omega (arith, e)) ∙ rw (counts .at r (omega (arith, e)), itself .at r h);
 }
@@ -75,7 +73,7 @@ returns c =
     let called = c .before .before in
     let counted = called .before .before .before .before in
     let a = start counted .args in
-    joined (a .ports .now) (a .sources .now) (a .sinks .now) (a .labels .now) (long counted) (counted .count-into .ensures) (selves counted .flag-selves .ensures) (rw (front-is counted) at (called .flag-large .ensures))
+    joined (a .forward .now) (a .labels .now) (long counted) (counted .count-into .ensures) (selves counted .flag-selves .ensures) (rw (front-is counted) at (called .flag-large .ensures))
 
 pub find-cyclic-spec : {M : Type 1} → statement M
 find-cyclic-spec =
