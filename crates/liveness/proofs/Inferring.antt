@@ -1,6 +1,8 @@
 -- The inferred inputs, by the arrays of the analysis.
 --     rows-of                      a table of keys has rows of nodes
 --     forward-rows, backward-rows  those of an accepted scene
+--     graph, regions-of            its edges, and with the regions what marks are carried by
+--     crossings-of                 the pairs of regions by the edges of its table are those of its signals
 --     neighbours-are               the neighbours of a node, by the two tables
 --     inferred-is                  the test by the arrays is `isInferred`
 -- Assumes nothing.
@@ -23,12 +25,13 @@ use Rattle.lists.specs.Ids.{memberOf}
 use Rattle.lists.proofs.Members.{member-below}
 use Rattle.regions.specs.Graph.{Edges, at}
 use Rattle.regions.specs.Keys.{edges}
+use Rattle.regions.specs.Carry.{Crossings}
 use Rattle.signals.specs.Signals.{isSignal, signals}
 use Rattle.signals.specs.Regions.{labels, regionAt, wire, hasDrive, fedFromOutside, neighbours, isInferred}
 use Rattle.signals.specs.Keys.{KeysOf, signalKey}
 use Rattle.signals.specs.Flags.{Flags}
 use Rattle.signals.specs.Seen.{Rows}
-use Rattle.liveness.specs.Scene.{Scene, Prepared}
+use Rattle.liveness.specs.Scene.{Scene, Prepared, SceneRegions}
 use Rattle.signals.specs.Stages.{inferredBy}
 use Rattle.signals.proofs.Tabulated.{tab-length, tab-at}
 use Rattle.signals.proofs.Ends.{ends-within}
@@ -85,6 +88,24 @@ module _ {cs ps : List ℤ} (scene : Scene cs ps) {sources sinks forward backwar
       (rows-of (p .tables .backward-keys) (componentCount cs) few (omega (arith, few)) (λ k h e.
       rw (source-at few (p .tables .source-members) (p .tables .sink-members) k h) (ends-within cs ps (scene .ends) k h e .0)))
 
+  pub graph : edges (componentCount cs) forward ≡ signals cs ps
+  graph = edges-signals few (p .tables .source-members) (p .tables .sink-members) (ends-within cs ps (scene .ends)) (p .tables .forward-keys)
+
+  pub regions-of : SceneRegions cs ps forward labelled regionOf
+  regions-of = record {
+    scene = scene;
+    rows = forward-rows;
+    few = omega (
+      arith,
+      p .tables .forward-keys .sorted .long,
+      tab-length (λ k. signalKey (isSignal ps k) (getD sources k 0) (getD sinks k 0) componentLimit) (portCount ps),
+      scene .connections .few,
+    );
+    graph = graph;
+    labels-are = p .labels-are;
+    regions-are = p .regions-are;
+  }
+
   -- either way along the edges
   neighbours-are : (m : ℕ) → countBelow (λ j. eqb (at (labels cs ps) j) (at (labels cs ps) m) && (edges (componentCount cs) forward m j || edges (componentCount cs) backward m j)) (componentCount cs)
       ≡ neighbours cs ps m
@@ -96,7 +117,7 @@ module _ {cs ps : List ℤ} (scene : Scene cs ps) {sources sinks forward backwar
       let within = ends-within cs ps (scene .ends) in
       count-cong _ _ n (λ j h.
       let same = eqb (at (labels cs ps) j) (at (labels cs ps) m) in
-      ap (λ (g : Edges). same && (g m j || edges n backward m j)) (edges-signals few s t within (p .tables .forward-keys))
+      ap (λ (g : Edges). same && (g m j || edges n backward m j)) graph
       ∙ ap (λ (b : Bool). same && (signals cs ps m j || b)) (edges-back few s t within (p .tables .backward-keys) m j))
 
   module _ (fs : List ℤ) {driven fed : List Bool} (d : Flags componentLimit (hasDrive cs ps fs) driven) (f : Flags componentLimit (fedFromOutside cs ps) fed) where
@@ -107,3 +128,12 @@ module _ {cs ps : List ℤ} (scene : Scene cs ps) {sources sinks forward backwar
         let below : region < componentLimit = omega (arith, label-under cs ps (scene .ends) (memberOf cs q) (member-below cs q h), few) in
         rw (labels-long, p .labels-are, p .members-are .at q h, p .regions-are .at q h, d .at region below, f .at region below, neighbours-are (memberOf cs q))
         (and-turned (eqb (component cs q .kind) wire) (not (hasDrive cs ps fs region) && not (fedFromOutside cs ps region)) (leb (neighbours cs ps (memberOf cs q)) 1))
+
+-- ---- pairs of regions
+
+pub crossings-of : {cs ps : List ℤ} {forward labelled regionOf keys : List ℕ} → SceneRegions cs ps forward labelled regionOf
+    → Crossings (edges (length labelled) forward) labelled keys → Crossings (signals cs ps) (labels cs ps) keys
+crossings-of {cs} {ps} {forward} {labelled} {keys = keys} r c =
+    subst (λ (g : Edges). Crossings g (labels cs ps) keys) (r .graph)
+    (subst (λ (n : ℕ). Crossings (edges n forward) (labels cs ps) keys) (labels-count cs ps (r .scene .ends))
+    (subst (λ (l : List ℕ). Crossings (edges (length l) forward) l keys) (r .labels-are) c))

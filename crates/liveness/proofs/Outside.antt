@@ -25,11 +25,13 @@ use Rattle.signals.specs.Signals.{isSignal, sourceMember, sinkMember}
 use Rattle.signals.specs.Regions.{labels, isPassive, kindAt, fedFromOutside}
 use Rattle.lists.specs.Ends.{Settled}
 use Rattle.signals.specs.Flags.{Flags, Numbers, Gathered}
-use Rattle.signals.specs.Seen.{outsideAt}
+use Rattle.signals.specs.Keys.{KeysOf}
+use Rattle.signals.specs.Seen.{ofEdge, outsideKey}
 use Rattle.liveness.specs.Scene.{Scene}
 use Rattle.signals.proofs.Tabulated.{first-cong}
-use Rattle.signals.proofs.Ends.{ends-below}
-use Rattle.signals.proofs.Graph.{source-at, sink-at}
+use Rattle.signals.proofs.Ends.{ends-below, ends-within}
+use Rattle.signals.proofs.Tested.{signal-tests}
+use Rattle.signals.proofs.Within.{labels-count}
 
 -- ---- tests
 
@@ -84,7 +86,7 @@ module _ (cs : List ℤ) (once : firstRepeated cs ≡ Nothing) {members : List �
 -- ---- fed from outside
 
 -- the tests of a connection in another order, equal where it is a signal
-tests-same : (s x y y′ z : Bool) → (s ≡ true → y ≡ y′) → ((s && (x && not y)) && z) ≡ (s && (x && (z && not y′)))
+tests-same : (s x y y′ z : Bool) → (s ≡ true → y ≡ y′) → (s && ((x && not y) && z)) ≡ (s && (x && (z && not y′)))
 tests-same false x y y′ z e = refl
 tests-same true false y y′ z e = refl
 tests-same true true y y′ z e = turned y z ∙ rw (e refl)
@@ -95,32 +97,38 @@ tests-same true true y y′ z e = turned y z ∙ rw (e refl)
     turned false true = refl
     turned false false = refl
 
-module _ {cs ps : List ℤ} (scene : Scene cs ps) {sources sinks labelled members : List ℕ} (s : Settled cs ps 0 sources) (t : Settled cs ps 2 sinks)
-    (is : labelled ≡ labels cs ps) (numbers : Numbers (componentCount cs) (memberOf cs) members) where
+module _ {cs ps : List ℤ} (scene : Scene cs ps) {sources sinks forward labelled members : List ℕ} (s : Settled cs ps 0 sources) (t : Settled cs ps 2 sinks)
+    (table : KeysOf ps sources sinks componentLimit forward) (is : labelled ≡ labels cs ps) (numbers : Numbers (componentCount cs) (memberOf cs) members) where
   pub fed-is : (rest : List Bool) {flags marks fed : List Bool} {n : ℕ} → Flags (componentCount cs) (λ p. isPassive (component cs p .kind)) flags
       → length marks ≡ componentCount cs → Gathered (componentCount cs) members flags marks
-      → n ≡ componentLimit → Flags n (λ r. some (outsideAt ps sources sinks labelled (marks ++ rest) r) (portCount ps)) fed
+      → n ≡ componentLimit → Flags n (λ r. some (λ i. outsideKey labelled (marks ++ rest) r (getD forward i 0)) (length forward)) fed
       → Flags componentLimit (fedFromOutside cs ps) fed
   unfolding fedFromOutside
   fed-is rest {flags} {marks} {fed} f long g room o = record {
     long = omega (arith, o .long);
-    at = λ r h. o .at r (omega arith) ∙ ap isFound (first-cong _ _ 0 (portCount ps) (λ k a b. tested r k (omega arith)));
+    at = λ r h.
+        o .at r (omega arith)
+        ∙ ap (λ (n : ℕ). some (λ i. ofEdge n (test r) (getD forward i 0)) (length forward)) (ap length is ∙ labels-count cs ps (scene .ends))
+        ∙ signal-tests few s t (ends-within cs ps (scene .ends)) table (test r)
+        ∙ ap isFound (first-cong _ _ 0 (portCount ps) (λ k a b. tested r k (omega arith)));
   }
     where
       few : componentCount cs ≤ componentLimit
       few = scene .components .few
 
-      passive : (k : ℕ) → k < portCount ps → isSignal ps k ≡ true → marked (marks ++ rest) (getD sources k 0) ≡ isPassive (kindAt cs (placeOf cs (portConnection ps k .source)))
+      test : ℕ → ℕ → ℕ → Bool
+      test r a b = (not (eqb (getD labelled a 0) (getD labelled b 0)) && not (marked (marks ++ rest) a)) && eqb (getD labelled b 0) r
+
+      passive : (k : ℕ) → k < portCount ps → isSignal ps k ≡ true → marked (marks ++ rest) (sourceMember cs ps k) ≡ isPassive (kindAt cs (placeOf cs (portConnection ps k .source)))
       passive k h signal =
           let there = ends-below cs ps (scene .ends) k h signal in
-          ap (marked (marks ++ rest)) (source-at few s t k h)
-          ∙ List·getD-append marks rest false (sourceMember cs ps k) (omega (arith, there .source-below))
+          List·getD-append marks rest false (sourceMember cs ps k) (omega (arith, there .source-below))
           ∙ passive-at cs (scene .distinct) numbers f long g (portConnection ps k .source) (there .source-found)
 
-      tested : (r k : ℕ) → k < portCount ps → outsideAt ps sources sinks labelled (marks ++ rest) r k
+      tested : (r k : ℕ) → k < portCount ps → (isSignal ps k && test r (sourceMember cs ps k) (sinkMember cs ps k))
           ≡ (isSignal ps k && (not (eqb (at (labels cs ps) (sourceMember cs ps k)) (at (labels cs ps) (sinkMember cs ps k)))
           && (eqb (at (labels cs ps) (sinkMember cs ps k)) r && not (isPassive (kindAt cs (placeOf cs (portConnection ps k .source)))))))
       tested r k h =
-          tests-same (isSignal ps k) (not (eqb (getD labelled (getD sources k 0) 0) (getD labelled (getD sinks k 0) 0))) (marked (marks ++ rest) (getD sources k 0)) _
-          (eqb (getD labelled (getD sinks k 0) 0) r) (passive k h)
-          ∙ rw (is, source-at few s t k h, sink-at few s t k h)
+          tests-same (isSignal ps k) (not (eqb (getD labelled (sourceMember cs ps k) 0) (getD labelled (sinkMember cs ps k) 0)))
+          (marked (marks ++ rest) (sourceMember cs ps k)) _ (eqb (getD labelled (sinkMember cs ps k) 0) r) (passive k h)
+          ∙ rw is

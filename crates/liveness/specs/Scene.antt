@@ -7,19 +7,21 @@ use mathlib.Core.List.{List}
 use lib.ListN.{length}
 use lib.IntN.{ℤ}
 use Rattle.sets.specs.Members.{SetOf}
-use Rattle.lists.specs.Limits.{componentLimit, componentWidth}
+use Rattle.lists.specs.Limits.{componentLimit, connectionLimit, componentWidth}
 use Rattle.lists.specs.Records.{componentCount, portCount}
 use Rattle.lists.specs.Ids.{memberOf, firstRepeated, firstEndMissing}
-use Rattle.lists.specs.Ends.{Settled}
 use Rattle.lists.specs.Order.{firstNotAscending, componentOrder}
 use Rattle.lists.specs.Within.{Components, PortConnections}
 use Rattle.lists.specs.declared.Checked.the-variants.{Accepted}
 use Rattle.lists.specs.declared.Found.the-variants.{Nothing}
+use Rattle.regions.specs.Keys.{edges}
 use Rattle.regions.specs.Search.{Zeros}
+use Rattle.signals.specs.Signals.{signals}
 use Rattle.signals.specs.Sources.{onFrontier, isDrive}
 use Rattle.signals.specs.Regions.{labels, regionCount, regionAt, hasDrive, isInferred}
 use Rattle.signals.specs.Drive.{drive, potential}
 use Rattle.signals.specs.Flags.{Flags, Numbers}
+use Rattle.signals.specs.Seen.{Rows}
 use Rattle.signals.specs.Stages.{Tables}
 use Rattle.liveness.specs.Sets.{SetWhere}
 use Rattle.liveness.specs.declared.Analysis.{Analysis}
@@ -53,13 +55,19 @@ pub record Prepares (cs ps : List ℤ) (sources sinks forward backward labelled 
   pub count : r ≡ regionCount cs ps
   pub stack-zeros : Zeros stack
 
--- the part of this that marks of regions are carried by: the ends of the connections, and the regions
-pub record SceneRegions (cs ps : List ℤ) (sources sinks labelled regionOf : List ℕ) : Type 0 where
+-- an accepted scene that is prepared, the ends of its connections left out
+pub record PreparedScene (cs ps : List ℤ) (forward backward labelled members regionOf : List ℕ) : Type 0 where
   pub scene : Scene cs ps
-  pub source-members : Settled cs ps 0 sources
-  pub sink-members : Settled cs ps 2 sinks
-  pub sources-long : portCount ps ≤ length sources
-  pub sinks-long : portCount ps ≤ length sinks
+  pub sources : List ℕ
+  pub sinks : List ℕ
+  pub prepared : Prepared cs ps sources sinks forward backward labelled members regionOf
+
+-- the part of this that marks of regions are carried by: the edges, and the regions
+pub record SceneRegions (cs ps : List ℤ) (forward labelled regionOf : List ℕ) : Type 0 where
+  pub scene : Scene cs ps
+  pub rows : Rows (length labelled) forward
+  pub few : length forward ≤ connectionLimit
+  pub graph : edges (componentCount cs) forward ≡ signals cs ps
   pub labels-are : labelled ≡ labels cs ps
   pub regions-are : Numbers (componentCount cs) (regionAt cs ps) regionOf
 

@@ -39,9 +39,7 @@ fn possible_regions(
 
 // Marks what the drive sources reach, and what these and the inferred inputs reach.
 pub(crate) fn flag_alive(
-    ports: &[i64],
-    sources: &[usize],
-    sinks: &[usize],
+    forward: &[u64],
     labels: &[usize],
     region_at: &[usize],
     has_drive: &[bool],
@@ -49,17 +47,17 @@ pub(crate) fn flag_alive(
     drive: &mut [bool],
     potential: &mut [bool],
 )
-    requires { ⌜ ((cs : List ℤ) × SceneRegions cs (now ports) (now sources) (now sinks) (now labels) (now «region_at»)) ⌝ }
+    requires { ⌜ ((cs ps : List ℤ) × SceneRegions cs ps (now forward) (now labels) (now «region_at»)) ⌝ }
     requires { ⌜ AliveRoom (length (now labels)) (now «has_drive») (now inferred) (now drive) (now potential) ⌝ }
-    ensures { λ _. ⌜ ((cs fs : List ℤ) → SceneRegions cs (now (ports .entry)) (now (sources .entry)) (now (sinks .entry)) (now (labels .entry)) (now («region_at» .entry)) →
-        Flags componentLimit (hasDrive cs (now (ports .entry)) fs) (now («has_drive» .entry)) → Flags (componentCount cs) (isInferred cs (now (ports .entry)) fs) (now (inferred .entry)) →
-        Alive cs (now (ports .entry)) fs (now (drive .exit)) (now (potential .exit))) ⌝ }
+    ensures { λ _. ⌜ ((cs ps fs : List ℤ) → SceneRegions cs ps (now (forward .entry)) (now (labels .entry)) (now («region_at» .entry)) →
+        Flags componentLimit (hasDrive cs ps fs) (now («has_drive» .entry)) → Flags (componentCount cs) (isInferred cs ps fs) (now (inferred .entry)) →
+        Alive cs ps fs (now (drive .exit)) (now (potential .exit))) ⌝ }
 {
     let n = labels.len();
     let mut keys = [0u64; CONNECTIONS];
     let mut driven = [false; COMPONENTS];
     let mut possible = [false; COMPONENTS];
-    let count = find_crossings(ports, sources, sinks, labels, &mut keys);
+    let count = find_crossings(forward, labels, &mut keys);
     copy_flags(has_drive, &mut driven);
     possible_regions(n, region_at, inferred, has_drive, &mut possible);
     carry_marks(

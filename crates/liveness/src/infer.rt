@@ -8,12 +8,13 @@ use signals::inferred::passive_flags;
 ghost use mathlib.Core.Path.{_≡_};
 ghost use Prim.Native.Nat.{ℕ, _≤_};
 ghost use lib.ListN.{length};
+ghost use lib.IntN.{ℤ};
 ghost use Rattle.lists.specs.Limits.{componentLimit};
 ghost use Rattle.lists.specs.Records.{componentCount};
 ghost use Rattle.lists.specs.Within.{Components};
 ghost use mathlib.Core.List.{List};
 ghost use Rattle.signals.specs.Regions.{fedFromOutside};
-ghost use Rattle.liveness.specs.Scene.{Scene, Prepared};
+ghost use Rattle.liveness.specs.Scene.{PreparedScene};
 ghost use Rattle.signals.specs.Flags.{Flags, Indices};
 ghost use Rattle.signals.specs.Seen.{Rows};
 ghost use Rattle.signals.specs.Stages.{inferredBy};
@@ -62,22 +63,20 @@ pub(crate) fn infer(
 // Flags the regions that get a connection from another region's component, Solid and Transparent sources left uncounted.
 pub(crate) fn outside_regions(
     components: &[i64],
-    ports: &[i64],
-    sources: &[usize],
-    sinks: &[usize],
+    forward: &[u64],
     labels: &[usize],
     members: &[usize],
     fed: &mut [bool],
 )
-    requires { ⌜ Scene (now components) (now ports) ⌝ }
-    requires { ⌜ ((forward backward regionOf : List ℕ) × Prepared (now components) (now ports) (now sources) (now sinks) forward backward (now labels) (now members) regionOf) ⌝ }
+    requires { ⌜ ((ps : List ℤ) × (backward regionOf : List ℕ) × PreparedScene (now components) ps (now forward) backward (now labels) (now members) regionOf) ⌝ }
     requires { ⌜ length (now fed) ≡ componentLimit ⌝ }
-    ensures { λ _. ⌜ Flags componentLimit (fedFromOutside (now (components .entry)) (now (ports .entry))) (now (fed .exit)) ⌝ }
+    ensures { λ _. ⌜ ((ps : List ℤ) (backward regionOf : List ℕ) → PreparedScene (now (components .entry)) ps (now (forward .entry)) backward (now (labels .entry)) (now (members .entry)) regionOf →
+        Flags componentLimit (fedFromOutside (now (components .entry)) ps) (now (fed .exit))) ⌝ }
 {
     let n = labels.len();
     let mut passive_at = [false; COMPONENTS];
     let mut passive = [false; COMPONENTS];
     passive_flags(components, &mut passive_at);
     gather(n, members, &passive_at, &mut passive[..n]);
-    flag_outside(ports, sources, sinks, labels, &passive, fed);
+    flag_outside(forward, labels, &passive, fed);
 }

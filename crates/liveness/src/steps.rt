@@ -22,10 +22,9 @@ ghost use Prim.Native.Nat.{_≤_};
 ghost use lib.ListN.{length, getD};
 ghost use lib.IntN.{ℤ};
 ghost use Rattle.lists.specs.Limits.{componentLimit};
-ghost use Rattle.lists.specs.Records.{componentCount, portCount};
+ghost use Rattle.lists.specs.Records.{componentCount};
 ghost use Rattle.lists.specs.Ids.{IdTable};
 ghost use Rattle.lists.specs.Ends.{SettledEnds};
-ghost use Rattle.lists.specs.Within.{PortConnections};
 ghost use Rattle.lists.specs.First.{tabulate};
 ghost use Rattle.lists.specs.Slices.{laid};
 ghost use Rattle.lists.specs.declared.Checked.the-variants.{Accepted};
@@ -33,9 +32,9 @@ ghost use Rattle.regions.specs.Search.{Zeros};
 ghost use Rattle.signals.specs.Regions.{regionCount, regionAt, hasDrive, isInferred};
 ghost use Rattle.signals.specs.Flags.{Flags, Numbers, Indices};
 ghost use Rattle.liveness.specs.Entry.{AnalyzedBy};
-ghost use Rattle.signals.specs.Seen.{SignalEnds};
+ghost use Rattle.signals.specs.Seen.{Rows};
 ghost use Rattle.signals.specs.Stages.{cyclicAt};
-ghost use Rattle.liveness.specs.Scene.{Scene, Prepared, PreparedRoom, Driven, Marked, MarkRoom, RowsRoom, AnswerBy};
+ghost use Rattle.liveness.specs.Scene.{Scene, Prepared, PreparedScene, PreparedRoom, Driven, Marked, MarkRoom, RowsRoom, AnswerBy};
 
 // How many source rows and verdict rows were written.
 pub struct RowCounts {
@@ -65,9 +64,6 @@ pub fn flag_drive(
 // Flags the inferred inputs, by list place. The rows are hints.
 pub fn flag_inferred(
     components: &[i64],
-    ports: &[i64],
-    sources: &[usize],
-    sinks: &[usize],
     forward: &[u64],
     backward: &[u64],
     labels: &[usize],
@@ -78,14 +74,13 @@ pub fn flag_inferred(
     forward_rows: &[usize],
     backward_rows: &[usize],
 )
-    requires { ⌜ Scene (now components) (now ports) ⌝ }
-    requires { ⌜ Prepared (now components) (now ports) (now sources) (now sinks) (now forward) (now backward) (now labels) (now members) (now «region_at») ⌝ }
+    requires { ⌜ ((ps : List ℤ) × PreparedScene (now components) ps (now forward) (now backward) (now labels) (now members) (now «region_at»)) ⌝ }
     requires { ⌜ (length (now «has_drive») ≡ componentLimit) × (componentCount (now components) ≤ length (now inferred)) ⌝ }
-    ensures { λ _. ⌜ ((fs : List ℤ) → Flags componentLimit (hasDrive (now (components .entry)) (now (ports .entry)) fs) (now («has_drive» .entry)) →
-        Flags (componentCount (now (components .entry))) (isInferred (now (components .entry)) (now (ports .entry)) fs) (now (inferred .exit))) ⌝ }
+    ensures { λ _. ⌜ ((ps fs : List ℤ) → PreparedScene (now (components .entry)) ps (now (forward .entry)) (now (backward .entry)) (now (labels .entry)) (now (members .entry)) (now («region_at» .entry)) →
+        Flags componentLimit (hasDrive (now (components .entry)) ps fs) (now («has_drive» .entry)) → Flags (componentCount (now (components .entry))) (isInferred (now (components .entry)) ps fs) (now (inferred .exit))) ⌝ }
 {
     let mut fed = [false; COMPONENTS];
-    outside_regions(components, ports, sources, sinks, labels, members, &mut fed);
+    outside_regions(components, forward, labels, members, &mut fed);
     infer(
         components,
         members,
@@ -104,10 +99,7 @@ pub fn flag_inferred(
 // All marks of a scene. The rows are hints.
 fn mark(
     components: &[i64],
-    ports: &[i64],
     frontiers: &[i64],
-    sources: &[usize],
-    sinks: &[usize],
     forward: &[u64],
     backward: &[u64],
     labels: &[usize],
@@ -121,10 +113,10 @@ fn mark(
     forward_rows: &[usize],
     backward_rows: &[usize],
 )
-    requires { ⌜ Scene (now components) (now ports) ⌝ }
-    requires { ⌜ Prepared (now components) (now ports) (now sources) (now sinks) (now forward) (now backward) (now labels) (now members) (now «region_at») ⌝ }
+    requires { ⌜ ((ps : List ℤ) × PreparedScene (now components) ps (now forward) (now backward) (now labels) (now members) (now «region_at»)) ⌝ }
     requires { ⌜ MarkRoom (now components) (now «on_frontier») (now inferred) (now «has_drive») (now drive) (now potential) ⌝ }
-    ensures { λ _. ⌜ Marked (now (components .entry)) (now (ports .entry)) (now (frontiers .entry)) (now («on_frontier» .exit)) (now (inferred .exit)) (now («has_drive» .exit)) (now (drive .exit)) (now (potential .exit)) ⌝ }
+    ensures { λ _. ⌜ ((ps : List ℤ) → PreparedScene (now (components .entry)) ps (now (forward .entry)) (now (backward .entry)) (now (labels .entry)) (now (members .entry)) (now («region_at» .entry)) →
+        Marked (now (components .entry)) ps (now (frontiers .entry)) (now («on_frontier» .exit)) (now (inferred .exit)) (now («has_drive» .exit)) (now (drive .exit)) (now (potential .exit))) ⌝ }
 {
     let mut drive_at = [false; COMPONENTS];
     flag_drive(
@@ -137,9 +129,6 @@ fn mark(
     );
     flag_inferred(
         components,
-        ports,
-        sources,
-        sinks,
         forward,
         backward,
         labels,
@@ -151,9 +140,7 @@ fn mark(
         backward_rows,
     );
     flag_alive(
-        ports,
-        sources,
-        sinks,
+        forward,
         labels,
         region_at,
         has_drive,
@@ -177,9 +164,7 @@ fn put_regions(n: usize, region_at: &[usize], regions: &mut [u64])
 
 // The answer: the counts as given, and the sets of the flags.
 fn answer(
-    ports: &[i64],
-    sources: &[usize],
-    sinks: &[usize],
+    forward: &[u64],
     labels: &[usize],
     drive: &[bool],
     potential: &[bool],
@@ -187,15 +172,15 @@ fn answer(
     counts: RowCounts,
     count: usize,
 ) -> Analysis
-    requires { ⌜ PortConnections (now ports) × (SignalEnds (length (now labels)) (now ports) (now sinks) × (portCount (now ports) ≤ length (now sources))) ⌝ }
+    requires { ⌜ Rows (length (now labels)) (now forward) ⌝ }
     requires { ⌜ Indices (length (now labels)) componentLimit (now labels) × ((length (now labels) ≤ componentLimit) × (count ≤ componentLimit)) ⌝ }
     requires { ⌜ (length (now labels) ≤ length (now drive)) × ((length (now labels) ≤ length (now potential)) × (count ≤ length (now «has_drive»))) ⌝ }
     ensures { λ r. ⌜ AnswerBy (length (now (labels .entry))) count (counts .sources) (counts .inputs) (now (drive .entry)) (now (potential .entry)) (now («has_drive» .entry))
-        (cyclicAt (now (ports .entry)) (now (sources .entry)) (now (sinks .entry)) (now (labels .entry))) r ⌝ }
+        (cyclicAt (now (forward .entry)) (now (labels .entry))) r ⌝ }
 {
     let n = labels.len();
     let mut cyclic = [false; COMPONENTS];
-    find_cyclic(ports, sources, sinks, labels, &mut cyclic);
+    find_cyclic(forward, labels, &mut cyclic);
     Analysis {
         checked: Checked::Accepted,
         regions: count,
@@ -241,10 +226,7 @@ fn report(
     let mut potential = [false; COMPONENTS];
     mark(
         components,
-        ports,
         frontiers,
-        source_at,
-        sink_at,
         forward,
         backward,
         labels,
@@ -273,9 +255,7 @@ fn report(
         ),
     };
     answer(
-        ports,
-        source_at,
-        sink_at,
+        forward,
         labels,
         &drive[..n],
         &potential[..n],

@@ -20,34 +20,22 @@ use Rattle.regions.specs.Carry.{carry, Crossings}
 use Rattle.signals.specs.Signals.{signals}
 use Rattle.signals.specs.Regions.{labels, hasDrive}
 use Rattle.signals.specs.Flags.{Flags, Indices}
-use Rattle.signals.specs.Seen.{SignalEnds}
-use Rattle.signals.proofs.Ends.{ends-within}
 use Rattle.signals.proofs.Lent.{indices-same}
-use Rattle.signals.proofs.Staged.{source-ends, sink-ends}
 use Rattle.signals.proofs.Within.{labels-count, labels-under, places-under}
 use Rattle.assessment.proofs.Reached.{drive-is, potential-is}
 use Rattle.liveness.specs.Scene.{SceneRegions}
+use Rattle.liveness.proofs.Inferring.{crossings-of}
 use Rattle.liveness.proofs.alive.flag_alive.Statement.{statement}
 use Rattle.liveness.proofs.alive.flag_alive.Tie as tie
 
 -- ---- the regions of a scene
 
-module _ {cs ps : List ℤ} {sources sinks labelled regionOf : List ℕ} (r : SceneRegions cs ps sources sinks labelled regionOf) where
+module _ {cs ps : List ℤ} {forward labelled regionOf : List ℕ} (r : SceneRegions cs ps forward labelled regionOf) where
   few : componentCount cs ≤ componentLimit
   few = r .scene .components .few
 
   all : length labelled ≡ componentCount cs
   all = ap length (r .labels-are) ∙ labels-count cs ps (r .scene .ends)
-
-  sources-within : SignalEnds (length labelled) ps sources
-  sources-within =
-      subst (λ (n : ℕ). SignalEnds n ps sources) (sym all)
-      (source-ends few (r .source-members) (r .sink-members) (ends-within cs ps (r .scene .ends)) (r .sources-long))
-
-  sinks-within : SignalEnds (length labelled) ps sinks
-  sinks-within =
-      subst (λ (n : ℕ). SignalEnds n ps sinks) (sym all)
-      (sink-ends few (r .source-members) (r .sink-members) (ends-within cs ps (r .scene .ends)) (r .sinks-long))
 
   labels-small : Indices (length labelled) componentLimit labelled
   labels-small =
@@ -69,14 +57,14 @@ module _ {cs ps : List ℤ} {sources sinks labelled regionOf : List ℕ} (r : Sc
 
 find-crossings-requires : tie.Need-find-crossings-requires
 find-crossings-requires c κs =
-    let s = c .before .before .before .before .before .before .before .before .before in
-    let r = s .pre .0 .1 in
-    ((r .scene .connections, r .scene .connections .few), ((sources-within r, sinks-within r), labels-small r))
+    let s = c .before .before .before .before .before .before .before .before in
+    let r = s .pre .0 .2 in
+    ((r .rows, (r .few, r .few)), labels-small r)
 
 possible-regions-requires : tie.Need-possible-regions-requires
 possible-regions-requires c κs =
-    let s = c .before .before .before .before .before .before .before .before .before .before .before .before .before .before .before in
-    ((regions-small (s .pre .0 .1), s .pre .1 .inferred-room), (omega (arith, s .pre .1 .regions-room), omega arith))
+    let s = c .before .before .before .before .before .before .before .before .before .before .before .before .before .before in
+    ((regions-small (s .pre .0 .2), s .pre .1 .inferred-room), (omega (arith, s .pre .1 .regions-room), omega arith))
 
 -- the places before the calls
 abbrev possible-before : tie.After-carry-marks-arg2 → tie.After-possible-regions
@@ -89,10 +77,10 @@ abbrev found-before : tie.After-copy-flags → tie.After-find-crossings
 found-before c = c .before .before .before
 
 abbrev start : tie.After-find-crossings → tie.Start
-start c = c .before .before .before .before .before .before .before .before .before .before
+start c = c .before .before .before .before .before .before .before .before .before
 
 -- the keys that were found
-lent : (c : tie.After-find-crossings) → length (take (c .find-crossings .result) (c .find-crossings .last .1 .1 .1 .1 .0)) ≡ c .find-crossings .result
+lent : (c : tie.After-find-crossings) → length (take (c .find-crossings .result) (c .find-crossings .last .1 .1 .0)) ≡ c .find-crossings .result
 lent c = length-take-le _ _ (c .find-crossings .ensures .few)
 
 keys-as : {m n : ℕ} {keys : List ℕ} → m ≡ n → KeysBelow m keys → KeysBelow n keys
@@ -105,7 +93,7 @@ carry-marks-requires c κs =
     let found = found-before copied in
     let s = start found in
     let below = found .find-crossings .ensures .below in
-    let small = labels-small (s .pre .0 .1) in
+    let small = labels-small (s .pre .0 .2) in
     let long-a = copied .copy-flags .kept .1 .0 in
     let long-b = possible .possible-regions .kept .1 .1 .1 .1 .0 in (
       (keys-as (sym long-a) below, keys-as (sym long-b) below),
@@ -113,7 +101,7 @@ carry-marks-requires c κs =
     )
 
 returns : tie.Need-returns
-returns c cs fs r driven inferred =
+returns c cs ps fs r driven inferred =
     let carrying = c .before .before .before .before .before .before in
     let carried = carrying .carry-marks in
     let possible = possible-before (carrying .before) .possible-regions in
@@ -122,10 +110,8 @@ returns c cs fs r driven inferred =
     let found = finding .find-crossings in
     let s = start finding in
     let room = s .pre .1 in
-    let ps = s .args .ports .now in
-    let keys = take (found .result) (found .last .1 .1 .1 .1 .0) in
-    let pairs : Crossings (signals cs ps) (labels cs ps) keys =
-    subst (λ (l : List ℕ). Crossings (signals cs ps) l keys) (r .labels-are) (found .ensures .pairs cs (r .source-members) (r .sink-members)) in
+    let keys = take (found .result) (found .last .1 .1 .0) in
+    let pairs : Crossings (signals cs ps) (labels cs ps) keys = crossings-of r (found .ensures .pairs) in
     let marks : Flags componentLimit (hasDrive cs ps fs) (copied .last .1 .0) = record {
       long = omega (arith, copied .kept .1 .0);
       at = λ k h. copied .ensures .at k (omega (arith, room .regions-room)) ∙ driven .at k h;

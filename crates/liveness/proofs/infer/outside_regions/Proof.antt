@@ -1,7 +1,7 @@
 -- `liveness::infer::outside_regions` meets its contract: passive marks are gathered by member, and the labels are indices of the flags.
 -- Assumes nothing.
 use borrow.Author.Needs.{needs}
-use mathlib.Core.Path.{_≡_, sym, ap, _∙_, subst}
+use mathlib.Core.Path.{_≡_, sym, _∙_, subst}
 use mathlib.Core.Bool.{Bool, false}
 use mathlib.Core.List.{List, _++_}
 use Prim.Native.Nat.{ℕ, _≤_}
@@ -11,24 +11,29 @@ use lib.Seq.{length-take-le}
 use Rattle.lists.specs.Limits.{componentLimit}
 use Rattle.lists.specs.Records.{componentCount}
 use Rattle.signals.specs.Flags.{Indices}
-use Rattle.signals.specs.Seen.{SignalEnds}
 use Rattle.signals.proofs.Lent.{gathered-same}
-use Rattle.signals.proofs.Ends.{ends-within}
-use Rattle.signals.proofs.Staged.{source-ends, sink-ends, members-below}
-use Rattle.signals.proofs.Within.{labels-count, labels-under}
+use Rattle.signals.proofs.Staged.{members-below}
+use Rattle.signals.proofs.Within.{labels-under}
+use Rattle.liveness.specs.Scene.{PreparedScene}
+use Rattle.liveness.proofs.Inferring.{labels-long, forward-rows}
 use Rattle.liveness.proofs.Outside.{fed-is}
 use Rattle.liveness.proofs.infer.outside_regions.Statement.{statement}
 use Rattle.liveness.proofs.infer.outside_regions.Tie as tie
 
+-- the prepared scene
+abbrev scene : (c : tie.Start)
+    → PreparedScene (c .args .components .now) (c .pre .0 .0) (c .args .forward .now) (c .pre .0 .1) (c .args .labels .now) (c .args .members .now) (c .pre .0 .2)
+scene c = c .pre .0 .3
+
 -- as many labels as components
 labelled : (c : tie.Start) → length (c .args .labels .now) ≡ componentCount (c .args .components .now)
-labelled c = ap length (c .pre .1 .0 .3 .labels-are) ∙ labels-count _ _ (c .pre .0 .ends)
+labelled c = labels-long (scene c .scene) (scene c .prepared)
 
 small : (c : tie.Start) → length (c .args .labels .now) ≤ componentLimit
-small c = omega (arith, labelled c, c .pre .0 .components .few)
+small c = omega (arith, labelled c, scene c .scene .components .few)
 
 abbrev start : tie.After-passive-flags → tie.Start
-start c = c .before .before .before .before .before .before .before
+start c = c .before .before .before .before .before .before
 
 share : tie.Need-array-borrow-prefix-passive
 share c = small (start (c .before .before))
@@ -40,7 +45,7 @@ gather-requires : tie.Need-gather-requires
 gather-requires c κs =
     let flagged = c .before .before .before in
     let s = start flagged in
-    let below = members-below (s .args .components .now) (s .pre .1 .0 .3 .members-are) in (
+    let below = members-below (s .args .components .now) (scene s .prepared .members-are) in (
       record {
         long = omega (arith, labelled s, below .long);
         below = λ p h. omega (
@@ -72,41 +77,27 @@ whole c = omega (arith, length-append (marks c) (rest c), long c, small (first c
 share-3 : tie.Need-slice-aggregate-flag-outside
 share-3 c = sym (whole (c .before .before))
 
--- the ends of the signal connections have labels
-sources-labelled : (c : tie.Start) → SignalEnds (length (c .args .labels .now)) (c .args .ports .now) (c .args .sources .now)
-sources-labelled c =
-    let p = c .pre .1 .0 .3 in
-    subst (λ (n : ℕ). SignalEnds n (c .args .ports .now) (c .args .sources .now)) (sym (labelled c))
-    (source-ends (c .pre .0 .components .few) (p .tables .source-members) (p .tables .sink-members) (ends-within _ _ (c .pre .0 .ends)) (p .sources-long))
-
-sinks-labelled : (c : tie.Start) → SignalEnds (length (c .args .labels .now)) (c .args .ports .now) (c .args .sinks .now)
-sinks-labelled c =
-    let p = c .pre .1 .0 .3 in
-    subst (λ (n : ℕ). SignalEnds n (c .args .ports .now) (c .args .sinks .now)) (sym (labelled c))
-    (sink-ends (c .pre .0 .components .few) (p .tables .source-members) (p .tables .sink-members) (ends-within _ _ (c .pre .0 .ends)) (p .sinks-long))
-
 labels-below : (c : tie.Start) → Indices (length (c .args .labels .now)) (length (c .args .fed .now)) (c .args .labels .now)
 labels-below c =
-    subst (λ (l : List ℕ). Indices (length l) (length (c .args .fed .now)) l) (sym (c .pre .1 .0 .3 .labels-are))
-    (labels-under (c .args .components .now) (c .args .ports .now) (c .pre .0 .ends) _ (omega (arith, c .pre .0 .components .few, c .pre .1 .1)))
+    subst (λ (l : List ℕ). Indices (length l) (length (c .args .fed .now)) l) (sym (scene c .prepared .labels-are))
+    (labels-under (c .args .components .now) (c .pre .0 .0) (scene c .scene .ends) _ (omega (arith, scene c .scene .components .few, c .pre .1)))
 
 flag-outside-requires : tie.Need-flag-outside-requires
 flag-outside-requires c κs =
     let gathered = c .before .before .before in
-    let s = first gathered in (
-      s .pre .0 .connections,
-      ((sources-labelled s, sinks-labelled s), (omega (arith, whole gathered, small s), (labels-below s, omega (arith, s .pre .1 .1)))),
-    )
+    let s = first gathered in
+    (forward-rows (scene s .scene) (scene s .prepared), (omega (arith, whole gathered, small s), labels-below s))
 
 returns : tie.Need-returns
-returns c =
+returns c ps backward regionOf r =
     let ended = c .before .before in
     let gathered = ended .before .before .before .before in
     let flagged = gathered .before .before .before .before in
     let s = start flagged in
-    let p = s .pre .1 .0 .3 in
-    fed-is (s .pre .0) (p .tables .source-members) (p .tables .sink-members) (p .labels-are) (p .members-are) (rest gathered) (flagged .passive-flags .ensures)
-    (long gathered ∙ labelled s) (gathered-same (labelled s) (gathered .gather .ensures)) (s .pre .1 .1) (ended .flag-outside .ensures)
+    let p = r .prepared in
+    let all = labels-long (r .scene) p in
+    fed-is (r .scene) (p .tables .source-members) (p .tables .sink-members) (p .tables .forward-keys) (p .labels-are) (p .members-are) (rest gathered) (flagged .passive-flags .ensures)
+    (long gathered ∙ all) (gathered-same all (gathered .gather .ensures)) (s .pre .1) (ended .flag-outside .ensures)
 
 pub outside-regions-spec : {M : Type 1} → statement M
 outside-regions-spec =

@@ -1,10 +1,7 @@
 -- `liveness::steps::answer` meets its contract: the sets of the flags, and that of the cyclic regions.
 -- Assumes nothing.
 use borrow.Author.Needs.{needs}
-use mathlib.Core.Path.{_≡_, refl, _∙_}
-use mathlib.Core.Bool.{Bool, _&&_}
-use mathlib.Core.List.{List}
-use Prim.Native.Nat.{ℕ, _≤_}
+use mathlib.Core.Path.{refl}
 use native.Mathlib.Omega.{arith}
 use Rattle.liveness.proofs.Answers.{set-where}
 use Rattle.liveness.proofs.steps.answer.Statement.{statement}
@@ -13,12 +10,12 @@ use Rattle.liveness.proofs.steps.answer.Tie as tie
 -- the lent flags are as many as regions can be
 find-cyclic-requires : tie.Need-find-cyclic-requires
 find-cyclic-requires c κs =
-    let s = c .before .before .before .before .before .before .before in
-    (s .pre .0 .0, (s .pre .0 .1, (s .pre .1 .0 .0, (omega arith, omega arith))))
+    let s = c .before .before .before .before .before .before in
+    (s .pre .0, (s .pre .1 .0 .0, omega arith))
 
 returns : tie.Need-returns
 returns c =
-    let s = c .before .before .before .before .before .before .before .before .before .before .before .before .before .before in
+    let s = c .before .before .before .before .before .before .before .before .before .before .before .before .before in
     record {
       checked-is = refl;
       regions-is = refl;

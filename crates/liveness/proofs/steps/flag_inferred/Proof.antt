@@ -11,35 +11,38 @@ use Rattle.liveness.proofs.steps.flag_inferred.Statement.{statement}
 use Rattle.liveness.proofs.steps.flag_inferred.Tie as tie
 
 abbrev start : tie.After-outside-regions → tie.Start
-start c = c .before .before .before .before .before .before .before .before .before .before .before .before .before
+start c = c .before .before .before .before .before .before .before .before .before .before .before
 
 outside-regions-requires : tie.Need-outside-regions-requires
 outside-regions-requires c κs =
-    let s = c .before .before .before .before .before .before .before .before .before .before .before .before in
-    (s .pre .0, ((s .args .forward .now, s .args .backward .now, s .args .region-at .now, s .pre .1 .0), refl))
+    let s = c .before .before .before .before .before .before .before .before .before .before in
+    ((s .pre .0 .0, s .args .backward .now, s .args .region-at .now, s .pre .0 .1), refl)
 
 infer-requires : tie.Need-infer-requires
 infer-requires c κs =
     let fed = c .before .before .before in
     let s = start fed in
-    let p = s .pre .1 .0 in
+    let scene = s .pre .0 .1 .scene in
+    let p = s .pre .0 .1 .prepared in
     let cs = s .args .components .now in
-    let ps = s .args .ports .now in (
-      (s .pre .0 .components, (forward-rows (s .pre .0) p, backward-rows (s .pre .0) p)),
+    let flags = fed .outside-regions .ensures (s .pre .0 .0) (s .args .backward .now) (s .args .region-at .now) (s .pre .0 .1) in (
+      (scene .components, (forward-rows scene p, backward-rows scene p)),
       (
-        (indices-same (sym (labels-long (s .pre .0) p)) (members-below cs (p .members-are)), s .pre .1 .1 .1),
-        (places-under cs ps (s .pre .0 .ends) _ (omega (arith, s .pre .0 .components .few, s .pre .1 .1 .0)) (p .regions-are), omega (arith, s .pre .1 .1 .0, fed .outside-regions .ensures .long)),
+        (indices-same (sym (labels-long scene p)) (members-below cs (p .members-are)), s .pre .1 .1),
+        (places-under cs (s .pre .0 .0) (scene .ends) _ (omega (arith, scene .components .few, s .pre .1 .0)) (p .regions-are), omega (arith, s .pre .1 .0, flags .long)),
       ),
     )
 
 returns : tie.Need-returns
-returns c fs driven =
+returns c ps fs r driven =
     let called = c .before .before in
     let fed = called .before .before .before .before in
-    let s = start fed in
+    let a = start fed .args in
     record {
       long = called .infer .ensures .long;
-      at = λ q h. called .infer .ensures .at q h ∙ inferred-is (s .pre .0) (s .pre .1 .0) fs driven (fed .outside-regions .ensures) q h;
+      at = λ q h.
+          called .infer .ensures .at q h
+          ∙ inferred-is (r .scene) (r .prepared) fs driven (fed .outside-regions .ensures ps (a .backward .now) (a .region-at .now) r) q h;
     }
 
 pub flag-inferred-spec : {M : Type 1} → statement M

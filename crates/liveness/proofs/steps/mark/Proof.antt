@@ -1,14 +1,13 @@
 -- `liveness::steps::mark` meets its contract: drive sources, inferred inputs, and what they reach.
 -- Assumes nothing.
 use borrow.Author.Needs.{needs}
-use mathlib.Core.Path.{_≡_, sym, ap, _∙_}
+use mathlib.Core.Path.{_≡_, sym, _∙_}
 use mathlib.Core.List.{List}
 use native.Mathlib.Omega.{arith}
 use lib.IntN.{ℤ}
 use lib.ListN.{length}
 use Rattle.lists.specs.Records.{componentCount}
-use Rattle.signals.proofs.Within.{labels-count}
-use Rattle.liveness.specs.Scene.{SceneRegions}
+use Rattle.liveness.proofs.Inferring.{labels-long, regions-of}
 use Rattle.liveness.proofs.steps.mark.Statement.{statement}
 use Rattle.liveness.proofs.steps.mark.Tie as tie
 
@@ -16,63 +15,50 @@ abbrev cs : tie.Start → List ℤ
 cs s = s .args .components .now
 
 abbrev ps : tie.Start → List ℤ
-ps s = s .args .ports .now
+ps s = s .pre .0 .0
 
 flag-drive-requires : tie.Need-flag-drive-requires
 flag-drive-requires c κs =
-    let s = c .before .before .before .before .before .before .before .before .before .before .before .before .before .before .before .before .before in
-    let room = s .pre .1 .1 in
-    ((ps s, (s .pre .0, s .pre .1 .0 .regions-are)), (room .frontier-room, (s .pre .0 .components .few, room .regions-room)))
+    let s = c .before .before .before .before .before .before .before .before .before .before .before .before .before .before .before in
+    let scene = s .pre .0 .1 in
+    let room = s .pre .1 in
+    ((ps s, (scene .scene, scene .prepared .regions-are)), (room .frontier-room, (scene .scene .components .few, room .regions-room)))
 
 flag-inferred-requires : tie.Need-flag-inferred-requires
 flag-inferred-requires c κs =
     let driven = c .before .before .before .before .before .before .before in
-    let s = c .before .before .before .before .before .before .before .before .before .before .before .before .before .before .before .before .before .before .before .before .before .before .before .before .before in
-    let room = s .pre .1 .1 in
-    (s .pre .0, (s .pre .1 .0, (driven .flag-drive .kept .1 .1 .1 .1 .1 .0 ∙ room .regions-room, room .inferred-room)))
-
-regions : (s : tie.Start)
-    → SceneRegions (cs s) (ps s) (s .args .sources .now) (s .args .sinks .now) (s .args .labels .now) (s .args .region-at .now)
-regions s =
-    let p = s .pre .1 .0 in
-    record {
-      scene = s .pre .0;
-      source-members = p .tables .source-members;
-      sink-members = p .tables .sink-members;
-      sources-long = p .sources-long;
-      sinks-long = p .sinks-long;
-      labels-are = p .labels-are;
-      regions-are = p .regions-are;
-    }
+    let s = c .before .before .before .before .before .before .before .before .before .before .before .before .before .before .before .before .before .before .before .before .before .before .before in
+    let room = s .pre .1 in
+    (s .pre .0, (driven .flag-drive .kept .1 .1 .1 .1 .1 .0 ∙ room .regions-room, room .inferred-room))
 
 all : (s : tie.Start) → length (s .args .labels .now) ≡ componentCount (cs s)
-all s = ap length (s .pre .1 .0 .labels-are) ∙ labels-count (cs s) (ps s) (s .pre .0 .ends)
+all s = labels-long (s .pre .0 .1 .scene) (s .pre .0 .1 .prepared)
 
 flag-alive-requires : tie.Need-flag-alive-requires
 flag-alive-requires c κs =
     let inferred = c .before .before .before .before .before .before in
     let driven = c .before .before .before .before .before .before .before .before .before .before .before .before .before .before in
-    let s = c .before .before .before .before .before .before .before .before .before .before .before .before .before .before .before .before .before .before .before .before .before .before .before .before .before .before .before .before .before .before .before .before in
-    let room = s .pre .1 .1 in (
-      (cs s, regions s),
+    let s = c .before .before .before .before .before .before .before .before .before .before .before .before .before .before .before .before .before .before .before .before .before .before .before .before .before .before .before .before .before .before in
+    let room = s .pre .1 in (
+      (cs s, ps s, regions-of (s .pre .0 .1 .scene) (s .pre .0 .1 .prepared)),
       record {
         regions-room = driven .flag-drive .kept .1 .1 .1 .1 .1 .0 ∙ room .regions-room;
-        inferred-room = omega (arith, all s, room .inferred-room, inferred .flag-inferred .kept .1 .1 .1 .1 .1 .1 .1 .1 .1 .1 .0);
+        inferred-room = omega (arith, all s, room .inferred-room, inferred .flag-inferred .kept .1 .1 .1 .1 .1 .1 .1 .0);
         drive-room = room .drive-room ∙ sym (all s);
         potential-room = room .potential-room ∙ sym (all s);
       },
     )
 
 returns : tie.Need-returns
-returns c =
+returns c ps r =
     let alive = c .before .before .before .before in
     let inferred = c .before .before .before .before .before .before .before .before .before .before .before in
     let driven = c .before .before .before .before .before .before .before .before .before .before .before .before .before .before .before .before .before .before .before in
-    let s = c .before .before .before .before .before .before .before .before .before .before .before .before .before .before .before .before .before .before .before .before .before .before .before .before .before .before .before .before .before .before .before .before .before .before .before .before .before in
+    let s = c .before .before .before .before .before .before .before .before .before .before .before .before .before .before .before .before .before .before .before .before .before .before .before .before .before .before .before .before .before .before .before .before .before .before .before in
     let fs = s .args .frontiers .now in
-    let d = driven .flag-drive .ensures (ps s) (s .pre .1 .0 .regions-are) in
-    let i = inferred .flag-inferred .ensures fs (d .region-flags) in
-    let a = alive .flag-alive .ensures (cs s) fs (regions s) (d .region-flags) i in
+    let d = driven .flag-drive .ensures ps (r .prepared .regions-are) in
+    let i = inferred .flag-inferred .ensures ps fs r (d .region-flags) in
+    let a = alive .flag-alive .ensures (cs s) ps fs (regions-of (r .scene) (r .prepared)) (d .region-flags) i in
     record {
       frontier-flags = d .frontier-flags;
       inferred-flags = i;

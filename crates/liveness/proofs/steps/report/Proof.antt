@@ -1,7 +1,7 @@
 -- `liveness::steps::report` meets its contract: marks, then rows, then sets, each by its law.
 -- Assumes nothing.
 use borrow.Author.Needs.{needs}
-use mathlib.Core.Path.{_≡_, sym, ap, _∙_}
+use mathlib.Core.Path.{_≡_, refl, sym, ap, _∙_}
 use mathlib.Core.Bool.{Bool, false}
 use mathlib.Core.List.{List, _++_}
 use Prim.Native.Nat.{ℕ, _*_, _≤_}
@@ -13,20 +13,19 @@ use Rattle.lists.specs.Limits.{componentLimit}
 use Rattle.lists.specs.Records.{componentCount}
 use Rattle.lists.specs.First.{tabulate}
 use Rattle.lists.specs.Slices.{laid}
-use Rattle.regions.specs.Keys.{edges}
 use Rattle.regions.proofs.Fill.{zeros-cleared}
-use Rattle.signals.specs.Signals.{signals}
 use Rattle.signals.specs.Regions.{regionAt, regionsOf}
 use Rattle.signals.specs.Drive.{drive, potential}
 use Rattle.assessment.specs.Verdicts.{sourceRowsBelow}
 use Rattle.assessment.specs.Rows.{sourcesBelow}
-use Rattle.signals.specs.Seen.{SignalEnds}
 use Rattle.signals.specs.Stages.{cyclicAt}
 use Rattle.signals.proofs.Lent.{front, front-long}
 use Rattle.signals.proofs.Ends.{ends-within}
-use Rattle.signals.proofs.Graph.{edges-signals}
-use Rattle.signals.proofs.Staged.{labels-long, labels-below, regions-few, cyclic-is, sink-ends}
+use Rattle.signals.proofs.Staged.{regions-few, cyclic-is}
+use Rattle.signals.proofs.Within.{labels-under}
 use Rattle.assessment.proofs.RowLaws.{sources-are, inferred-alone}
+use Rattle.liveness.specs.Scene.{PreparedScene}
+use Rattle.liveness.proofs.Inferring.{labels-long, forward-rows, graph}
 use Rattle.liveness.proofs.Answers.{set-all, set-where, set-same, tabulated-same}
 use Rattle.liveness.proofs.steps.report.Statement.{statement}
 use Rattle.liveness.proofs.steps.report.Tie as tie
@@ -48,58 +47,54 @@ nodes s = length (s .args .labels .now)
 few : (s : tie.Start) → componentCount (cs s) ≤ componentLimit
 few s = s .pre .0 .components .few
 
-graph : (s : tie.Start) → edges (componentCount (cs s)) (s .args .forward .now) ≡ signals (cs s) (ps s)
-graph s =
-    let t = s .pre .1 .0 .tables in
-    edges-signals (few s) (t .source-members) (t .sink-members) (ends-within (cs s) (ps s) (s .pre .0 .ends)) (t .forward-keys)
-
 all : (s : tie.Start) → nodes s ≡ componentCount (cs s)
-all s = ap length (s .pre .1 .0 .labels-are) ∙ labels-long (cs s) (ps s) (s .args .forward .now) (graph s)
+all s = labels-long (s .pre .0) (s .pre .1 .0)
 
 small : (s : tie.Start) → nodes s ≤ componentLimit
 small s = omega (arith, all s, few s)
 
 count-small : (s : tie.Start) → s .args .count ≤ componentLimit
-count-small s = omega (arith, s .pre .1 .1 .0, regions-few (cs s) (ps s) (s .args .forward .now) (graph s), few s)
+count-small s = omega (arith, s .pre .1 .1 .0, regions-few (cs s) (ps s) (s .args .forward .now) (graph (s .pre .0) (s .pre .1 .0)), few s)
 
 lent : (s : tie.Start) → length (take (nodes s) (replicate componentLimit false)) ≡ nodes s
 lent s = length-take-le _ _ (small s)
 
 -- ---- marks
 
+prepared : (s : tie.Start)
+    → PreparedScene (cs s) (ps s) (s .args .forward .now) (s .args .backward .now) (s .args .labels .now) (s .args .members .now) (s .args .region-at .now)
+prepared s = record { scene = s .pre .0; sources = s .args .source-at .now; sinks = s .args .sink-at .now; prepared = s .pre .1 .0 }
+
 mark-requires : tie.Need-mark-requires
 mark-requires c κs =
     let s = c .before .before .before .before .before .before .before .before .before .before .before .before .before .before .before .before .before .before in (
-      s .pre .0,
-      (
-        s .pre .1 .0,
-        record {
-          frontier-room = few s;
-          inferred-room = few s;
-          regions-room = omega arith;
-          drive-room = lent s ∙ all s;
-          potential-room = lent s ∙ all s;
-        },
-      ),
+      (ps s, prepared s),
+      record {
+        frontier-room = few s;
+        inferred-room = few s;
+        regions-room = omega arith;
+        drive-room = lent s ∙ all s;
+        potential-room = lent s ∙ all s;
+      },
     )
 
 abbrev start : tie.After-mark → tie.Start
 start c = c .before .before .before .before .before .before .before .before .before .before .before .before .before .before .before .before .before .before .before
 
 abbrev driven : tie.After-mark → List Bool
-driven c = c .mark .last .1 .1 .1 .1 .1 .1 .1 .1 .1 .1 .1 .1 .1 .0
+driven c = c .mark .last .1 .1 .1 .1 .1 .1 .1 .1 .1 .1 .0
 
 abbrev possible : tie.After-mark → List Bool
-possible c = c .mark .last .1 .1 .1 .1 .1 .1 .1 .1 .1 .1 .1 .1 .1 .1 .0
+possible c = c .mark .last .1 .1 .1 .1 .1 .1 .1 .1 .1 .1 .1 .0
 
 abbrev rest : tie.After-mark → List Bool
 rest c = drop (nodes (start c)) (replicate componentLimit false)
 
 driven-long : (c : tie.After-mark) → length (driven c) ≡ nodes (start c)
-driven-long c = c .mark .kept .1 .1 .1 .1 .1 .1 .1 .1 .1 .1 .1 .1 .1 .0 ∙ lent (start c)
+driven-long c = c .mark .kept .1 .1 .1 .1 .1 .1 .1 .1 .1 .1 .0 ∙ lent (start c)
 
 possible-long : (c : tie.After-mark) → length (possible c) ≡ nodes (start c)
-possible-long c = c .mark .kept .1 .1 .1 .1 .1 .1 .1 .1 .1 .1 .1 .1 .1 .1 .0 ∙ lent (start c)
+possible-long c = c .mark .kept .1 .1 .1 .1 .1 .1 .1 .1 .1 .1 .1 .0 ∙ lent (start c)
 
 driven-front : (c : tie.After-mark) → take (nodes (start c)) (driven c ++ rest c) ≡ driven c
 driven-front c = front _ (driven c) (rest c) (driven-long c)
@@ -124,7 +119,7 @@ put-sources-requires : tie.Need-put-sources-requires
 put-sources-requires c κs =
     let m = c .before .before .before .before .before .before .before .before .before .before .before .before in
     let s = start m in
-    let e = m .mark .ensures in (
+    let e = m .mark .ensures (ps s) (prepared s) in (
       s .pre .0 .components,
       (
         (e .frontier-flags .long, e .inferred-flags .long),
@@ -144,19 +139,15 @@ write-verdicts-requires c κs =
 
 -- ---- the answer
 
-ends-as : {n m : ℕ} {l : List ℤ} {members : List ℕ} → n ≡ m → SignalEnds m l members → SignalEnds n l members
-ends-as e f = record { long = f .long; below = λ k h i. omega (arith, e, f .below k h i) }
-
 answer-requires : tie.Need-answer-requires
 answer-requires c κs =
     let m = c .before .before .before .before .before .before .before .before .before .before .before .before .before .before .before .before .before .before .before .before .before .before .before .before in
     let s = start m in
-    let p = s .pre .1 .0 in
-    let t = p .tables in (
-      (s .pre .0 .connections, (ends-as (all s) (sink-ends (few s) (t .source-members) (t .sink-members) (ends-within (cs s) (ps s) (s .pre .0 .ends)) (p .sinks-long)), p .sources-long)),
+    let p = s .pre .1 .0 in (
+      forward-rows (s .pre .0) p,
       (
-        (rw (p .labels-are) (labels-below (cs s) (ps s) (s .args .forward .now) (graph s) componentLimit (few s)), (small s, count-small s)),
-        (omega (arith, driven-lent m), (omega (arith, possible-lent m), omega (arith, count-small s, m .mark .kept .1 .1 .1 .1 .1 .1 .1 .1 .1 .1 .1 .1 .0))),
+        (rw (p .labels-are) (labels-under (cs s) (ps s) (s .pre .0 .ends) componentLimit (few s)), (small s, count-small s)),
+        (omega (arith, driven-lent m), (omega (arith, possible-lent m), omega (arith, count-small s, m .mark .kept .1 .1 .1 .1 .1 .1 .1 .1 .1 .0))),
       ),
     )
 
@@ -171,12 +162,12 @@ returns c =
     let p = s .pre .1 .0 in
     let t = p .tables in
     let f = s .pre .1 .0 in
-    let e = m .mark .ensures in
+    let e = m .mark .ensures (ps s) (prepared s) in
     let n = componentCount (cs s) in
     let region-rows : tabulate (λ q. getD (s .args .region-at .now) q 0) (nodes s) ≡ regionsOf (cs s) (ps s) =
     tabulated-same (λ q. getD (s .args .region-at .now) q 0) (regionAt (cs s) (ps s)) (nodes s) (λ q h. p .regions-are .at q (omega (arith, all s)))
     ∙ ap (tabulate (regionAt (cs s) (ps s))) (all s) in
-    let source-rows : sourcesBelow (cs s) (m .mark .last .1 .1 .1 .1 .1 .1 .1 .1 .1 .1 .0) (m .mark .last .1 .1 .1 .1 .1 .1 .1 .1 .1 .1 .1 .0) n ≡ sourceRowsBelow (cs s) (ps s) (fs s) n =
+    let source-rows : sourcesBelow (cs s) (m .mark .last .1 .1 .1 .1 .1 .1 .1 .0) (m .mark .last .1 .1 .1 .1 .1 .1 .1 .1 .0) n ≡ sourceRowsBelow (cs s) (ps s) (fs s) n =
     sources-are (cs s) (ps s) (fs s) (e .frontier-flags) (e .inferred-flags) n (omega arith) in
     let live : take (nodes s) (driven m ++ rest m) ≡ drive (cs s) (ps s) (fs s) = driven-front m ∙ e .drive-is in
     let may : take (nodes s) (possible m ++ rest m) ≡ potential (cs s) (ps s) (fs s) = possible-front m ∙ e .potential-is in
@@ -193,9 +184,10 @@ returns c =
       drive-set = set-all (all s) live (a .drive-set);
       potential-set = set-all (all s) may (a .potential-set);
       cyclic-set = set-same (s .pre .1 .1 .0)
-          (λ r. ap (λ (l : List ℕ). cyclicAt (ps s) (s .args .source-at .now) (s .args .sink-at .now) l r) (p .labels-are)
-          ∙ cyclic-is (cs s) (ps s) (s .args .forward .now) (graph s) (few s) (t .source-members) (t .sink-members) r) (a .cyclic-set);
-      has-drive-set = rw (s .pre .1 .1 .0) at (set-where (count-small s) (a .has-drive-set) (e .region-flags));
+          (λ r. ap (λ (l : List ℕ). cyclicAt (s .args .forward .now) l r) (p .labels-are)
+          ∙ cyclic-is (cs s) (ps s) (s .args .forward .now) (graph (s .pre .0) p) (few s) (t .source-members) (t .sink-members)
+          (ends-within (cs s) (ps s) (s .pre .0 .ends)) (t .forward-keys) r) (a .cyclic-set);
+      has-drive-set = set-same (s .pre .1 .1 .0) (λ r. refl) (set-where (count-small s) (a .has-drive-set) (e .region-flags));
     }
 
 pub report-spec : {M : Type 1} → statement M
