@@ -1,7 +1,7 @@
 -- The ports of a scene, asked by the table of what is upstream of each region.
 --     Sought, sought-..        the two sets by the keys of a slot passed so far
 --     slot-sets                those of all its keys, as an answer
---     pairs-as, rows-as, ..    the table, by equal arrays
+--     rows-as, ..              the table, by equal arrays
 --     port-sets                they are the sets of the slot's port
 -- Assumes nothing.
 use mathlib.Core.Path.{_≡_, refl, sym, ap, subst, _∙_}
@@ -26,8 +26,8 @@ use Rattle.lists.specs.declared.Found.{Found}
 use Rattle.lists.specs.declared.Found.the-variants.{At}
 use Rattle.lists.specs.declared.Checked.the-variants.{Accepted}
 use Rattle.lists.proofs.Search.{never, both}
-use Rattle.regions.specs.Graph.{Edges, Reach, at, marked, flip}
-use Rattle.regions.specs.Carry.{carry, Crossings, CarryLaws}
+use Rattle.regions.specs.Graph.{Reach, at, marked, flip}
+use Rattle.regions.specs.Carry.{carry, CarryLaws}
 use Rattle.regions.proofs.Theorems.{reach-laws}
 use Rattle.regions.proofs.Carried.{carry-laws}
 use Rattle.regions.proofs.Laws.Walks.{Reach·trans, Reach·flip}
@@ -39,7 +39,7 @@ use Rattle.assessment.specs.Upstream.{inRow, UpstreamRows}
 use Rattle.signals.proofs.Tabulated.{tabulated-at}
 use Rattle.lists.proofs.Some.{and-true}
 use Rattle.assessment.proofs.Fed.{here, outside}
-use Rattle.assessment.proofs.Statuses.{same-truth}
+use Rattle.signals.proofs.Tested.{same-truth}
 use Rattle.signals.proofs.Within.{signals-within, scene-regions, labels-count, labels-under}
 use Rattle.liveness.specs.Sets.{SetWhere}
 use Rattle.inputs.specs.Query.{isImmediate, upstream, isInferredFor, rowPlace}
@@ -151,9 +151,6 @@ module _ {keys : List ℕ} {number : ℕ} {labelled rows : List ℕ} {first plac
 -- ---- the table of a prepared scene
 
 -- the same of equal arrays
-pub pairs-as : {edge : Edges} {labelled labelled′ keys : List ℕ} → labelled ≡ labelled′ → Crossings edge labelled keys → Crossings edge labelled′ keys
-pairs-as {edge} {keys = keys} e c = subst (λ (l : List ℕ). Crossings edge l keys) e c
-
 pub rows-as : {keys labelled labelled′ : List ℕ} {flags flags′ : List Bool} {rows : List ℕ} → labelled ≡ labelled′ → flags ≡ flags′
     → UpstreamRows keys labelled flags rows → UpstreamRows keys labelled′ flags′ rows
 rows-as {keys} {labelled} {labelled′} {flags} {flags′} {rows} a b u =

@@ -62,7 +62,8 @@ use Rattle.signals.proofs.Ends.{ends-within, sink-is}
 use Rattle.signals.proofs.Graph.{noSlot, fed-at, edges-back, and-assoc}
 use Rattle.signals.proofs.Marks.{set-marked}
 use Rattle.assessment.proofs.Fed.{here, outside}
-use Rattle.assessment.proofs.Statuses.{same-truth, fed-within}
+use Rattle.signals.proofs.Tested.{same-truth}
+use Rattle.assessment.proofs.Statuses.{fed-within}
 use Rattle.liveness.proofs.Answers.{set-where, set-same, set-below}
 
 -- ---- the keys of a slot

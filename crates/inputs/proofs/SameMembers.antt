@@ -25,7 +25,7 @@ use Rattle.inputs.specs.Query.{isImmediate, upstream, isInferredFor}
 use Rattle.inputs.specs.Same.{SameConnections, SameAnswer}
 use Rattle.lists.proofs.Some.{some-at}
 use Rattle.lists.proofs.Some.{some-found}
-use Rattle.assessment.proofs.Statuses.{same-truth}
+use Rattle.signals.proofs.Tested.{same-truth}
 
 -- ---- a test
 

@@ -37,8 +37,7 @@ use Rattle.inputs.specs.declared.InputSources.{InputSources}
 -- ---- a prepared scene
 
 -- with the flags of the members that are inferred inputs; the stack is zero again
-pub record Inputs (cs ps fs : List ℤ) (sources sinks backward labelled : List ℕ) (inferred : List Bool) (stack : List ℕ) : Type 0 where
-  pub forward : List ℕ
+pub record Inputs (cs ps fs : List ℤ) (sources sinks forward backward labelled : List ℕ) (inferred : List Bool) (stack : List ℕ) : Type 0 where
   pub members : List ℕ
   pub regionOf : List ℕ
   pub prepared : Prepared cs ps sources sinks forward backward labelled members regionOf

@@ -37,7 +37,7 @@ ghost use Rattle.inputs.specs.Inputs.{Ready, SlotSets, PortSets};
 
 // Fills what the ports of an accepted scene are asked by, given its settled ends: its edges by the port that they feed, the regions of its
 // members, and the rows of the inferred inputs upstream of each region, which are empty before. Leaves the stack zero. The
-// edges forward and backward stand where those by port and the pairs of regions are sorted after them.
+// edges forward and backward stand where those by port and the pairs of regions are put after them.
 pub fn make_ready(
     keys: &[u64],
     components: &[i64],
@@ -72,8 +72,8 @@ pub fn make_ready(
         &mut inferred[..n],
         stack,
     );
+    let count = find_crossings(fed, labels, &mut pairs);
     build_fed(ports, source_at, sink_at, fed);
-    let count = find_crossings(ports, source_at, sink_at, labels, &mut pairs);
     upstream_rows(&pairs[..count], labels, &inferred[..n], upstream);
 }
 

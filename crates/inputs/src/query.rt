@@ -43,7 +43,7 @@ ghost use Rattle.signals.specs.Drive.{membersWhere};
 ghost use Rattle.inputs.specs.Query.{rowPlace, InputsBy};
 ghost use Rattle.signals.specs.Flags.{Flags};
 ghost use Rattle.assessment.specs.Rows.{slotFed, SlotWithin};
-ghost use Rattle.liveness.specs.Scene.{Scene, Prepared};
+ghost use Rattle.liveness.specs.Scene.{Scene, PreparedScene};
 ghost use Rattle.inputs.specs.Inputs.{Inputs, InputsRoom, SlotOf, Walkable, UpstreamRoom, UpstreamSet};
 
 // ---- one port
@@ -143,10 +143,7 @@ pub(crate) fn row_sources(
 // Flags the inferred inputs of a prepared scene, by member. The rows are hints.
 pub(crate) fn inferred_members(
     components: &[i64],
-    ports: &[i64],
     frontiers: &[i64],
-    source_at: &[usize],
-    sink_at: &[usize],
     forward: &[u64],
     backward: &[u64],
     labels: &[usize],
@@ -156,10 +153,10 @@ pub(crate) fn inferred_members(
     forward_rows: &[usize; HINTED],
     backward_rows: &[usize; HINTED],
 )
-    requires { ⌜ Scene (now components) (now ports) ⌝ }
-    requires { ⌜ Prepared (now components) (now ports) (now «source_at») (now «sink_at») (now forward) (now backward) (now labels) (now members) (now «region_at») ⌝ }
+    requires { ⌜ ((ps : List ℤ) × PreparedScene (now components) ps (now forward) (now backward) (now labels) (now members) (now «region_at»)) ⌝ }
     requires { ⌜ length (now inferred) ≡ componentCount (now components) ⌝ }
-    ensures { λ _. ⌜ now (inferred .exit) ≡ membersWhere (now (components .entry)) (isInferred (now (components .entry)) (now (ports .entry)) (now (frontiers .entry))) ⌝ }
+    ensures { λ _. ⌜ ((ps : List ℤ) → PreparedScene (now (components .entry)) ps (now (forward .entry)) (now (backward .entry)) (now (labels .entry)) (now (members .entry)) (now («region_at» .entry)) →
+        now (inferred .exit) ≡ membersWhere (now (components .entry)) (isInferred (now (components .entry)) ps (now (frontiers .entry)))) ⌝ }
 {
     let mut on_frontier = [false; COMPONENTS];
     let mut drive_at = [false; COMPONENTS];
@@ -175,9 +172,6 @@ pub(crate) fn inferred_members(
     );
     flag_inferred(
         components,
-        ports,
-        source_at,
-        sink_at,
         forward,
         backward,
         labels,
@@ -212,7 +206,7 @@ pub(crate) fn find_inputs(
 )
     requires { ⌜ Scene (now components) (now ports) × (IdTable (now components) (now keys) × SettledEnds (now components) (now ports) (now «source_at») (now «sink_at»)) ⌝ }
     requires { ⌜ InputsRoom (now components) (now ports) (now forward) (now backward) (now labels) (now inferred) (now stack) ⌝ }
-    ensures { λ _. ⌜ Inputs (now (components .entry)) (now (ports .entry)) (now (frontiers .entry)) (now («source_at» .entry)) (now («sink_at» .entry)) (now (backward .exit)) (now (labels .exit)) (now (inferred .exit)) (now (stack .exit)) ⌝ }
+    ensures { λ _. ⌜ Inputs (now (components .entry)) (now (ports .entry)) (now (frontiers .entry)) (now («source_at» .entry)) (now («sink_at» .entry)) (now (forward .exit)) (now (backward .exit)) (now (labels .exit)) (now (inferred .exit)) (now (stack .exit)) ⌝ }
 {
     let mut members = [0usize; COMPONENTS];
     let mut region_at = [0usize; COMPONENTS];
@@ -235,10 +229,7 @@ pub(crate) fn find_inputs(
     );
     inferred_members(
         components,
-        ports,
         frontiers,
-        source_at,
-        sink_at,
         forward,
         backward,
         labels,

@@ -1,5 +1,5 @@
--- `inputs::asked::make_ready` meets its contract: the scene is prepared, with local arrays for what is not asked later; its edges are sorted
--- by the port that they feed; then the rows are filled along the pairs of regions.
+-- `inputs::asked::make_ready` meets its contract: the scene is prepared, with local arrays for what is not asked later; the pairs of regions
+-- are found, and the edges sorted by the port that they feed; then the rows are filled along the pairs.
 -- Assumes nothing.
 use mathlib.Core.Path.{_≡_, sym, subst, _∙_}
 use mathlib.Core.Bool.{Bool, false}
@@ -13,13 +13,11 @@ use Rattle.lists.specs.Limits.{componentLimit, connectionLimit}
 use Rattle.lists.specs.Records.{componentCount, portCount}
 use Rattle.lists.proofs.Table.{table-long}
 use Rattle.signals.specs.Flags.{Indices}
-use Rattle.signals.specs.Seen.{SignalEnds}
-use Rattle.signals.proofs.Ends.{ends-within}
 use Rattle.signals.proofs.Lent.{front, front-long, front-length}
-use Rattle.signals.proofs.Staged.{source-ends, sink-ends}
 use Rattle.signals.proofs.Within.{labels-under}
+use Rattle.liveness.proofs.Inferring.{regions-of, crossings-of}
 use Rattle.inputs.proofs.Inputs.{fed-scene}
-use Rattle.inputs.proofs.Asking.{pairs-as, rows-as}
+use Rattle.inputs.proofs.Asking.{rows-as}
 use Rattle.inputs.proofs.asked.make_ready.Statement.{statement}
 use Rattle.inputs.proofs.asked.make_ready.Tie as tie
 
@@ -97,17 +95,6 @@ lent-long c =
     let rest : List ℕ = replicate connectionLimit 0 in
     omega (arith, length-append (c .find-inputs .last .1 .1 .1 .1 .1 .1 .1 .0) (drop (edgeCount s) rest), c .find-inputs .kept .1 .1 .1 .1 .1 .1 .1 .0, keys-lent s, edges-few s, length-drop (edgeCount s) rest)
 
-build-fed-requires : tie.Need-build-fed-requires
-build-fed-requires c κs =
-    let s = c .before .before .before .before .before .before .before .before .before .before .before .before .before .before .before .before .before .before .before .before .before .before in
-    let p = c .before .before .before .before .before .before .before .before .before .find-inputs .ensures .prepared in (
-      (s .pre .0 .0 .connections, (cs s, (few s, (p .tables .source-members, p .tables .sink-members)))),
-      (p .sources-long, (p .sinks-long, c .before .before .before .before .before .before .before .before .before .find-inputs .kept .1 .1 .1 .1 .1 .1 .0 ∙ s .pre .1 .0 .0)),
-    )
-
-ends-as : {n m : ℕ} {l : List ℤ} {members : List ℕ} → n ≡ m → SignalEnds m l members → SignalEnds n l members
-ends-as {l = l} {members = members} e f = subst (λ (k : ℕ). SignalEnds k l members) (sym e) f
-
 labels-below : (c : tie.After-find-inputs) → Indices (length (labelled c)) componentLimit (labelled c)
 labels-below c =
     let s = start c in
@@ -116,45 +103,46 @@ labels-below c =
 
 find-crossings-requires : tie.Need-find-crossings-requires
 find-crossings-requires c κs =
+    let f = c .before .before .before .before .before .before .before .before .before .before .before in
+    let r = regions-of (start f .pre .0 .0) (f .find-inputs .ensures .prepared) in
+    ((r .rows, (omega (arith, r .few, lent-long f), r .few)), labels-below f)
+
+build-fed-requires : tie.Need-build-fed-requires
+build-fed-requires c κs =
     let f = c .before .before .before .before .before .before .before .before .before .before .before .before .before .before in
-    let s = c .before .before .before .before .before .before .before .before .before .before .before .before .before .before .before .before .before .before .before .before .before .before .before .before .before .before .before in
-    let p = f .find-inputs .ensures .prepared in
-    let t = p .tables in
-    let ends = ends-within (cs s) (ps s) (s .pre .0 .0 .ends) in (
-      (s .pre .0 .0 .connections, omega (arith, edges-few s, lent-long f)),
-      (
-        (
-          ends-as (labels-long f) (source-ends (few s) (t .source-members) (t .sink-members) ends (p .sources-long)),
-          ends-as (labels-long f) (sink-ends (few s) (t .source-members) (t .sink-members) ends (p .sinks-long)),
-        ),
-        labels-below f,
-      ),
+    let s = start f in
+    let p = f .find-inputs .ensures .prepared in (
+      (s .pre .0 .0 .connections, (cs s, (few s, (p .tables .source-members, p .tables .sink-members)))),
+      (p .sources-long, (p .sinks-long, f .find-inputs .kept .1 .1 .1 .1 .1 .1 .0 ∙ s .pre .1 .0 .0)),
     )
 
 upstream-rows-requires : tie.Need-upstream-rows-requires
 upstream-rows-requires c κs =
-    let f = c .before .before .before .before .before .before .before .before .before .before .before .before .before .before .before .before .before .before .before .before in
-    let s = c .before .before .before .before .before .before .before .before .before .before .before .before .before .before .before .before .before .before .before .before .before .before .before .before .before .before .before .before .before .before .before .before .before in (
+    let f = c .before .before .before .before .before .before .before .before .before .before .before .before .before .before .before .before .before .before .before .before .before in
+    let s = start f in (
       (
         labels-below f,
         (omega (arith, labels-long f, few s), omega (arith, labels-long f, all s, front-length _ (flags f) (flags-rest f) (flags-long f))),
       ),
-      (c .before .before .before .before .before .find-crossings .ensures .below, s .pre .1 .1),
+      (c .before .before .before .before .before .before .before .before .before .find-crossings .ensures .below, s .pre .1 .1),
     )
+
+abbrev found : tie.After-slice-known9 → tie.After-find-inputs
+found c = c .before .before .before .before .before .before .before .before .before .before .before .before .before .before .before .before .before .before .before .before .before .before .before .before
 
 returns : tie.Need-returns
 returns c =
-    let f = c .before .before .before .before .before .before .before .before .before .before .before .before .before .before .before .before .before .before .before .before .before .before .before in
-    let s = c .before .before .before .before .before .before .before .before .before .before .before .before .before .before .before .before .before .before .before .before .before .before .before .before .before .before .before .before .before .before .before .before .before .before .before .before in
+    let f = found c in
+    let s = start f in
     let e = f .find-inputs .ensures in
     let p = e .prepared in
-    let crossed = c .before .before .before .before .before .before .before .before .find-crossings in
+    let crossed = c .before .before .before .before .before .before .before .before .before .before .before .before .find-crossings in
     let up = c .before .before .upstream-rows in (
       record {
-        fed-scene = fed-scene (s .pre .0 .0) p (c .before .before .before .before .before .before .before .before .before .before .before .before .before .build-fed .ensures);
+        fed-scene = fed-scene (s .pre .0 .0) p (c .before .before .before .before .before .before .before .before .before .build-fed .ensures);
         labels-are = p .labels-are;
-        keys = take (crossed .result) (crossed .last .1 .1 .1 .1 .0);
-        pairs = pairs-as (p .labels-are) (crossed .ensures .pairs (cs s) (p .tables .source-members) (p .tables .sink-members));
+        keys = take (crossed .result) (crossed .last .1 .1 .0);
+        pairs = crossings-of (regions-of (s .pre .0 .0) p) (crossed .ensures .pairs);
         rows = rows-as (p .labels-are) (front _ (flags f) (flags-rest f) (flags-long f) ∙ e .inferred-are) (up .ensures);
         rows-long = up .kept .1 .1 .1 .0 ∙ s .pre .1 .1 .0;
       },
@@ -170,16 +158,16 @@ make-ready-spec =
     (λ c. nodes-few (c .before .before .before .before .before .before .before .before .before .before))
     (λ c. sym (flags-lent (c .before .before .before .before .before .before .before .before .before .before .before)))
     find-inputs-requires
-    build-fed-requires
-    (λ c. sym (lent-long (c .before .before .before .before .before .before .before .before .before .before .before .before .before .before)))
+    (λ c. sym (lent-long (c .before .before .before .before .before .before .before .before .before .before .before)))
     find-crossings-requires
-    (λ c. c .before .find-crossings .ensures .few)
-    (λ c. sym (length-take-le _ _ (c .before .before .find-crossings .ensures .few)))
-    (λ c. let f = c .before .before .before .before .before .before .before .before .before .before .before .before .before .before .before .before .before .before in front-long _ (flags f) (flags-rest f) (flags-long f))
-    (λ c. let f = c .before .before .before .before .before .before .before .before .before .before .before .before .before .before .before .before .before .before .before in front-length _ (flags f) (flags-rest f) (flags-long f))
+    build-fed-requires
+    (λ c. c .before .before .before .before .before .find-crossings .ensures .few)
+    (λ c. sym (length-take-le _ _ (c .before .before .before .before .before .before .find-crossings .ensures .few)))
+    (λ c. let f = c .before .before .before .before .before .before .before .before .before .before .before .before .before .before .before .before .before .before .before in front-long _ (flags f) (flags-rest f) (flags-long f))
+    (λ c. let f = c .before .before .before .before .before .before .before .before .before .before .before .before .before .before .before .before .before .before .before .before in front-length _ (flags f) (flags-rest f) (flags-long f))
     upstream-rows-requires
-    (λ c. c .before .before .before .before .before .before .before .before .before .before .before .before .before .build-fed .kept .1 .1 .1 .0 ∙ c .before .before .before .before .before .before .before .before .before .before .before .before .before .before .before .before .before .before .before .before .before .before .before .find-inputs .kept .1 .1 .1 .1 .1 .1 .0)
-    (λ c. c .before .before .before .before .before .before .before .before .before .before .before .before .before .before .before .before .before .before .before .before .before .before .before .find-inputs .kept .1 .1 .1 .1 .1 .1 .1 .1 .0)
+    (λ c. c .before .before .before .before .before .before .before .before .before .build-fed .kept .1 .1 .1 .0 ∙ found c .find-inputs .kept .1 .1 .1 .1 .1 .1 .0)
+    (λ c. found c .find-inputs .kept .1 .1 .1 .1 .1 .1 .1 .1 .0)
     (λ c. c .before .before .upstream-rows .kept .1 .1 .1 .0)
-    (λ c. c .before .before .before .before .before .before .before .before .before .before .before .before .before .before .before .before .before .before .before .before .before .before .before .find-inputs .kept .1 .1 .1 .1 .1 .1 .1 .1 .1 .1 .0)
+    (λ c. found c .find-inputs .kept .1 .1 .1 .1 .1 .1 .1 .1 .1 .1 .0)
     returns)

@@ -2,6 +2,9 @@
 -- inputs are flagged.
 -- Assumes nothing.
 use borrow.Author.Needs.{needs}
+use mathlib.Core.List.{List}
+use Prim.Native.Nat.{ℕ}
+use Rattle.liveness.specs.Scene.{Prepared, PreparedScene}
 use Rattle.inputs.proofs.query.find_inputs.Statement.{statement}
 use Rattle.inputs.proofs.query.find_inputs.Tie as tie
 
@@ -20,20 +23,25 @@ prepare-requires c κs =
       },
     )
 
+scene : (s : tie.Start) {forward backward labelled members regionOf : List ℕ}
+    → Prepared (s .args .components .now) (s .args .ports .now) (s .args .source-at .now) (s .args .sink-at .now) forward backward labelled members regionOf
+    → PreparedScene (s .args .components .now) (s .args .ports .now) forward backward labelled members regionOf
+scene s p = record { scene = s .pre .0 .0; sources = s .args .source-at .now; sinks = s .args .sink-at .now; prepared = p }
+
 inferred-members-requires : tie.Need-inferred-members-requires
 inferred-members-requires c κs =
     let s = c .before .before .before .before .before .before .before .before .before .before .before .before .before .before .before .before .before .before .before .before .before .before .before .before .before .before .before .before .before .before .before .before .before .before .before in
-    (s .pre .0 .0, (c .before .before .before .before .before .before .before .before .before .before .before .before .before .before .before .before .before .before .prepare .ensures .prepared, s .pre .1 .inferred-room))
+    ((s .args .ports .now, scene s (c .before .before .before .before .before .before .before .before .before .before .before .before .before .before .before .before .before .before .prepare .ensures .prepared)), s .pre .1 .inferred-room)
 
 returns : tie.Need-returns
 returns c =
     let p = c .before .before .before .before .before .before .before .before .before .before .before .before .before .before .before .before .before .before .before .before .before .prepare in
+    let s = c .before .before .before .before .before .before .before .before .before .before .before .before .before .before .before .before .before .before .before .before .before .before .before .before .before .before .before .before .before .before .before .before .before .before .before .before .before .before in
     record {
-      forward = p .last .1 .1 .1 .1 .1 .0;
       members = p .last .1 .1 .1 .1 .1 .1 .1 .1 .0;
       regionOf = p .last .1 .1 .1 .1 .1 .1 .1 .1 .1 .0;
       prepared = p .ensures .prepared;
-      inferred-are = c .before .before .inferred-members .ensures;
+      inferred-are = c .before .before .inferred-members .ensures (s .args .ports .now) (scene s (p .ensures .prepared));
       stack-zeros = p .ensures .stack-zeros;
     }
 
@@ -50,6 +58,6 @@ find-inputs-spec =
     (λ c. c .before .before .before .before .before .before .before .before .before .before .before .before .before .before .before .before .before .before .before .before .before .prepare .kept .1 .1 .1 .1 .1 .0)
     (λ c. c .before .before .before .before .before .before .before .before .before .before .before .before .before .before .before .before .before .before .before .before .before .prepare .kept .1 .1 .1 .1 .1 .1 .0)
     (λ c. c .before .before .before .before .before .before .before .before .before .before .before .before .before .before .before .before .before .before .before .before .before .prepare .kept .1 .1 .1 .1 .1 .1 .1 .0)
-    (λ c. c .before .before .inferred-members .kept .1 .1 .1 .1 .1 .1 .1 .1 .1 .1 .0)
+    (λ c. c .before .before .inferred-members .kept .1 .1 .1 .1 .1 .1 .1 .0)
     (λ c. c .before .before .before .before .before .before .before .before .before .before .before .before .before .before .before .before .before .before .before .before .before .prepare .kept .1 .1 .1 .1 .1 .1 .1 .1 .1 .1 .0)
     returns)

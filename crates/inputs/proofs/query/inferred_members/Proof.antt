@@ -13,34 +13,31 @@ use Rattle.inputs.proofs.query.inferred_members.Tie as tie
 abbrev cs : tie.Start → List ℤ
 cs s = s .args .components .now
 
-abbrev ps : tie.Start → List ℤ
-ps s = s .args .ports .now
-
 flag-drive-requires : tie.Need-flag-drive-requires
 flag-drive-requires c κs =
-    let s = c .before .before .before .before .before .before .before .before .before .before .before in
-    let few = s .pre .0 .components .few in
-    ((ps s, (s .pre .0, s .pre .1 .0 .regions-are)), (few, (few, omega arith)))
+    let s = c .before .before .before .before .before .before .before .before .before in
+    let scene = s .pre .0 .1 in
+    let few = scene .scene .components .few in
+    ((s .pre .0 .0, (scene .scene, scene .prepared .regions-are)), (few, (few, omega arith)))
 
 flag-inferred-requires : tie.Need-flag-inferred-requires
 flag-inferred-requires c κs =
-    let s = c .before .before .before .before .before .before .before .before .before .before .before .before .before .before .before .before .before .before .before in
-    (s .pre .0, (s .pre .1 .0, (c .before .before .before .before .before .before .before .flag-drive .kept .1 .1 .1 .1 .1 .0, s .pre .0 .components .few)))
+    let s = c .before .before .before .before .before .before .before .before .before .before .before .before .before .before .before .before .before in
+    (s .pre .0, (c .before .before .before .before .before .before .before .flag-drive .kept .1 .1 .1 .1 .1 .0, s .pre .0 .1 .scene .components .few))
 
 gather-requires : tie.Need-gather-requires
 gather-requires c κs =
-    let s = c .before .before .before .before .before .before .before .before .before .before .before .before .before .before .before .before .before .before .before .before .before .before .before in
-    let room = s .pre .1 .1 in
-    (indices-same (sym room) (members-below (cs s) (s .pre .1 .0 .members-are)), omega (arith, s .pre .0 .components .few, c .before .before .before .flag-inferred .kept .1 .1 .1 .1 .1 .1 .1 .1 .1 .1 .0))
+    let s = c .before .before .before .before .before .before .before .before .before .before .before .before .before .before .before .before .before .before .before .before .before in
+    let scene = s .pre .0 .1 in
+    (indices-same (sym (s .pre .1)) (members-below (cs s) (scene .prepared .members-are)), omega (arith, scene .scene .components .few, c .before .before .before .flag-inferred .kept .1 .1 .1 .1 .1 .1 .1 .0))
 
 returns : tie.Need-returns
-returns c =
+returns c ps r =
     let gathered = c .before .before in
-    let s = c .before .before .before .before .before .before .before .before .before .before .before .before .before .before .before .before .before .before .before .before .before .before .before .before .before .before in
-    let prepared = s .pre .1 .0 in
-    let d = c .before .before .before .before .before .before .before .before .before .before .before .before .before .before .flag-drive .ensures (ps s) (prepared .regions-are) in
-    let i = c .before .before .before .before .before .before .flag-inferred .ensures (s .args .frontiers .now) (d .region-flags) in
-    marks-are (cs s) (prepared .members-are) i (gathered .gather .kept .1 .1 .1 .0 ∙ s .pre .1 .1) (gathered .gather .ensures)
+    let s = c .before .before .before .before .before .before .before .before .before .before .before .before .before .before .before .before .before .before .before .before .before .before .before .before in
+    let d = c .before .before .before .before .before .before .before .before .before .before .before .before .before .before .flag-drive .ensures ps (r .prepared .regions-are) in
+    let i = c .before .before .before .before .before .before .flag-inferred .ensures ps (s .args .frontiers .now) r (d .region-flags) in
+    marks-are (cs s) (r .prepared .members-are) i (gathered .gather .kept .1 .1 .1 .0 ∙ s .pre .1) (gathered .gather .ensures)
 
 pub inferred-members-spec : {M : Type 1} → statement M
 inferred-members-spec =
