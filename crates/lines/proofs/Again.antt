@@ -5,18 +5,18 @@
 --     number-within, minus-accepted, plain-accepted, minus-some   an accepted number, by its sign
 --     key-passed           behind the key of an accepted line comes its number
 -- Assumes nothing.
-use Prim.Native.Nat.{ℕ, suc, _+_, _-_, _*_, _≤_, _<_}
+use Prim.Native.Nat.{ℕ, _+_, _-_, _*_, _≤_, _<_}
 use native.Mathlib.Omega.{arith}
 use mathlib.Core.Path.{_≡_, sym, ap, subst, _∙_}
 use mathlib.Core.Logic.{⊎-elim}
 use mathlib.Core.List.{List, [], _∷_}
-use lib.ListN.{length, drop, drop-of-length-le}
+use lib.ListN.{length, drop, drop-of-length-le, length-append}
 use borrow.Author.Tests.{eq-eqb, ne-eqb}
 use Rattle.lines.specs.Decimal.{limit}
 use Rattle.lines.specs.Line.{Taken, taken, refused, Accepted, readDigits, readEnd, readMagnitude, positive, negative, readNumber, readLine}
 use Rattle.lines.proofs.Digits.{below-or}
-use Rattle.lines.proofs.Reading.{digit-low, digit-high, digits-feed, digits-more, magnitude-zero, magnitude-other, magnitude-digit}
-use Rattle.lines.proofs.Grammar.{same-or, feed, more, stop, step}
+use Rattle.lines.proofs.Reading.{digit-low, digit-high, digits-feed, digits-more, magnitude-zero, magnitude-other, magnitude-digit, there, missing, keyed}
+use Rattle.lines.proofs.Grammar.{same-or, feed, more, stop, step, key-sound}
 
 pub digits-within : (v i : ℕ) (text : List ℕ) → Accepted (readDigits v (drop i text)) → i < length text
 unfolding readDigits
@@ -96,16 +96,8 @@ module _ (b : ℕ) (bs : List ℕ) (a : Accepted (readNumber (b ∷ bs))) where
 -- ---- a line
 
 pub key-passed : (key s : List ℕ) → Accepted (readLine key s) → (length key < length s) × (readLine key s ≡ readNumber (drop (length key + 1) s))
-unfolding readLine
-key-passed [] [] a = absurd a
-key-passed [] (b ∷ bs) a =
-    ⊎-elim (λ e. (omega arith, rw (eq-eqb b 61 e))) (λ n. absurd (rw (ne-eqb b 61 n) at a)) (same-or b 61)
-key-passed (k ∷ ks) [] a = absurd a
-key-passed (k ∷ ks) (b ∷ bs) a =
-    ⊎-elim
-    (λ e.
-    let (l, q) = key-passed ks bs (rw (eq-eqb b k e) at a) in
-    let d : length (k ∷ ks) + 1 ≡ suc (length ks + 1) = omega arith in
-    (omega arith, rw (eq-eqb b k e, d) q))
-    (λ n. absurd (rw (ne-eqb b k n) at a))
-    (same-or b k)
+key-passed key s a =
+    elim (keyed key s) [
+      | there h q ↦ (omega (arith, simp length-append at (ap length (key-sound key s h))), q)
+      | missing h q ↦ absurd (subst Accepted q a)
+    ]

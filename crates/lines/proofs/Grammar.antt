@@ -2,16 +2,19 @@
 -- line. So the accepted text of a number is unique, and so is the number of an accepted text. Assumes nothing.
 use Prim.Native.Nat.{ℕ, zero, suc, _+_, _-_, _*_, _/_, _%_, _^_, _≤_, _<_}
 use native.Mathlib.Omega.{arith}
-use mathlib.Core.Path.{_≡_, refl, sym, ap, _∙_}
+use mathlib.Core.Path.{_≡_, refl, sym, ap, ap₂, _∙_}
+use mathlib.Core.Bool.{true, false≢true}
 use mathlib.Core.Logic.{_⊎_, inl, inr, ⊎-elim}
 use mathlib.Core.List.{List, [], _∷_, _++_, append-assoc}
 use lib.Dec.{lit<}
 use lib.IntN.{ℤ, pos, negsuc}
-use borrow.Author.Tests.{eq-eqb, ne-eqb}
+use lib.ListN.{length, drop}
+use lib.Seq.{drop-append-add}
+use borrow.Author.Tests.{eq-eqb, ne-eqb, eqb-true}
 use Rattle.lines.specs.Decimal.{limit, InRange, digitsThen, digits, number, lineOf}
-use Rattle.lines.specs.Line.{Taken, taken, refused, readDigits, readEnd, readMagnitude, positive, negative, readNumber, readLine}
+use Rattle.lines.specs.Line.{Taken, taken, refused, readDigits, readEnd, readMagnitude, positive, negative, readNumber, hasKey, readLine}
 use Rattle.lines.proofs.Digits.{below-or, tens, digits-last, digits-turn, digits-snoc, digits-append, digits-head}
-use Rattle.lines.proofs.Reading.{digit-yes, digit-low, digit-high, digits-feed, digits-other, digits-large, digits-more}
+use Rattle.lines.proofs.Reading.{digit-yes, digit-low, digit-high, digits-feed, digits-other, digits-large, digits-more, there, missing, keyed}
 
 pub same-or : (a b : ℕ) → (a ≡ b) ⊎ (a ≡ b → ⊥)
 same-or a b = ⊎-elim (λ l. inr (λ e. omega arith)) (λ g. ⊎-elim (λ l. inr (λ e. omega arith)) (λ h. inl (omega arith)) (below-or b a)) (below-or a b)
@@ -115,20 +118,27 @@ number-sound (b ∷ bs) z r e =
     rw (p .2) m)
     (same-or b 45)
 
-line-sound : (key s : List ℕ) (z : ℤ) (r : List ℕ) → readLine key s ≡ taken z r → InRange z × (s ≡ key ++ 61 ∷ number z (10 ∷ r))
-unfolding readLine
-line-sound [] [] z r e = clash e
-line-sound [] (b ∷ bs) z r e =
+pub key-sound : (key s : List ℕ) → hasKey key s ≡ true → s ≡ key ++ 61 ∷ drop (length key + 1) s
+unfolding hasKey
+key-sound [] [] e = absurd (false≢true e)
+key-sound [] (b ∷ bs) e = ap (λ (c : ℕ). c ∷ bs) (eqb-true b 61 e)
+key-sound (k ∷ ks) [] e = absurd (false≢true e)
+key-sound (k ∷ ks) (b ∷ bs) e =
     ⊎-elim
-    (λ h. let p = number-sound bs z r (rw (eq-eqb b 61 h) at e) in (p .0, cc))
-    (λ n. clash (rw (ne-eqb b 61 n) at e))
-    (same-or b 61)
-line-sound (k ∷ ks) [] z r e = clash e
-line-sound (k ∷ ks) (b ∷ bs) z r e =
-    ⊎-elim
-    (λ h. let p = line-sound ks bs z r (rw (eq-eqb b k h) at e) in (p .0, cc))
-    (λ n. clash (rw (ne-eqb b k n) at e))
+    (λ h.
+    let d : length (k ∷ ks) + 1 ≡ suc (length ks + 1) = omega arith in
+    rw d (ap₂ _∷_ h (key-sound ks bs (rw (eq-eqb b k h) at e))))
+    (λ n. absurd (false≢true (rw (ne-eqb b k n) at e)))
     (same-or b k)
+
+line-sound : (key s : List ℕ) (z : ℤ) (r : List ℕ) → readLine key s ≡ taken z r → InRange z × (s ≡ key ++ 61 ∷ number z (10 ∷ r))
+line-sound key s z r e =
+    elim (keyed key s) [
+      | there h q ↦
+          let p = number-sound (drop (length key + 1) s) z r (sym q ∙ e) in
+          (p .0, key-sound key s h ∙ ap (λ (t : List ℕ). key ++ 61 ∷ t) (p .1))
+      | missing h q ↦ clash (sym q ∙ e)
+    ]
 
 -- ---- what is written is accepted
 
@@ -166,10 +176,16 @@ number-complete (pos n) r l =
     rw (d .3, ne-eqb (d .0) 45 (λ e. omega (arith, d .2)), m)
 number-complete (negsuc n) r l = rw (magnitude-read (suc n) r l)
 
+key-complete : (key r : List ℕ) → hasKey key (key ++ 61 ∷ r) ≡ true
+unfolding hasKey
+key-complete [] r = refl
+key-complete (k ∷ ks) r = rw (eq-eqb k k refl) (key-complete ks r)
+
 line-complete : (key : List ℕ) (z : ℤ) (r : List ℕ) → InRange z → readLine key (key ++ 61 ∷ number z (10 ∷ r)) ≡ taken z r
 unfolding readLine
-line-complete [] z r l = number-complete z r l
-line-complete (k ∷ ks) z r l = rw (eq-eqb k k refl) (line-complete ks z r l)
+line-complete key z r l =
+    let t = number z (10 ∷ r) in
+    rw (key-complete key t, drop-append-add key (61 ∷ t) 1) (number-complete z r l)
 
 -- ---- the two directions
 

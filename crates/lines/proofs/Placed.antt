@@ -9,9 +9,11 @@ use mir.Syntax.{w64}
 use mir.Val.{SFits}
 use lib.Seq.{drop-drop, drop-append-seam}
 use Rattle.lines.specs.Decimal.{limit, InRange, number, lineOf}
-use Rattle.lines.specs.Line.{Taken, taken, refused, readMagnitude, positive, negative, numberIn, lineIn, readLine}
+use Rattle.lines.specs.Line.{Taken, taken, refused, readMagnitude, positive, negative, numberIn, lineIn, readNumber, readLine, afterKey}
 use Rattle.lines.specs.declared.read.Line.the-variants.{Value, Bad}
 use Rattle.lines.specs.declared.read.Number.the-variants.{Is, Not}
+use Rattle.lines.specs.declared.read.Skip.the-variants.{To, No}
+use Rattle.lines.proofs.Reading.{there, missing, keyed}
 use Rattle.lines.proofs.Grammar.{magnitude-sound, read-write, write-read}
 
 pub number-taken : (n : ℕ) (q : Taken ℕ) (m p : ℕ) → numberIn n q ≡ Is m p → (r : List ℕ) × (q ≡ taken m r) × (n - length r ≡ p)
@@ -82,3 +84,28 @@ module _ (text : List ℕ) (at : ℕ) (key : List ℕ) (z : ℤ) where
 pub line-refused : (n : ℕ) (q : Taken ℤ) → lineIn n q ≡ Bad → q ≡ refused
 line-refused n (taken z r) e = cc
 line-refused n refused e = refl
+
+-- ---- a key at a position of a text
+
+module _ (text : List ℕ) (at : ℕ) (key : List ℕ) where
+  -- from the position that is answered the line's number is read
+  pub key-after : (p : ℕ) → afterKey text at key ≡ To p → readLine key (drop at text) ≡ readNumber (drop p text)
+  key-after p e =
+      elim (keyed key (drop at text)) [
+        | there h q ↦
+            let e′ : To (at + length key + 1) ≡ To p = rw h at e in
+            let l′ : at + length key + 1 ≡ p = cc in
+            let l : at + (length key + 1) ≡ p = omega arith in
+            q ∙ ap readNumber (drop-drop (length key + 1) at text ∙ ap (λ (n : ℕ). drop n text) l)
+        | missing h q ↦ let e′ : No ≡ To p = rw h at e in let z : _≡_ {A = ℕ} 0 1 = cc in absurd (omega arith)
+      ]
+
+  -- and a line without its key is refused
+  pub key-missing : afterKey text at key ≡ No → readLine key (drop at text) ≡ refused
+  key-missing e =
+      elim (keyed key (drop at text)) [
+        | there h q ↦
+            let e′ : To (at + length key + 1) ≡ No = rw h at e in
+            let z : _≡_ {A = ℕ} 0 1 = cc in absurd (omega arith)
+        | missing h q ↦ q
+      ]

@@ -3,15 +3,14 @@ use Prim.Native.Nat.{ℕ, _+_, _-_, _*_, _≤_, _<_}
 use native.Mathlib.Numerals.{add-one}
 use native.Mathlib.Omega.{arith}
 use mathlib.Core.Path.{_≡_, refl}
-use mathlib.Core.Bool.{Bool, true, false, cond, _&&_}
+use mathlib.Core.Bool.{Bool, true, false, _&&_}
 use mathlib.Core.List.{List, [], _∷_}
 use lib.ListN.{length, getD, drop, length-drop}
 use lib.Seq.{drop-cons}
 use lib.Dec.{leb, eqb}
 use borrow.Author.Tests.{eq-eqb, ne-eqb, le-leb, lt-leb}
 use Rattle.lines.specs.Decimal.{limit}
-use lib.IntN.{ℤ}
-use Rattle.lines.specs.Line.{Taken, taken, refused, isDigit, readDigits, readEnd, readMagnitude, readLine}
+use Rattle.lines.specs.Line.{taken, refused, isDigit, readDigits, readEnd, readMagnitude, readNumber, hasKey, readLine}
 
 -- ---- positions
 
@@ -74,13 +73,22 @@ module _ (b : ℕ) (bs : List ℕ) where
 -- ---- keys
 
 -- a text that is no longer than the key has no room for its `=`
-pub key-long : (key s : List ℕ) → length s ≤ length key → readLine key s ≡ refused
-unfolding readLine
+pub key-long : (key s : List ℕ) → length s ≤ length key → hasKey key s ≡ false
+unfolding hasKey
 key-long [] [] h = refl
 key-long [] (b ∷ bs) h = absurd (omega arith)
 key-long (k ∷ ks) [] h = refl
-key-long (k ∷ ks) (b ∷ bs) h = rw (key-long ks bs (omega arith)) (cond-same (eqb b k))
+key-long (k ∷ ks) (b ∷ bs) h = rw (key-long ks bs (omega arith)) (and-false (eqb b k))
+
+-- behind a key and its `=` comes the line's number; where they are missing, the line is refused
+pub data Keyed (key s : List ℕ) : Type 0 where
+  there : hasKey key s ≡ true → readLine key s ≡ readNumber (drop (length key + 1) s) → Keyed key s
+  missing : hasKey key s ≡ false → readLine key s ≡ refused → Keyed key s
+
+pub keyed : (key s : List ℕ) → Keyed key s
+unfolding readLine
+keyed key s = go (hasKey key s) refl
   where
-    cond-same : (t : Bool) → cond {A = Taken ℤ} t refused refused ≡ refused
-    cond-same true = refl
-    cond-same false = refl
+    go : (t : Bool) → hasKey key s ≡ t → Keyed key s
+    go true e = there e (rw e)
+    go false e = missing e (rw e)

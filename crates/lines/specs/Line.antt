@@ -2,9 +2,8 @@
 -- only on a nonzero number, magnitude at most 4,294,967,295"): what is taken off the front of a text, and the text that is left.
 -- The bytes: 10 LF, 45 minus, 48 to 57 the digits, 61 the sign `=`.
 -- Assumes nothing: these are definitions.
-use Prim.Native.Nat.{ℕ, zero, suc, _+_, _-_, _*_, _≤_}
-use mathlib.Core.Path.{_≡_}
-use mathlib.Core.Bool.{Bool, cond, _&&_}
+use Prim.Native.Nat.{ℕ, zero, suc, _+_, _-_, _*_}
+use mathlib.Core.Bool.{Bool, false, cond, _&&_}
 use mathlib.Core.List.{List, [], _∷_}
 use lib.Dec.{leb, eqb}
 use lib.IntN.{ℤ, pos, negsuc}
@@ -62,12 +61,16 @@ unfoldable pub readNumber : List ℕ → Taken ℤ
 readNumber [] = refused
 readNumber (b ∷ bs) = cond (eqb b 45) (negative (readMagnitude bs)) (positive (readMagnitude (b ∷ bs)))
 
+-- a text begins with the key and then `=`
+unfoldable pub hasKey : List ℕ → List ℕ → Bool
+hasKey [] [] = false
+hasKey [] (b ∷ bs) = eqb b 61
+hasKey (k ∷ ks) [] = false
+hasKey (k ∷ ks) (b ∷ bs) = eqb b k && hasKey ks bs
+
 -- the line of a key
 unfoldable pub readLine : List ℕ → List ℕ → Taken ℤ
-readLine [] [] = refused
-readLine [] (b ∷ bs) = cond (eqb b 61) (readNumber bs) refused
-readLine (k ∷ ks) [] = refused
-readLine (k ∷ ks) (b ∷ bs) = let more = readLine ks bs in cond (eqb b k) more refused
+readLine key s = cond (hasKey key s) (readNumber (drop (length key + 1) s)) refused
 
 -- a count is not negative
 abbrev pub natural : Taken ℤ → Taken ℕ
@@ -84,7 +87,6 @@ abbrev pub lineIn : ℕ → Taken ℤ → Line
 lineIn n (taken z r) = Value z (n - length r)
 lineIn n refused = Bad
 
--- where `skip_key` answers To p, a number is read from p on; where it answers No, the line is refused
-abbrev pub Skipped : List ℕ → ℕ → List ℕ → Skip → Type 0
-Skipped text at key (To p) = (p ≤ length text) × (readLine key (drop at text) ≡ readNumber (drop p text))
-Skipped text at key No = readLine key (drop at text) ≡ refused
+-- the position after the `=` of a key that stands at a position of the text
+abbrev pub afterKey : List ℕ → ℕ → List ℕ → Skip
+afterKey text at key = cond (hasKey key (drop at text)) (To (at + length key + 1)) No

@@ -4,7 +4,7 @@ ghost use Prim.Native.Nat.{_≤_};
 ghost use lib.ListN.{length, drop};
 ghost use lib.IntN.{pos, negℤ};
 ghost use Rattle.lines.specs.Decimal.{limit};
-ghost use Rattle.lines.specs.Line.{readDigits, readMagnitude, readNumber, readLine, natural, numberIn, lineIn, Skipped};
+ghost use Rattle.lines.specs.Line.{readDigits, readMagnitude, readNumber, readLine, natural, numberIn, lineIn, afterKey};
 
 // The largest magnitude of a number.
 const LARGEST: u64 = 4294967295;
@@ -126,7 +126,7 @@ pub fn read_number(text: &[u8], at: usize) -> Line
 // The key at `at`, and the `=` after it.
 pub fn skip_key(text: &[u8], at: usize, key: &[u8]) -> Skip
     requires { ⌜ at ≤ length (now text) ⌝ }
-    ensures { λ r. ⌜ Skipped (now (text .entry)) at (now (key .entry)) r ⌝ }
+    ensures { λ r. ⌜ r ≡ afterKey (now (text .entry)) at (now (key .entry)) ⌝ }
 {
     if text.len() - at <= key.len() {
         return Skip::No;

@@ -11,7 +11,7 @@ use mathlib.Core.List.{List, [], _∷_, _++_, append-assoc, append-nil}
 use lib.IntN.{ℤ}
 use lib.ListN.{length, drop, length-append, length-drop}
 use Rattle.lines.specs.Decimal.{number}
-use Rattle.lines.specs.Line.{Taken, taken, refused, readNumber, readLine, lineIn}
+use Rattle.lines.specs.Line.{Taken, taken, refused, readNumber, hasKey, readLine, lineIn}
 use Rattle.lines.specs.declared.read.Line.the-variants.{Value, Bad as NoLine}
 use Rattle.lines.proofs.Grammar.{write-read}
 use Rattle.lines.proofs.Placed.{line-taken, line-refused, rest-at}
@@ -19,7 +19,7 @@ use Rattle.replay.specs.Recorded.{before, andThen, readNumbers}
 
 -- a number is read as the line of an empty key
 number-line : (s : List ℕ) → readLine [] (61 ∷ s) ≡ readNumber s
-unfolding readLine
+unfolding readLine hasKey
 number-line s = refl
 
 pub number-rest : (text : List ℕ) (p : ℕ) (z : ℤ) (q : ℕ) → p ≤ length text → lineIn (length text) (readNumber (drop p text)) ≡ Value z q

@@ -12,7 +12,7 @@ ghost use mathlib.Core.Path.{_≡_};
 ghost use Prim.Native.Nat.{_≤_, _<_};
 ghost use lib.ListN.{length, getD, drop};
 ghost use mathlib.Core.List.{[]};
-ghost use Rattle.lines.specs.Line.{Accepted, readLine, natural, numberIn, lineIn, Skipped};
+ghost use Rattle.lines.specs.Line.{Accepted, readLine, natural, numberIn, lineIn, afterKey};
 ghost use Rattle.sheet.specs.Keys.{componentKeys, connectionKeys, frontierKeys, fieldKey, countKey, keysOf};
 
 // How many numbers a record has.
@@ -44,7 +44,7 @@ pub fn read_count(text: &[u8], at: usize, list: u64) -> Number
 // The key of field j of a component.
 fn skip_component(text: &[u8], at: usize, j: usize) -> Skip
     requires { ⌜ (at ≤ length (now text)) × (j < 8) ⌝ }
-    ensures { λ r. ⌜ Skipped (now (text .entry)) at (getD componentKeys j []) r ⌝ }
+    ensures { λ r. ⌜ r ≡ afterKey (now (text .entry)) at (getD componentKeys j []) ⌝ }
 {
     match j {
         0 => skip_key(text, at, b"id"),
@@ -61,7 +61,7 @@ fn skip_component(text: &[u8], at: usize, j: usize) -> Skip
 // The key of field j of a connection.
 fn skip_connection(text: &[u8], at: usize, j: usize) -> Skip
     requires { ⌜ (at ≤ length (now text)) × (j < 3) ⌝ }
-    ensures { λ r. ⌜ Skipped (now (text .entry)) at (getD connectionKeys j []) r ⌝ }
+    ensures { λ r. ⌜ r ≡ afterKey (now (text .entry)) at (getD connectionKeys j []) ⌝ }
 {
     match j {
         0 => skip_key(text, at, b"source"),
@@ -73,7 +73,7 @@ fn skip_connection(text: &[u8], at: usize, j: usize) -> Skip
 // The key of field j of a frontier.
 fn skip_frontier(text: &[u8], at: usize, j: usize) -> Skip
     requires { ⌜ (at ≤ length (now text)) × (j < 3) ⌝ }
-    ensures { λ r. ⌜ Skipped (now (text .entry)) at (getD frontierKeys j []) r ⌝ }
+    ensures { λ r. ⌜ r ≡ afterKey (now (text .entry)) at (getD frontierKeys j []) ⌝ }
 {
     match j {
         0 => skip_key(text, at, b"x"),
@@ -85,7 +85,7 @@ fn skip_frontier(text: &[u8], at: usize, j: usize) -> Skip
 // The key of line k of a list's fields.
 fn skip_field(text: &[u8], at: usize, list: u64, k: usize) -> Skip
     requires { ⌜ at ≤ length (now text) ⌝ }
-    ensures { λ r. ⌜ Skipped (now (text .entry)) at (fieldKey (keysOf list) k) r ⌝ }
+    ensures { λ r. ⌜ r ≡ afterKey (now (text .entry)) at (fieldKey (keysOf list) k) ⌝ }
 {
     if list == 0 {
         return skip_component(text, at, k % COMPONENT);

@@ -15,7 +15,7 @@ use Rattle.lists.specs.Slices.{laid, leftOf}
 use Rattle.lists.specs.declared.Checked.{Checked}
 use Rattle.lists.specs.declared.Checked.the-variants.{Accepted}
 use Rattle.lines.specs.Decimal.{digitsThen}
-use Rattle.lines.specs.Line.{readDigits, readEnd, readMagnitude, readNumber, readLine}
+use Rattle.lines.specs.Line.{readDigits, readEnd, readMagnitude, readNumber, hasKey, readLine}
 use Rattle.sheet.specs.Sheet.{Parsed, Lists, readFields, readList, parse}
 use Rattle.sheet.specs.Entry.{componentsOf, connectionsOf, frontiersOf}
 use Rattle.sheet.specs.Writing.{fieldLines}
@@ -44,7 +44,7 @@ use Rattle.worked.proofs.Forests.{single-places}
 use Rattle.worked.proofs.Dropped.{dropped-uncounted}
 
 example-reads : programParse sheetText ≡ Lists leverAndRepeater fromLever []
-unfolding parse readList readFields readLine readNumber readMagnitude readDigits readEnd
+unfolding parse readList readFields readLine hasKey readNumber readMagnitude readDigits readEnd
 example-reads = refl
 
 -- the forests apart, since a report reads its groups' numbers at each component

@@ -1,9 +1,10 @@
 -- `sheet::keys::read_field` meets its contract: behind the key the line goes on as a number.
 -- Assumes nothing.
 use borrow.Author.Needs.{needs}
-use mathlib.Core.Path.{subst, sym, ap, _∙_}
+use mathlib.Core.Path.{sym, ap, _∙_}
 use lib.ListN.{length}
-use Rattle.lines.specs.Line.{lineIn, Skipped}
+use Rattle.lines.specs.Line.{lineIn}
+use Rattle.lines.proofs.Placed.{key-after, key-missing}
 use Rattle.sheet.specs.Keys.{fieldKey, keysOf}
 use Rattle.sheet.proofs.keys.read_field.Statement.{statement}
 use Rattle.sheet.proofs.keys.read_field.Tie as tie
@@ -23,22 +24,17 @@ enum-told c = search needs
 returns : tie.Need-returns
 returns c =
     let a = c .before .before .before .before .before .before .args in
-    let s =
-    subst
-    (Skipped (a .text .now) (a .at) (fieldKey (keysOf (a .list)) (a .k)))
-    (c .before .before .s .given .1)
-    (c .before .before .before .before .skip-field .ensures) in
-    c .read-number .ensures ∙ ap (lineIn (length (a .text .now))) (sym (s .1))
+    let g = c .before .before .s .given in
+    let q =
+    key-after (a .text .now) (a .at) (fieldKey (keysOf (a .list)) (a .k)) (g .0 .0) (sym (c .before .before .before .before .skip-field .ensures) ∙ g .1) in
+    c .read-number .ensures ∙ ap (lineIn (length (a .text .now))) (sym q)
 
 returns-2 : tie.Need-returns-2
 returns-2 c =
     let a = c .before .before .before .before .args in
-    let s =
-    subst
-    (Skipped (a .text .now) (a .at) (fieldKey (keysOf (a .list)) (a .k)))
-    (c .enum-told .given .1)
-    (c .before .before .skip-field .ensures) in
-    ap (lineIn (length (a .text .now))) (sym s)
+    let q =
+    key-missing (a .text .now) (a .at) (fieldKey (keysOf (a .list)) (a .k)) (sym (c .before .before .skip-field .ensures) ∙ c .enum-told .given .1) in
+    ap (lineIn (length (a .text .now))) (sym q)
 
 pub read-field-spec : {M : Type 1} → statement M
 read-field-spec =
