@@ -23,6 +23,7 @@ use Rattle.regions.specs.Graph.{Reach, at, marked}
 use Rattle.regions.specs.Kosaraju.{reached}
 use Rattle.regions.specs.Carry.{carry, Crossings, CarryLaws}
 use Rattle.regions.specs.Theorems.{ReachLaws}
+use Rattle.regions.proofs.Laws.Lists.{or-right}
 use Rattle.regions.proofs.Laws.Walks.{Reach·trans}
 use Rattle.regions.proofs.Theorems.{reach-laws}
 use Rattle.regions.proofs.Carried.{carry-laws}
@@ -33,7 +34,7 @@ use Rattle.signals.specs.Drive.{membersWhere, drive, potential}
 use Rattle.signals.specs.Flags.{Flags, Numbers}
 use Rattle.signals.proofs.Tabulated.{first-cong, tabulated-at}
 use Rattle.lists.proofs.Some.{some-at, some-found, and-true}
-use Rattle.signals.proofs.Neighbours.{or-left, or-right, either}
+use Rattle.signals.proofs.Neighbours.{or-left, either}
 use Rattle.signals.proofs.Tested.{same-truth}
 use Rattle.signals.proofs.Within.{signals-within, scene-regions, label-under}
 

@@ -24,6 +24,7 @@ use Rattle.lists.proofs.Search.{never}
 use Rattle.lists.proofs.Members.{count-less, count-once}
 use Rattle.regions.specs.Keys.{edges}
 use Rattle.regions.proofs.Laws.Keys.{edges-pair}
+use Rattle.regions.proofs.Laws.Lists.{or-right}
 use Rattle.signals.specs.Seen.{SeenOf, Rows}
 use Rattle.signals.specs.declared.inferred.Seen.{Seen}
 use Rattle.signals.specs.declared.inferred.Seen.the-variants.{None, One, Many}
@@ -36,10 +37,6 @@ or-false false = refl
 
 pub or-left : {a : Bool} (b : Bool) → a ≡ true → (a || b) ≡ true
 or-left b e = ap (λ (t : Bool). t || b) e
-
-pub or-right : (a : Bool) {b : Bool} → b ≡ true → (a || b) ≡ true
-or-right true e = refl
-or-right false e = e
 
 pub either : (a b : Bool) → (a || b) ≡ true → (a ≡ true) ⊎ (b ≡ true)
 either true b e = inl refl

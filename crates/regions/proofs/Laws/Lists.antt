@@ -32,7 +32,7 @@ pub split : (b : Bool) → (b ≡ true) ⊎ (b ≡ false)
 split true = inl refl
 split false = inr refl
 
-or-right : (a : Bool) {b : Bool} → b ≡ true → (a || b) ≡ true
+pub or-right : (a : Bool) {b : Bool} → b ≡ true → (a || b) ≡ true
 or-right true e = refl
 or-right false e = e
 
