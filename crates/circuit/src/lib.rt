@@ -12,14 +12,14 @@ use lists::{COMPONENT, COMPONENTS, Checked, Refusal};
 use sets::ComponentSet;
 
 // How many nets and fragments a scene has.
-#[derive(Drop)]
+#[derive(Clone, Copy)]
 pub struct Counts {
     pub nets: usize,
     pub fragments: usize,
 }
 
 // The counts of an accepted scene, or its refusal.
-#[derive(Drop)]
+#[derive(Clone, Copy)]
 pub enum Grouping {
     Groups(Counts),
     Refused(Refusal),

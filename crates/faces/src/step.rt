@@ -6,7 +6,7 @@ ghost use Rattle.faces.specs.Step.{is_coordinate, shift_between, level_face, fac
 use lists::FAR;
 
 // A difference of coordinates: -1, 0, 1, or no single step.
-#[derive(Drop)]
+#[derive(Clone, Copy)]
 pub enum Shift {
     Back,
     Same,

@@ -12,7 +12,7 @@ use sets::ComponentSet;
 
 // What the checks of an input query say, and of an accepted one the immediate sources of the port, and the inferred inputs among these and
 // all upstream of them.
-#[derive(Drop)]
+#[derive(Clone, Copy)]
 pub struct InputSources {
     pub checked: Checked,
     pub immediate: ComponentSet,

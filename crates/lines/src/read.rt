@@ -6,7 +6,7 @@ ghost use Rattle.lines.specs.Line.{read_digits, read_magnitude, read_number, rea
 // The largest magnitude of a number.
 const LARGEST: u64 = 4294967295;
 
-#[derive(Drop)]
+#[derive(Clone, Copy)]
 pub enum Line {
     // The value, and the position after the line.
     Value(i64, usize),
@@ -14,14 +14,14 @@ pub enum Line {
 }
 
 // A magnitude, and the position after its LF.
-#[derive(Drop)]
+#[derive(Clone, Copy)]
 pub enum Number {
     Is(u64, usize),
     Not,
 }
 
 // The position after a key and its `=`.
-#[derive(Drop)]
+#[derive(Clone, Copy)]
 pub enum Skip {
     To(usize),
     No,

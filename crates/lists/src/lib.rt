@@ -37,14 +37,14 @@ pub const FRONTIER: usize = 3;
 // ---- answers
 
 // What a search finds: a place, or nothing.
-#[derive(Drop)]
+#[derive(Clone, Copy)]
 pub enum Found {
     At(usize),
     Nothing,
 }
 
 // A refusal: its number, the list (0 components, 1 connections, 2 frontiers, 3 none) and the item from 0.
-#[derive(Drop)]
+#[derive(Clone, Copy)]
 pub struct Refusal {
     pub number: u64,
     pub list: u64,
@@ -52,7 +52,7 @@ pub struct Refusal {
 }
 
 // What the checks of an entry say.
-#[derive(Drop)]
+#[derive(Clone, Copy)]
 pub enum Checked {
     Accepted,
     Refused(Refusal),

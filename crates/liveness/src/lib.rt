@@ -15,7 +15,7 @@ use steps::analyze;
 
 // What the checks say, and of an accepted scene the counts and the sets: members that are driven or may be, regions that are cyclic or
 // hold a drive source.
-#[derive(Drop)]
+#[derive(Clone, Copy)]
 pub struct Analysis {
     pub checked: Checked,
     pub regions: usize,

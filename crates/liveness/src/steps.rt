@@ -28,7 +28,7 @@ use signals::flags::gather;
 use signals::stages::find_cyclic;
 
 // How many source rows and verdict rows were written.
-#[derive(Drop)]
+#[derive(Clone, Copy)]
 pub struct RowCounts {
     pub sources: usize,
     pub inputs: usize,

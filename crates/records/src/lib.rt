@@ -10,7 +10,7 @@ use lists::{CONNECTIONS, PORT};
 use liveness::{Analysis, analyze_signal_liveness};
 
 // A port connection: ids 0..4294967295, ports 0..255, transfer 0..6.
-#[derive(Drop)]
+#[derive(Clone, Copy)]
 pub struct PortRecord {
     pub source: i64,
     pub source_port: i64,

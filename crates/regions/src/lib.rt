@@ -56,7 +56,7 @@ fn enter(
 }
 
 // A neighbour, and the place of its key; or n, and a place from which on the node has no keys.
-#[derive(Drop)]
+#[derive(Clone, Copy)]
 struct Neighbour {
     place: usize,
     node: usize,

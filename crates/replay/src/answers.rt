@@ -18,7 +18,7 @@ const SOURCES: usize = 2 * COMPONENTS;
 const INPUTS: usize = 4 * COMPONENTS;
 
 // The tally after a list that a scene gives was read, and how many numbers the list has.
-#[derive(Drop)]
+#[derive(Clone, Copy)]
 struct Given {
     tally: Tally,
     count: usize,

@@ -15,7 +15,7 @@ use sets::{ComponentSet, MEMBERS, contains, next_member};
 use tables::SPAN;
 
 // Where the next list stands in the text, how many scenes were read, how many recorded numbers were compared, and how many differ.
-#[derive(Drop)]
+#[derive(Clone, Copy)]
 pub struct Tally {
     pub at: usize,
     pub scenes: u64,

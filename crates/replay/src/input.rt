@@ -6,7 +6,7 @@ ghost use Rattle.replay.specs.Bounds.{AtMost};
 use lines::read::{Line, Number, Skip, read_count, read_number};
 
 // A list: how many numbers it has, and the position after it.
-#[derive(Drop)]
+#[derive(Clone, Copy)]
 pub enum Listed {
     Of(usize, usize),
     Bad,

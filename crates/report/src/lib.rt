@@ -13,7 +13,7 @@ use print::print_lists;
 use sheet::{Counts, Reading, read_sheet};
 
 // How many bytes were written, or the refusal.
-#[derive(Drop)]
+#[derive(Clone, Copy)]
 pub enum Printed {
     Written(usize),
     Refused(Refusal),

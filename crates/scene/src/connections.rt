@@ -20,14 +20,14 @@ use lists::numbers::natural_at;
 use lists::{COMPONENT, COMPONENTS, CONNECTION, Checked, Found, PORT, Refusal};
 
 // The ports that a connection takes at its ends, or none.
-#[derive(Drop)]
+#[derive(Clone, Copy)]
 pub enum Link {
     Ports { source: usize, sink: usize },
     Dropped,
 }
 
 // How many port connections are kept, or why the scene is refused.
-#[derive(Drop)]
+#[derive(Clone, Copy)]
 pub enum Selected {
     Kept(usize),
     Refused(Refusal),

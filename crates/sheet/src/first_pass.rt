@@ -10,7 +10,7 @@ use super::{Counts, Place, Places};
 use lines::read::{Line, Number};
 use lists::{COMPONENT, COMPONENTS, CONNECTION, CONNECTIONS, FRONTIER, FRONTIERS, Refusal};
 
-#[derive(Drop)]
+#[derive(Clone, Copy)]
 pub enum Run {
     // The position after the last line.
     Good(usize),
@@ -18,13 +18,13 @@ pub enum Run {
     Bad(usize),
 }
 
-#[derive(Drop)]
+#[derive(Clone, Copy)]
 pub enum Listed {
     Good(Place),
     Refused(Refusal),
 }
 
-#[derive(Drop)]
+#[derive(Clone, Copy)]
 pub enum Outline {
     Good(Places),
     Refused(Refusal),

@@ -13,14 +13,14 @@ use lists::{COMPONENT, CONNECTION, FRONTIER, Refusal};
 use second_pass::store_sheet;
 
 // How many records a list has, and where its fields start and end in the text.
-#[derive(Drop)]
+#[derive(Clone, Copy)]
 pub struct Place {
     pub count: usize,
     pub start: usize,
     pub end: usize,
 }
 
-#[derive(Drop)]
+#[derive(Clone, Copy)]
 pub struct Places {
     pub components: Place,
     pub connections: Place,
@@ -28,14 +28,14 @@ pub struct Places {
 }
 
 // How many records each list has.
-#[derive(Drop)]
+#[derive(Clone, Copy)]
 pub struct Counts {
     pub components: usize,
     pub connections: usize,
     pub frontiers: usize,
 }
 
-#[derive(Drop)]
+#[derive(Clone, Copy)]
 pub enum Reading {
     Read(Counts),
     Refused(Refusal),

@@ -16,7 +16,7 @@ use tables::SPAN;
 use tables::rows::lower_bound_in;
 
 // The distinct neighbours seen so far.
-#[derive(Drop)]
+#[derive(Clone, Copy)]
 pub enum Seen {
     None,
     One(usize),
