@@ -1,4 +1,5 @@
 // Regions, sources, drive and verdicts of a scene.
+#![tactic(auto)]
 mod alive;
 mod infer;
 pub mod prepare;

@@ -1,4 +1,5 @@
 // What the tests from Rust call and the product does not export: refusals as one number, the table of ids, ports and groups.
+#![tactic(auto)]
 mod groups;
 mod ports;
 mod query;

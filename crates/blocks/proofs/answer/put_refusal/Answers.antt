@@ -1,0 +1,55 @@
+-- `blocks::answer::put_refusal` meets its contract: three lines, one behind the other.
+-- Assumes nothing.
+use mathlib.Core.List.{List, ◌++◌}
+use mathlib.Core.Path.{◌≡◌, refl, subst}
+use Prim.Native.Nat.{ℕ, ◌+◌, ◌≤◌}
+use native.Mathlib.Omega.{arith}
+use lib.IntN.{pos}
+use lib.ListN.{length, length-append}
+use Rattle.lists.specs.declared.Refusal.{Refusal}
+use Rattle.lines.specs.Text.{ascii}
+use Rattle.lines.specs.Decimal.{line_of}
+use Rattle.lines.proofs.Writing.{put_room, put_put}
+use Rattle.blocks.specs.Lines.{refusal_lines}
+use Rattle.blocks.proofs.answer.put_refusal.Goals as goal
+use Rattle.blocks.proofs.answer.put_refusal.Goals.{After-put_natural-a, Start}
+
+abbrev answer_line : Refusal → List ℕ
+answer_line r = line_of (ascii "answer") (pos r.number)
+
+abbrev list_line : Refusal → List ℕ
+list_line r = line_of (ascii "list") (pos r.list)
+
+abbrev item_line : Refusal → List ℕ
+item_line r = line_of (ascii "item") (pos r.item)
+
+lines_are : (r : Refusal) → refusal_lines r ≡ answer_line r ++ (list_line r ++ item_line r)
+unfolding refusal_lines
+lines_are r = refl
+
+room : (s : Start) → s.args.at + length (answer_line s.args.refusal ++ (list_line s.args.refusal ++ item_line s.args.refusal)) ≤ length s.args.out.now
+room s = subst (λ (t : List ℕ). s.args.at + length t ≤ length s.args.out.now) (lines_are s.args.refusal) s.requires
+
+behind : (c : After-put_natural-a) → let r = c.args.refusal in c.put_natural-a.result + length (list_line r ++ item_line r) ≤ length c.put_natural-a.new.out
+behind c = put_room c.put_natural-a.ensures _ (room c.before.before.before.before)
+
+pub put_natural-a-requires : goal.put_natural-a-requires
+put_natural-a-requires c =
+    
+    let r = c.args.refusal in
+    omega (arith, room (goal.at.put_natural-a-requires c).After-slice_known-1, length-append (answer_line r) (list_line r ++ item_line r))
+
+pub put_natural-b-requires : goal.put_natural-b-requires
+put_natural-b-requires c =
+    
+    let r = c.args.refusal in
+    omega (arith, behind (goal.at.put_natural-b-requires c).After-out-1, length-append (list_line r) (item_line r))
+
+pub put_natural-requires : goal.put_natural-requires
+put_natural-requires c = put_room c.put_natural-b.ensures _ (behind (goal.at.put_natural-requires c).After-slice_known-2-1)
+
+pub returns : goal.returns
+returns c =
+    
+    rw (lines_are c.args.refusal)
+    (put_put c.put_natural-a.ensures (put_put c.put_natural-b.ensures c.put_natural.ensures))

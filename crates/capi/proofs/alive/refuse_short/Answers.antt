@@ -1,0 +1,18 @@
+-- `capi::alive::refuse_short` meets its contract: the checks of the lists, as one number. Assumes nothing.
+use mathlib.Core.Path.{◌≡◌, sym, ap, ◌∙◌, subst}
+use mathlib.Core.Bool.{false}
+use Rattle.checks.specs.Refusals.{Small, packed}
+use Rattle.lists.specs.declared.Checked.{Checked}
+use Rattle.checks.proofs.Small.{liveness_small}
+use Rattle.capi.proofs.alive.refuse_short.Goals as goal
+
+small_as : {a b : Checked} → a ≡ b → Small b → Small a
+small_as {a} {b} e h = subst (λ (x : Checked). Small x) (sym e) h
+
+pub pack-requires : goal.pack-requires
+pack-requires c =
+    let args = c.args in
+    small_as c.liveness_lists.ensures.lists.answer (liveness_small args.components.now args.ports.now args.frontiers.now false)
+
+pub returns : goal.returns
+returns c = c.pack.ensures ∙ ap packed c.liveness_lists.ensures.lists.answer

@@ -1,0 +1,10 @@
+-- `checks::refusals::refuse_at` meets its contract.
+-- Assumes nothing.
+
+use Rattle.checks.proofs.refusals.refuse_at.Goals as goal
+
+pub returns-in-At : goal.returns-in-At
+returns-in-At c = rw c.in-At.is
+
+pub returns-in-Nothing : goal.returns-in-Nothing
+returns-in-Nothing c = rw c.in-Nothing.is

@@ -1,0 +1,80 @@
+-- `inputs::query::walk_tables` meets its contract: the scene is prepared, with local arrays for what is not asked later; then its edges are
+-- sorted by the port that they feed.
+-- Assumes nothing.
+use mathlib.Core.Path.{◌≡◌, sym, ◌∙◌}
+use Prim.Native.Nat.{ℕ, ◌≤◌}
+use native.Mathlib.Omega.{arith}
+use lib.ListN.{length, take, replicate}
+use lib.Seq.{length-take-le}
+use Rattle.lists.specs.Limits.{component_limit}
+use Rattle.lists.specs.Records.{component_count}
+use Rattle.lists.proofs.Table.{table_long}
+use Rattle.inputs.proofs.Inputs.{fed_scene, graph_back}
+use Rattle.inputs.proofs.query.walk_tables.Goals as goal
+use Rattle.inputs.proofs.query.walk_tables.Goals.{Start}
+
+abbrev nodes : Start → ℕ
+nodes s = length s.args.keys.now
+
+all : (s : Start) → nodes s ≡ component_count s.args.components.now
+all s = table_long s.requires.scene.1.0
+
+nodes-few : (s : Start) → nodes s ≤ component_limit
+nodes-few s = omega (arith, all s, s.requires.scene.0.components.few)
+
+labels-lent : (s : Start) → length {A = ℕ} (take (nodes s) (replicate component_limit 0)) ≡ nodes s
+labels-lent s = length-take-le _ _ (nodes-few s)
+
+pub find_inputs-requires : goal.find_inputs-requires
+find_inputs-requires c =
+    
+    let room = c.requires.fed_len in record {
+      scene = c.requires.scene;
+      inputs_room = record {
+        forward_room = room.0;
+        backward_room = room.1.0;
+        labels_room = labels-lent c.before.before.before.before.before.before.before.before.before.before.before.before.before ∙ all c.before.before.before.before.before.before.before.before.before.before.before.before.before;
+        inferred_room = room.1.1.0;
+        stack_room = room.1.1.1;
+      };
+    }
+
+pub build_fed-requires : goal.build_fed-requires
+build_fed-requires c =
+    
+    let p = c.find_inputs.ensures.prepared in record {
+      port_connections = (c.requires.scene.0.connections, (c.args.components.now, (c.requires.scene.0.components.few, (p.tables.source_members, p.tables.sink_members))));
+      ports_in_bounds = (p.sources_long, (p.sinks_long, c.find_inputs.auto.forward ∙ c.requires.fed_len.0));
+    }
+
+pub returns : goal.returns
+returns c =
+    
+    let e = c.find_inputs.ensures in
+    let t = e.prepared.tables in (
+      record {
+        fed_scene = fed_scene c.requires.scene.0 e.prepared c.build_fed.ensures;
+        rising = t.backward_keys.sorted.ascending;
+        turned = graph_back c.requires.scene.0 t;
+        inferred_are = e.inferred_are;
+      },
+      e.stack_zeros,
+    )
+
+pub slice_bounds-labels-end : goal.slice_bounds-labels-end
+slice_bounds-labels-end c = nodes-few c.before.before.before.before.before.before.before.before.before.before
+
+pub slice_bounds-find_inputs-end : goal.slice_bounds-find_inputs-end
+slice_bounds-find_inputs-end c = sym (labels-lent c.before.before.before.before.before.before.before.before.before.before.before)
+
+pub shape_of-fed : goal.shape_of-fed
+shape_of-fed c = c.build_fed.auto.fed ∙ c.find_inputs.auto.forward
+
+pub shape_of-backward : goal.shape_of-backward
+shape_of-backward c = c.find_inputs.auto.backward
+
+pub shape_of-inferred : goal.shape_of-inferred
+shape_of-inferred c = c.find_inputs.auto.inferred
+
+pub shape_of-stack : goal.shape_of-stack
+shape_of-stack c = c.find_inputs.auto.stack

@@ -1,0 +1,72 @@
+-- Answers for the goals that the search leaves.
+use mathlib.Core.Path.{◌≡◌, refl, ◌∙◌}
+use Prim.Native.Nat.{ℕ, ◌≤◌, ◌<◌}
+use native.Mathlib.Nat.{eq-or-lt_of_le}
+use native.Mathlib.Omega.{arith}
+use mathlib.Core.Logic.{⊎_elim}
+use lib.ListN.{length, get_or, length-set}
+use lib.Seq.{get_or-set_same, get_or-set_other}
+use Rattle.tables.specs.Pairs.{pair}
+use Rattle.lists.specs.Records.{component_count}
+use Rattle.lists.specs.Ids.{id_key}
+use Rattle.lists.proofs.Table.{keys_rise, keys_small, table_of}
+use Rattle.lists.proofs.ids.id_table.Goals as goal
+use Rattle.lists.proofs.ids.id_table.Goals.{After-loop-k, Start}
+
+pub loop-k-init : goal.loop-k-init
+loop-k-init c = (omega arith, refl, λ j h. absurd (omega arith))
+
+pub id_key-requires : goal.id_key-requires
+id_key-requires c =
+    record {
+      components = c.requires.components;
+      k_bound = omega (arith, c.loop-k-test.true, c.loop-k.invariant.1, c.requires.keys_len.0);
+    }
+
+pub loop-k-smaller : goal.loop-k-smaller
+loop-k-smaller c = simp length-set (omega arith)
+
+pub loop-k-preserved : goal.loop-k-preserved
+loop-k-preserved c =
+    let l = c.loop-k in
+    let here : l.k < length l.keys = c.loop-k-test.true in (
+      simp length-set (omega arith),
+      simp length-set l.invariant.1,
+      λ j h. ⊎_elim
+          (λ (same : j ≡ l.k). rw same (get_or-set_same l.keys l.k _ 0 here ∙ c.id_key.ensures))
+          (λ (less : j < l.k). get_or-set_other l.keys l.k j _ 0 (λ e. omega arith) ∙ l.invariant.2 j less)
+          (eq-or-lt_of_le (let m : j ≤ l.k = omega arith in m)),
+    )
+
+-- where the loop ends there is a key for each component: the pair of its id and its place
+module _ (c : After-loop-k) where
+  abbrev start_of : Start
+  start_of = c.before.before.before.before.before
+  keys_long : length c.loop-k.keys ≡ component_count start_of.args.components.now
+  keys_long = c.loop-k.invariant.1 ∙ start_of.requires.keys_len.0
+  keys_each : (k : ℕ) → k < component_count start_of.args.components.now → get_or c.loop-k.keys k 0 ≡ id_key start_of.args.components.now k
+  keys_each k h = c.loop-k.invariant.2 k (omega (arith, c.loop-k-test.false, c.loop-k.invariant.0, keys_long))
+
+pub sort_pairs-requires : goal.sort_pairs-requires
+sort_pairs-requires c =
+    
+    let s = start_of (goal.at.sort_pairs-requires c).After-loop-k in
+    let cs = s.args.components.now in
+    let keys = c.loop-k.keys in record {
+      keys_in_bounds = omega (arith, c.loop-k.invariant.1, s.requires.keys_len.1);
+      rising_by = (keys_rise cs keys s.requires.components (keys_long (goal.at.sort_pairs-requires c).After-loop-k) (keys_each (goal.at.sort_pairs-requires c).After-loop-k), keys_small cs keys s.requires.components (keys_long (goal.at.sort_pairs-requires c).After-loop-k) (keys_each (goal.at.sort_pairs-requires c).After-loop-k));
+    }
+
+pub shape_of-keys : goal.shape_of-keys
+shape_of-keys c =
+    
+    c.sort_pairs.auto.keys ∙ c.loop-k.invariant.1
+
+pub shape_of-spare : goal.shape_of-spare
+shape_of-spare c = c.sort_pairs.auto.spare
+
+pub returns : goal.returns
+returns c =
+    
+    let s = start_of (goal.at.returns c).After-loop-k in
+    table_of s.args.components.now (omega (arith, s.pre.0.few)) (keys_long (goal.at.returns c).After-loop-k) (keys_each (goal.at.returns c).After-loop-k) c.sort_pairs.ensures

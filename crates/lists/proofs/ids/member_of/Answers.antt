@@ -1,0 +1,7 @@
+-- `lists::ids::member_of` meets its contract: the keys below the id's own are those of the smaller ids.
+-- Assumes nothing.
+use Rattle.lists.proofs.Members.{smaller_at}
+use Rattle.lists.proofs.ids.member_of.Goals as goal
+
+pub returns : goal.returns
+returns c cs t = smaller_at t _ c.lower_bound.ensures

@@ -1,0 +1,13 @@
+-- `lists::order::first_component_not_ascending` meets its contract.
+-- Assumes nothing.
+use native.Mathlib.Omega.{arith}
+use Rattle.lists.specs.Order.{FieldsBelow}
+use Rattle.lists.proofs.order.first_component_not_ascending.Goals as goal
+
+pub first_not_ascending-requires : goal.first_not_ascending-requires
+unfolding FieldsBelow
+first_not_ascending-requires c =
+    record {
+      fields_below = (omega arith, (omega arith, (omega arith, (omega arith, tt))));
+      width_nonzero = omega arith;
+    }

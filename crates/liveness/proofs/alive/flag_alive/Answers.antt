@@ -1,0 +1,115 @@
+-- `liveness::alive::flag_alive` meets its contract: the regions with a drive source, and those with an inferred input too, carried along the
+-- pairs of regions.
+-- Assumes nothing.
+use mathlib.Core.Path.{◌≡◌, sym, ap, subst, ◌∙◌}
+use mathlib.Core.Bool.{Bool, ◌&&◌, ◌||◌}
+use mathlib.Core.List.{List}
+use Prim.Native.Nat.{ℕ, ◌≤◌}
+use native.Mathlib.Omega.{arith}
+use lib.Dec.{eqb}
+use lib.ListN.{length, get_or, take}
+use lib.Seq.{length-take-le}
+use lib.IntN.{ℤ}
+use Rattle.lists.specs.Limits.{component_limit}
+use Rattle.lists.specs.Records.{component_count}
+use Rattle.lists.specs.First.{some}
+use Rattle.regions.specs.Graph.{marked}
+use Rattle.tables.specs.Pairs.{KeysBelow}
+use Rattle.regions.specs.Carry.{carry, Crossings}
+use Rattle.signals.specs.Signals.{signals}
+use Rattle.signals.specs.Regions.{labels, holds_drive}
+use Rattle.signals.specs.Flags.{Flags, Indices}
+use Rattle.signals.proofs.Lent.{indices_same}
+use Rattle.signals.proofs.Within.{labels_count, labels_under, places_under}
+use Rattle.assessment.proofs.Reached.{drive_is, potential_is}
+use Rattle.liveness.specs.Scene.{SceneRegions}
+use Rattle.liveness.proofs.Inferring.{crossings_of}
+use Rattle.liveness.proofs.alive.flag_alive.Goals as goal
+use Rattle.liveness.proofs.alive.flag_alive.Goals.{After-find_crossings-count}
+
+-- ---- the regions of a scene
+module _ {cs ps : List ℤ} {forward labelled region_of : List ℕ} (r : SceneRegions cs ps forward labelled region_of) where
+  few : component_count cs ≤ component_limit
+  few = r.scene.components.few
+  all : length labelled ≡ component_count cs
+  all = ap length r.labels_are ∙ labels_count cs ps r.scene.ends
+  labels_small : Indices (length labelled) component_limit labelled
+  labels_small =
+      subst (λ (l : List ℕ). Indices (length l) component_limit l) (sym r.labels_are) (labels_under cs ps r.scene.ends component_limit few)
+  regions_small : Indices (length labelled) component_limit region_of
+  regions_small =
+      subst (λ (n : ℕ). Indices n component_limit region_of) (sym all) (places_under cs ps r.scene.ends component_limit few r.regions_are)
+  -- flags of the regions' marks, by the labels of the scene
+  by_labels : (mark : ℕ → Bool) {out : List Bool} → Flags (length labelled) (λ m. mark (get_or labelled m 0)) out
+      → Flags (component_count cs) (λ m. mark (get_or (labels cs ps) m 0)) out
+  by_labels mark f = record {
+    long = omega (arith, all, f.long);
+    at = λ m h. f.at m (omega (arith, all)) ∙ ap (λ (l : List ℕ). mark (get_or l m 0)) r.labels_are;
+  }
+
+-- ---- the calls
+pub find_crossings-count-requires : goal.find_crossings-count-requires
+find_crossings-count-requires c =
+    
+    let r = c.requires.scene_regions.2 in record {
+      rows = (r.rows, (r.few, r.few));
+      indices = labels_small r;
+    }
+
+pub possible_regions-requires : goal.possible_regions-requires
+possible_regions-requires c =
+    record {
+      indices = (regions_small c.requires.scene_regions.2, c.requires.alive_room.inferred_room);
+      component_limit_in_bounds = (omega (arith, c.requires.alive_room.regions_room), omega arith);
+    }
+
+-- the keys that were found
+lent : (c : After-find_crossings-count) → length (take c.find_crossings-count.result c.find_crossings-count.new.keys) ≡ c.find_crossings-count.result
+lent c = length-take-le _ _ c.find_crossings-count.ensures.few
+
+keys_as : {m n : ℕ} {keys : List ℕ} → m ≡ n → KeysBelow m keys → KeysBelow n keys
+keys_as e k = record { first = λ i h. omega (arith, e, k.first i h); second = λ i h. omega (arith, e, k.second i h) }
+
+pub carry_marks-requires : goal.carry_marks-requires
+carry_marks-requires c =
+    
+    
+    let below = c.find_crossings-count.ensures.below in
+    let small = labels_small c.requires.scene_regions.2 in
+    let long-a = c.copy_flags.auto.out in
+    let long-b = c.possible_regions.auto.possible in record {
+      keys_below = (keys_as (sym long-a) below, keys_as (sym long-b) below);
+      indices = (indices_same (sym long-a) small, omega (arith, c.requires.alive_room.drive_room));
+      indices_2 = (indices_same (sym long-b) small, omega (arith, c.requires.alive_room.potential_room));
+    }
+
+pub returns : goal.returns
+returns c cs ps fs r driven inferred =
+    
+    let carried = c.carry_marks in
+    let possible = c.possible_regions in
+    let copied = ((goal.at.returns c).After-copy_flags).copy-flags in
+    let finding = found_before ((goal.at.returns c).After-copy_flags) in
+    let found = finding.find-crossings in
+    let s = finding.before.before.before.before.before.before.before.before.before in
+    let room = s.requires.alive_room in
+    let keys = take found.result found.last.1.1.0 in
+    let pairs : Crossings (signals cs ps) (labels cs ps) keys = crossings_of r found.ensures.pairs in
+    let marks : Flags component_limit (holds_drive cs ps fs) copied.last.1.0 = record {
+      long = omega (arith, copied.kept.1.0);
+      at = λ k h. copied.ensures.at k (omega (arith, room.regions_room)) ∙ driven.at k h;
+    } in
+    let joined : Flags component_limit
+    (λ k. marked s.args.has_drive.now k || some (λ p. marked s.args.inferred.now p && eqb (get_or s.args.region-at.now p 0) k) (component_count cs))
+    possible.last.1.1.1.1.0 =
+    rw (all r) at possible.ensures in
+    record {
+      drive_is = drive_is cs ps (few r) r.scene.ends pairs fs (carried.auto.1.1.1.1.0 ∙ room.drive_room ∙ all r)
+          (by_labels r (carry keys (marked copied.last.1.0)) carried.ensures.0) marks;
+      potential_is = potential_is cs ps (few r) r.scene.ends pairs fs (carried.auto.1.1.1.1.1.0 ∙ room.potential_room ∙ all r)
+          (by_labels r (carry keys (marked possible.last.1.1.1.1.0)) carried.ensures.1)
+          r.regions_are driven inferred joined;
+    }
+
+pub slice_bounds-carry_marks-end : goal.slice_bounds-carry_marks-end
+slice_bounds-carry_marks-end c = sym (lent ((goal.at.slice_bounds-carry_marks-end c).After-find_crossings-count))

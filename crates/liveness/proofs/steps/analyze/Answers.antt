@@ -1,0 +1,69 @@
+-- `liveness::steps::analyze` meets its contract: local arrays are lent.
+-- Assumes nothing.
+use mathlib.Core.Path.{◌≡◌, sym, ◌∙◌}
+use Prim.Native.Nat.{ℕ, ◌≤◌}
+use native.Mathlib.Omega.{arith}
+use lib.ListN.{length, take, replicate}
+use lib.Seq.{length-take-le}
+use Rattle.lists.specs.Limits.{component_limit, connection_limit}
+use Rattle.lists.specs.Records.{component_count, port_count}
+use Rattle.lists.proofs.Table.{table_long}
+use Rattle.liveness.proofs.steps.analyze.Goals as goal
+use Rattle.liveness.proofs.steps.analyze.Goals.{Start}
+
+abbrev edge_count : Start → ℕ
+edge_count s = port_count s.args.ports.now
+
+abbrev nodes : Start → ℕ
+nodes s = length s.args.keys.now
+
+all : (s : Start) → nodes s ≡ component_count s.args.components.now
+all s = table_long s.requires.scene.1.0
+
+edges_few : (s : Start) → edge_count s ≤ connection_limit
+edges_few s = s.requires.scene.0.connections.few
+
+nodes-few : (s : Start) → nodes s ≤ component_limit
+nodes-few s = omega (arith, all s, s.requires.scene.0.components.few)
+
+keys-lent : (s : Start) → length {A = ℕ} (take (edge_count s) (replicate connection_limit 0)) ≡ edge_count s
+keys-lent s = length-take-le _ _ (edges_few s)
+
+labels-lent : (s : Start) → length {A = ℕ} (take (nodes s) (replicate component_limit 0)) ≡ nodes s
+labels-lent s = length-take-le _ _ (nodes-few s)
+
+pub analyze_in-requires : goal.analyze_in-requires
+analyze_in-requires c =
+    record {
+      scene = c.requires.scene;
+      prepared_room = record {
+          forward_room = keys-lent c.before.before.before.before.before.before.before.before.before.before.before.before.before.before.before.before.before.before.before;
+          backward_room = keys-lent c.before.before.before.before.before.before.before.before.before.before.before.before.before.before.before.before.before.before.before;
+          labels_room = labels-lent c.before.before.before.before.before.before.before.before.before.before.before.before.before.before.before.before.before.before.before ∙ all c.before.before.before.before.before.before.before.before.before.before.before.before.before.before.before.before.before.before.before;
+          members_room = omega (arith, nodes-few c.before.before.before.before.before.before.before.before.before.before.before.before.before.before.before.before.before.before.before, all c.before.before.before.before.before.before.before.before.before.before.before.before.before.before.before.before.before.before.before);
+          regions_room = omega (arith, nodes-few c.before.before.before.before.before.before.before.before.before.before.before.before.before.before.before.before.before.before.before, all c.before.before.before.before.before.before.before.before.before.before.before.before.before.before.before.before.before.before.before);
+          stack_room = c.requires.rows_room.stack_room;
+        };
+      rows_room = c.requires.rows_room;
+    }
+
+pub slice_bounds-forward-end : goal.slice_bounds-forward-end
+slice_bounds-forward-end c = edges_few c.before.before.before.before.before.before.before.before
+
+pub slice_bounds-analyze_in-end : goal.slice_bounds-analyze_in-end
+slice_bounds-analyze_in-end c = sym (keys-lent c.before.before.before.before.before.before.before.before.before)
+
+pub slice_bounds-backward-end : goal.slice_bounds-backward-end
+slice_bounds-backward-end c = edges_few c.before.before.before.before.before.before.before.before.before
+
+pub slice_bounds-analyze_in-end-2 : goal.slice_bounds-analyze_in-end-2
+slice_bounds-analyze_in-end-2 c = sym (keys-lent c.before.before.before.before.before.before.before.before.before.before)
+
+pub slice_bounds-labels-end : goal.slice_bounds-labels-end
+slice_bounds-labels-end c = nodes-few c.before.before.before.before.before.before.before.before.before.before
+
+pub slice_bounds-analyze_in-end-3 : goal.slice_bounds-analyze_in-end-3
+slice_bounds-analyze_in-end-3 c = sym (labels-lent c.before.before.before.before.before.before.before.before.before.before.before)
+
+pub returns : goal.returns
+returns c = c.analyze_in.ensures

@@ -1,0 +1,36 @@
+-- `probe::groups::probe_fragment_net` meets its contract: below the limit by what the set holds, and from there on it holds nothing.
+-- Assumes nothing.
+use borrow.Author.Rules.{rules}
+use borrow.Author.Tests.{ltb-true, ltb-false}
+use native.Mathlib.Omega.{arith}
+use mathlib.Core.Path.{◌≡◌, refl, sym, ap, ◌∙◌}
+use mathlib.Core.Bool.{Bool, true, false, ◌&&◌}
+use mathlib.Core.List.{List}
+use Prim.Native.Nat.{ℕ, ◌<◌}
+use lib.Dec.{ltb}
+use lib.ListN.{length}
+use Rattle.sets.specs.Members.{word_count, member_of}
+use Rattle.sets.proofs.Words.{member_past}
+use Rattle.lists.specs.Limits.{component_limit}
+use Rattle.probe.specs.Ports.{as_number}
+use Rattle.probe.proofs.groups.probe_fragment_net.Goals as goal
+
+held : (words : List ℕ) (shares : ℕ → Bool) (net : ℕ) → length words ≡ word_count
+    → ((k : ℕ) → k < component_limit → member_of words k ≡ shares k) → member_of words net ≡ (ltb net component_limit && shares net)
+held words shares net long same = go (ltb net component_limit) refl
+  where
+    go : (t : Bool) → ltb net component_limit ≡ t → member_of words net ≡ (t && shares net)
+    go true e = same net (ltb-true net component_limit e)
+    go false e = member_past words net (let past = ltb-false net component_limit e in omega arith)
+
+pub returns-then-contains : goal.returns-then-contains
+returns-then-contains c =
+    
+    let found = c.fragment_nets in
+    sym (ap as_number (sym (held found.result.words _ _ (search rules) found.ensures) ∙ sym c.contains.ensures ∙ c.if-contains.true))
+
+pub returns : goal.returns
+returns c =
+    
+    let found = c.fragment_nets in
+    sym (ap as_number (sym (held found.result.words _ _ (search rules) found.ensures) ∙ sym c.contains.ensures ∙ c.if-contains.false))

@@ -1,0 +1,37 @@
+-- Answers for the goals that the search leaves.
+use native.Mathlib.Omega.{arith}
+use lib.IntN.{pos}
+use Prim.Native.Nat.{◌+◌, ◌<◌}
+use Rattle.replay.specs.Differing.{eq_n}
+use Rattle.replay.proofs.Counting.{Counted, counted_none, counted_more, counted_all, ended, inside}
+use lib.ListN.{length}
+use Rattle.replay.proofs.compare.differences.Goals as goal
+use Rattle.replay.proofs.compare.differences.Goals.{After-one_unless-count, In-loop-i}
+
+-- the place of a turn is in both lists
+both-have : (c : In-loop-i) → (c.loop-i.i < length c.args.recorded.now) × (c.loop-i.i < length c.args.answered.now)
+both-have c = inside _ _ _ c.loop-i-test.true
+
+more : (c : After-one_unless-count)
+    → Counted eq_n c.args.recorded.now c.args.answered.now (c.loop-i.count + c.one_unless-count.result) (c.loop-i.i + 1)
+more c =
+    let h = both-have c.before.before.before in
+    rw (c.one_unless-count.ensures, c.same_number.ensures) (counted_more eq_n _ _ (pos 0) 0 c.loop-i.invariant h.0 h.1)
+
+pub loop-i-init : goal.loop-i-init
+loop-i-init c = counted_none eq_n _ _
+
+pub same_number-requires : goal.same_number-requires
+same_number-requires c = both-have c
+
+pub overflow_add-count : goal.overflow_add-count
+overflow_add-count c = omega (arith, (more c).few, both-have (goal.at.overflow_add-count c).In-loop-i)
+
+pub loop-i-smaller : goal.loop-i-smaller
+loop-i-smaller c = omega (arith, both-have (goal.at.loop-i-smaller c).In-loop-i)
+
+pub loop-i-preserved : goal.loop-i-preserved
+loop-i-preserved c = more c
+
+pub returns : goal.returns
+returns c = counted_all eq_n _ _ c.loop-i.invariant (ended _ _ _ c.loop-i-test.false)

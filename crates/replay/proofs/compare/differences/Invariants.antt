@@ -1,0 +1,13 @@
+-- `replay::compare::differences` meets its contract: the places passed are counted.
+-- Assumes nothing.
+use Prim.Native.Nat.{◌-◌}
+use Rattle.replay.specs.Differing.{eq_n}
+use Rattle.replay.proofs.Counting.{Counted}
+use lib.ListN.{length}
+use Rattle.replay.proofs.compare.differences.Given as goal
+
+abbrev pub invariant-loop-i : goal.invariant-loop-i
+invariant-loop-i l = Counted eq_n l.recorded l.answered l.count l.i
+
+abbrev pub decreases-loop-i : goal.decreases-loop-i
+decreases-loop-i l = length l.recorded - l.i

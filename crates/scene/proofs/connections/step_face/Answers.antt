@@ -1,0 +1,28 @@
+-- `scene::connections::step_face` meets its contract.
+-- Assumes nothing.
+use borrow.Author.Rules.{sfits_of}
+use mathlib.Core.Path.{◌∙◌}
+use Prim.Native.Nat.{◌+◌, ◌*◌}
+use mir.Syntax.{w64}
+use mir.Facts.{to_z-of_z}
+use Rattle.lists.specs.Signed.{at}
+use Rattle.faces.proofs.Steps.{facing_same}
+use Rattle.scene.proofs.connections.step_face.Goals as goal
+
+pub returns : goal.returns
+returns c =
+    
+    
+    
+    
+    let cs = c.args.components.now in
+    let a = c.args.a * 8 in
+    let b = c.args.b * 8 in
+    c.facing_between.ensures
+    ∙ facing_same
+    (to_z-of_z {w = w64} {z = at cs (a + 1)} (sfits_of c.facing_between-arg-1.given))
+    (to_z-of_z {w = w64} {z = at cs (a + 2)} (sfits_of c.facing_between-arg-2-1.given))
+    (to_z-of_z {w = w64} {z = at cs (a + 3)} (sfits_of c.facing_between-arg-3-1.given))
+    (to_z-of_z {w = w64} {z = at cs (b + 1)} (sfits_of c.facing_between-arg-4-1.given))
+    (to_z-of_z {w = w64} {z = at cs (b + 2)} (sfits_of c.facing_between-arg-5-1.given))
+    (to_z-of_z {w = w64} {z = at cs (b + 3)} (sfits_of c.facing_between-arg-6-1.given))
