@@ -1,13 +1,13 @@
 //! For build scripts: links an archive of the proved library.
 //!
 //! The archive is `target/staticlib/libNAME.a` of the repository. It is made
-//! by `rt staticlib NAME` when it is missing or older than the sources. An
-//! archive has no symbols but its exported functions, so two that share code
+//! by `rt lib` in `crates/NAME`, which leaves it in that crate's `out`, when it
+//! is missing or older than the sources. An archive has no symbols but its exported functions, so two that share code
 //! can be linked side by side. Where a crate links one and depends on a crate
 //! that links another, cargo runs the scripts one after the other (`links`), so
 //! that no two `rt` work in the repository at once.
 
-use std::env;
+use std::{env, fs};
 use std::path::{Path, PathBuf};
 use std::process::Command;
 use std::time::SystemTime;
@@ -63,22 +63,26 @@ fn changed(path: &Path) -> Option<SystemTime> {
     path.metadata().and_then(|data| data.modified()).ok()
 }
 
-/// The latest change of a file, or of anything below a folder.
+/// The latest change of a file, or of anything below a folder but `out`, in
+/// which `rt` keeps its work.
 fn latest(path: &Path) -> Option<SystemTime> {
+    if path.is_file() {
+        return changed(path);
+    }
     let inside = path.read_dir().into_iter().flatten().flatten();
-    let below = inside.filter_map(|entry| latest(&entry.path())).max();
-    below.max(changed(path))
+    let sources = inside.filter(|entry| entry.file_name() != "out");
+    sources.filter_map(|entry| latest(&entry.path())).max()
 }
 
 /// Proves a library and writes its archive; the build ends where that fails.
 fn make(name: &str, root: &Path) {
-    let status = Command::new("rt")
-        .args(["staticlib", name])
-        .current_dir(root)
-        .status();
+    let krate = root.join("crates").join(name);
+    let status = Command::new("rt").arg("lib").current_dir(&krate).status();
     let made = status.is_ok_and(|status| status.success());
-    assert!(
-        made,
-        "`rt staticlib {name}` failed in the repository's root"
-    );
+    assert!(made, "`rt lib` failed in crates/{name}");
+    let file = format!("lib{name}.a");
+    let folder = root.join("target/staticlib");
+    let copied = fs::create_dir_all(&folder)
+        .and_then(|()| fs::copy(krate.join("out").join(&file), folder.join(&file)));
+    assert!(copied.is_ok(), "{file} was not copied: {copied:?}");
 }

@@ -1,6 +1,6 @@
 //! The program `plotreport`, run on what a test hands it. It is made by
-//! `rt check` in the repository's root when it is missing or older than the
-//! sources.
+//! `rt run` in its crate, which leaves it in the crate's `out`, when it is
+//! missing or older than the sources.
 
 use std::fs::{self, File};
 use std::io::{self, ErrorKind, Write};
@@ -26,11 +26,15 @@ fn changed(path: &Path) -> Option<SystemTime> {
     path.metadata().and_then(|data| data.modified()).ok()
 }
 
-/// The latest change of a file, or of anything below a folder.
+/// The latest change of a file, or of anything below a folder but `out`, in
+/// which `rt` keeps its work.
 fn latest(path: &Path) -> Option<SystemTime> {
+    if path.is_file() {
+        return changed(path);
+    }
     let inside = path.read_dir().into_iter().flatten().flatten();
-    let below = inside.filter_map(|entry| latest(&entry.path())).max();
-    below.max(changed(path))
+    let sources = inside.filter(|entry| entry.file_name() != "out");
+    sources.filter_map(|entry| latest(&entry.path())).max()
 }
 
 fn is_current(program: &Path, root: &Path) -> bool {
@@ -45,16 +49,22 @@ fn made() -> Option<PathBuf> {
     if is_current(&program, &root) {
         return Some(program);
     }
+    let krate = root.join("crates/plotreport");
     let status = Command::new("rt")
-        .args(["check", "plotreport"])
-        .current_dir(&root)
+        .arg("run")
+        .current_dir(&krate)
+        .stdin(Stdio::null())
         .status();
-    let is_made = status.is_ok_and(|status| status.success());
-    is_made.then_some(program)
+    if !status.is_ok_and(|status| status.success()) {
+        return None;
+    }
+    fs::create_dir_all(program.parent()?).ok()?;
+    fs::copy(krate.join("out/plotreport"), &program).ok()?;
+    Some(program)
 }
 
 fn start(input: Stdio) -> io::Result<Child> {
-    const FAULT: &str = "`rt check plotreport` failed in the repository's root";
+    const FAULT: &str = "`rt run` failed in crates/plotreport";
     static PROGRAM: OnceLock<Option<PathBuf>> = OnceLock::new();
     let program = PROGRAM.get_or_init(made);
     let program = program.as_ref().ok_or_else(|| io::Error::other(FAULT))?;
