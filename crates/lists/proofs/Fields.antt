@@ -1,7 +1,7 @@
 -- What the checks of ranges and lengths leave: each field of each record in its range (`Within`), and natural numbers among them.
 -- Assumes nothing.
 use mathlib.Core.Path.{◌≡◌}
-use mathlib.Core.Bool.{true, not}
+use mathlib.Core.Bool.{not}
 use mathlib.Core.List.{List}
 use Prim.Native.Nat.{ℕ, ◌+◌, ◌*◌, ◌/◌, ◌≤◌, ◌<◌}
 use native.Mathlib.Nat.{add-zero}
@@ -12,7 +12,6 @@ use lib.IntN.{ℤ, pos}
 use lib.Signed.{non_neg}
 use borrow.Author.Tests.{not-false}
 use Rattle.lists.specs.Signed.{at, in_range}
-use Rattle.lists.specs.First.{first_from}
 use Rattle.lists.specs.Records.{natural_at}
 use Rattle.lists.specs.Ranges.{record_in_range, first_out_of_range}
 use Rattle.lists.specs.Within.{Within}

@@ -1,5 +1,6 @@
 // The lists of a scene: what they may hold, where an id stands, the ends of port connections. Their refusals are crate checks.
 #![tactic(auto)]
+
 pub mod ends;
 pub mod hints;
 pub mod ids;

@@ -1,6 +1,7 @@
 // Walks over a graph: its regions, by the two walks of Kosaraju and Sharir, and what a set of nodes reaches. The calls of the recursive
 // definition are a stack that the caller lends.
 #![tactic(auto)]
+
 pub mod carry;
 
 ghost use Rattle.std.specs.Prelude.{◌≡◌, false, ℕ, ◌+◌, ◌*◌, ◌<◌, ◌≤◌, length, get_or, take, replicate};

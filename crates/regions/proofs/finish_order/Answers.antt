@@ -1,12 +1,11 @@
 -- Answers for the goals that the search leaves.
 use mathlib.Core.Path.{refl, ap, ◌∙◌}
 use mathlib.Core.Bool.{false}
-use mathlib.Core.Logic.{⊎_elim}
-use borrow.Author.Tests.{not-false}
 use native.Mathlib.Omega.{arith}
 use lib.ListN.{replicate}
 use Rattle.regions.proofs.Order.{room_kept, order_begin, order_more, order_skip, order_end}
 use Rattle.regions.proofs.finish_order.Goals as goal
+use Rattle.regions.proofs.finish_order.Goals.{then-not-visited-start, else-not-visited-start}
 
 pub clear_flags-requires : goal.clear_flags-requires
 clear_flags-requires c = tt
@@ -15,7 +14,7 @@ pub loop-start-init : goal.loop-start-init
 loop-start-init c =
     let room = c.requires in
     let cleared = c.clear_flags in
-    (omega arith, refl, refl, order_begin _ (cleared.ensures ∙ ap (λ k. replicate k false) room.visited_length) (room_kept room room.keys_rise cleared.auto.0 room.order_room refl room.stack_zeros))
+    (omega arith, refl, refl, order_begin _ (cleared.ensures ∙ ap (λ k. replicate k false) room.visited_length) (room_kept room room.keys_rise cleared.auto.flags room.order_room refl room.stack_zeros))
 
 pub visit_from-count-requires : goal.visit_from-count-requires
 visit_from-count-requires c =
@@ -26,13 +25,15 @@ pub loop-start-preserved : goal.loop-start-preserved
 loop-start-preserved c =
     let (le, order_length, stack_length, w) = c.loop-start.invariant in
     let start = c.loop-start.start in
-    ⊎_elim
-    (λ v.
-    let kept = v.4.kept.1.1.1 in
-    rw (v.11, v.12, v.13, v.14)
-    (omega arith, kept.1.0 ∙ order_length, kept.1.1.1.0 ∙ stack_length, order_more start w v.4.ensures kept.0 kept.1.0 kept.1.1.1.0))
-    (λ v. rw (v.1, v.2, v.3, v.4) (omega arith, order_length, stack_length, order_skip start w (not-false _ v.0.left)))
-    c.if-not-visited-start.branch
+    elim c.if-not-visited-start.branch [
+      | then-not-visited-start v ↦
+          let kept = v.visit_from-count.auto in
+          rw (v.visited-is, v.order-is, v.stack-is, v.count-is)
+          (omega arith, kept.order ∙ order_length, kept.stack ∙ stack_length, order_more start w v.visit_from-count.ensures kept.visited kept.order kept.stack)
+      | else-not-visited-start v ↦
+          rw (v.visited-is, v.order-is, v.stack-is, v.count-is)
+          (omega arith, order_length, stack_length, order_skip start w v.if-not-visited-start.false)
+    ]
 
 pub shape_of-order : goal.shape_of-order
 shape_of-order c = c.loop-start.invariant.1

@@ -21,7 +21,7 @@ loop-i-init c =
       refl,
       refl,
       label_begin (within_flip _ _) (numbers.ensures ∙ ap (λ k. replicate k 0) labels_length) (flags.ensures ∙ ap (λ k. replicate k false) room.visited_length)
-          (room_kept room room.keys_rise flags.auto.0 room.order_room refl room.stack_zeros),
+          (room_kept room room.keys_rise flags.auto.flags room.order_room refl room.stack_zeros),
     )
 
 pub label_from-count-requires : goal.label_from-count-requires
@@ -37,8 +37,8 @@ loop-i-preserved c =
     let (members-length, stack_length, l) = c.loop-i.invariant in
     let more = c.loop-i-test.true in
     let call = c.label_from-count in
-    let kept = call.auto.1.1.1 in
-    (kept.1.1.1.0 ∙ members-length, kept.1.1.1.1.0 ∙ stack_length, label_more l more (within_flip _ _) _ order_is call.ensures kept.0 kept.1.0 kept.1.1.1.0 kept.1.1.1.1.0)
+    let kept = call.auto in
+    (kept.members ∙ members-length, kept.stack ∙ stack_length, label_more l more (within_flip _ _) _ order_is call.ensures kept.visited kept.labels kept.members kept.stack)
 
 pub shape_of-members : goal.shape_of-members
 shape_of-members c = c.loop-i.invariant.0

@@ -19,7 +19,7 @@ paint-requires c =
     let (lt, count_lt, labels_length, room) = c.requires in
     let call = c.visit_from-size in
     let few = fresh_room room in
-    let le : call.result ≤ length call.new.1.1.1.1.0 = omega (arith, call.ensures.adds, call.auto.1.1.1.1.0) in
+    let le : call.result ≤ length call.new.order = omega (arith, call.ensures.adds, call.auto.order) in
     (le, λ i h. let low = members_low lt call.ensures le i h in omega arith)
 
 pub returns : goal.returns

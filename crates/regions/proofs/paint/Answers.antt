@@ -2,7 +2,6 @@
 use mathlib.Core.Path.{refl, ap, ◌∙◌}
 use native.Mathlib.Omega.{arith}
 use lib.ListN.{get_or, set, length-set}
-use Rattle.regions.specs.Kosaraju as Kosaraju
 use Rattle.regions.proofs.Label.{paint_none, paint_more, paint_all}
 use Rattle.regions.proofs.paint.Goals as goal
 

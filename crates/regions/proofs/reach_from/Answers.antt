@@ -1,21 +1,20 @@
 -- Answers for the goals that the search leaves.
 use mathlib.Core.Path.{refl, ap, ◌∙◌}
 use mathlib.Core.Bool.{false}
-use mathlib.Core.Logic.{⊎_elim}
 use native.Mathlib.Omega.{arith}
 use lib.ListN.{replicate}
 use Rattle.regions.proofs.Order.{room_kept, reach_begin, reach_more, reach_skip, reach_end}
 use Rattle.regions.proofs.reach_from.Goals as goal
+use Rattle.regions.proofs.reach_from.Goals.{then-starts-start, else-starts-start}
 
 pub clear_flags-requires : goal.clear_flags-requires
 clear_flags-requires c = tt
 
 pub loop-start-init : goal.loop-start-init
 loop-start-init c =
-    
     let (starts-length, room) = c.requires in
     let cleared = c.clear_flags in
-    (omega arith, refl, refl, reach_begin _ (cleared.ensures ∙ ap (λ k. replicate k false) room.visited_length) (room_kept room room.keys_rise cleared.auto.0 room.order_room refl room.stack_zeros) c.args.starts.now)
+    (omega arith, refl, refl, reach_begin _ (cleared.ensures ∙ ap (λ k. replicate k false) room.visited_length) (room_kept room room.keys_rise cleared.auto.flags room.order_room refl room.stack_zeros) c.args.starts.now)
 
 pub visit_from-count-requires : goal.visit_from-count-requires
 visit_from-count-requires c =
@@ -27,13 +26,19 @@ loop-start-preserved c =
     let (le, order_length, stack_length, w) = c.loop-start.invariant in
     let start = c.loop-start.start in
     let starts = c.args.starts.now in
-    ⊎_elim
-    (λ v.
-    let kept = v.5.kept.1.1.1 in
-    rw (v.12, v.13, v.14, v.15)
-    (omega arith, kept.1.0 ∙ order_length, kept.1.1.1.0 ∙ stack_length, reach_more start starts w v.0.taken v.5.ensures kept.0 kept.1.0 kept.1.1.1.0))
-    (λ v. rw (v.1, v.2, v.3, v.4) (omega arith, order_length, stack_length, reach_skip start starts w v.0.left))
-    c.if-starts-start.branch
+    elim c.if-starts-start.branch [
+      | then-starts-start v ↦
+          let kept = v.visit_from-count.auto in
+          rw (v.visited-is, v.order-is, v.stack-is, v.count-is) (
+            omega arith,
+            kept.order ∙ order_length,
+            kept.stack ∙ stack_length,
+            reach_more start starts w v.if-starts-start.true v.visit_from-count.ensures kept.visited kept.order kept.stack,
+          )
+      | else-starts-start v ↦
+          rw (v.visited-is, v.order-is, v.stack-is, v.count-is)
+          (omega arith, order_length, stack_length, reach_skip start starts w v.if-starts-start.false)
+    ]
 
 pub shape_of-order : goal.shape_of-order
 shape_of-order c = c.loop-start.invariant.1

@@ -8,11 +8,11 @@ pub label_all-requires : goal.label_all-requires
 label_all-requires c =
     let (reversed, sorted, labels_length, members_room, room) = c.requires in
     let walk = c.finish_order in
-    let kept = walk.auto.1.1 in (
-      omega (arith, kept.1.0, room.order_room),
+    let kept = walk.auto in (
+      omega (arith, kept.order, room.order_room),
       order_backward _ _ _ reversed walk.ensures.order_is,
       labels_length,
-      room_kept room sorted kept.0 members_room kept.1.1.0 walk.ensures.stack_zeros,
+      room_kept room sorted kept.visited members_room kept.stack walk.ensures.stack_zeros,
     )
 
 pub returns : goal.returns

@@ -7,7 +7,6 @@ use Rattle.regions.proofs.visit_from.Goals as goal
 
 pub returns-then-visited-start : goal.returns-then-visited-start
 returns-then-visited-start c =
-    
     searched_old _ c.args.keys.now _ _ _ _ _ c.requires.2.stack_zeros c.if-visited-start.true
 
 pub loop-depth-init : goal.loop-depth-init

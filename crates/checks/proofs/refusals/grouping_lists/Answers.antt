@@ -13,7 +13,6 @@ use Rattle.checks.proofs.refusals.grouping_lists.Goals as goal
 
 pub returns : goal.returns
 returns c =
-    
     let cs = c.args.components.now in
     let ps = c.args.connections.now in
     let e : c.or_else.result

@@ -12,9 +12,11 @@ module _ (width limit n : ℕ) where
   over : limit < n / width → not_whole width limit n ≡ At limit
   unfolding not_whole
   over h = rw (lt-ltb limit (n / width) h) (ap At (omega arith))
+
   odd : n / width ≤ limit → (n % width ≡ 0 → ⊥) → not_whole width limit n ≡ At (n / width)
   unfolding not_whole
   odd h o = rw (le-ltb limit (n / width) h, ne_eqb (n % width) 0 o) (ap At (omega arith))
+
   whole : n / width ≤ limit → n % width ≡ 0 → not_whole width limit n ≡ Nothing
   unfolding not_whole
   whole h e = rw (le-ltb limit (n / width) h, eq-eqb (n % width) 0 e)

@@ -19,5 +19,4 @@ first_repeated-requires c =
 
 pub returns : goal.returns
 returns c =
-    
     record { answer = cc; table = c.id_table.ensures }

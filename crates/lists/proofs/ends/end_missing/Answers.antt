@@ -18,17 +18,14 @@ within c = record_within c.args.k _ 5 c.requires.port_connections.1
 
 pub natural_at-transfer-requires : goal.natural_at-transfer-requires
 natural_at-transfer-requires c =
-    
     (omega (arith, within c.before.before.before.before), field_non_neg c.requires.port_connections.0 c.args.k 4 c.requires.port_connections.1 (omega arith) refl)
 
 pub natural_at-requires : goal.natural_at-requires
 natural_at-requires c =
-    
     (omega (arith, within c.before.before.before.before.before.before), first_non_neg c.requires.port_connections.0 c.args.k c.requires.port_connections.1 (omega arith) refl)
 
 pub natural_at-requires-2 : goal.natural_at-requires-2
 natural_at-requires-2 c =
-    
     (omega (arith, within c.before.before.before.before.before.before.before.before.before), field_non_neg c.requires.port_connections.0 c.args.k 2 c.requires.port_connections.1 (omega arith) refl)
 
 -- the test, by what is tested
@@ -38,7 +35,6 @@ test_by e f g = rw (e, f, g)
 
 pub returns : goal.returns
 returns c cs t e =
-    
     let here = c.requires.port_connections.1 in
     let source-id = c.natural_at.ensures in
     let sink-id = c.natural_at-2.ensures in

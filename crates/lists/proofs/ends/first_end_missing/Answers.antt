@@ -2,7 +2,7 @@
 use mathlib.Core.Path.{sym, ◌∙◌}
 use native.Mathlib.Nat.{sub-zero}
 use native.Mathlib.Omega.{arith}
-use Rattle.lists.specs.Ids.{end_missing, first_end_missing}
+use Rattle.lists.specs.Ids.{first_end_missing}
 use Rattle.lists.proofs.Search.{first_here, first_later, first_none}
 use Rattle.lists.proofs.ends.first_end_missing.Goals as goal
 

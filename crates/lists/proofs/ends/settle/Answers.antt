@@ -6,7 +6,6 @@ use native.Mathlib.Omega.{arith}
 use Prim.Native.Nat.{◌+◌, ◌*◌, ◌≤◌, ◌<◌}
 use lib.ListN.{length, length-set}
 use lib.Seq.{get_or-set_same, get_or-set_other}
-use Rattle.lists.specs.Records.{natural_at}
 use Rattle.lists.specs.Ids.{smaller_ids}
 use Rattle.lists.proofs.Search.{record_within}
 use Rattle.lists.proofs.Fields.{field_non_neg, field_most}
@@ -24,13 +23,11 @@ field c = (end_range c.args.f c.requires.fact.0).0
 
 pub natural_at-requires : goal.natural_at-requires
 natural_at-requires c =
-    
     let range = end_range c.args.f c.requires.fact.0 in
     (omega (arith, within c, range.0), field_non_neg c.requires.port_connections c.loop-k.k c.args.f c.loop-k-test.true range.0 range.1.0)
 
 pub member_near-requires : goal.member_near-requires
 member_near-requires c =
-    
     let range = end_range c.args.f c.requires.fact.0 in
     omega (arith, c.natural_at.ensures, field_most c.requires.port_connections c.loop-k.k c.args.f c.loop-k-test.true range.0 4294967295 range.1.0 range.1.1)
 
@@ -46,7 +43,6 @@ bounds-members-k c = room (goal.at.bounds-members-k c).In-loop-k
 
 pub loop-k-preserved : goal.loop-k-preserved
 loop-k-preserved c =
-    
     let l = c.loop-k in
     let here = room (goal.at.loop-k-preserved c).In-loop-k in (
       omega (arith, c.loop-k-test.true),

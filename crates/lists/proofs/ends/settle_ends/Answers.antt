@@ -21,8 +21,6 @@ settle-requires-2 c =
 
 pub returns : goal.returns
 returns c cs t =
-    
-    
     record {
       source_members = c.settle.ensures cs t;
       sink_members = c.settle-2.ensures cs t;

@@ -1,7 +1,7 @@
 -- Answers for the goals that the search leaves.
 use mathlib.Core.Path.{sym, ◌∙◌}
 use native.Mathlib.Nat.{sub-zero}
-use Rattle.lists.specs.Ids.{used_earlier, first_repeated}
+use Rattle.lists.specs.Ids.{first_repeated}
 use Rattle.lists.proofs.Search.{first_here, first_later, first_none}
 use Rattle.lists.proofs.Table.{unrepeated_none}
 use Rattle.lists.proofs.ids.first_repeated.Goals as goal

@@ -6,12 +6,10 @@ use native.Mathlib.Omega.{arith}
 use mathlib.Core.Logic.{⊎_elim}
 use lib.ListN.{length, get_or, length-set}
 use lib.Seq.{get_or-set_same, get_or-set_other}
-use Rattle.tables.specs.Pairs.{pair}
 use Rattle.lists.specs.Records.{component_count}
 use Rattle.lists.specs.Ids.{id_key}
 use Rattle.lists.proofs.Table.{keys_rise, keys_small, table_of}
 use Rattle.lists.proofs.ids.id_table.Goals as goal
-use Rattle.lists.proofs.ids.id_table.Goals.{After-loop-k, Start}
 
 pub loop-k-init : goal.loop-k-init
 loop-k-init c = (omega arith, refl, λ j h. absurd (omega arith))
@@ -39,27 +37,20 @@ loop-k-preserved c =
     )
 
 -- where the loop ends there is a key for each component: the pair of its id and its place
-module _ (c : After-loop-k) where
-  abbrev start_of : Start
-  start_of = c.before.before.before.before.before
-  keys_long : length c.loop-k.keys ≡ component_count start_of.args.components.now
-  keys_long = c.loop-k.invariant.1 ∙ start_of.requires.keys_len.0
-  keys_each : (k : ℕ) → k < component_count start_of.args.components.now → get_or c.loop-k.keys k 0 ≡ id_key start_of.args.components.now k
-  keys_each k h = c.loop-k.invariant.2 k (omega (arith, c.loop-k-test.false, c.loop-k.invariant.0, keys_long))
-
 pub sort_pairs-requires : goal.sort_pairs-requires
 sort_pairs-requires c =
-    
-    let s = start_of (goal.at.sort_pairs-requires c).After-loop-k in
-    let cs = s.args.components.now in
-    let keys = c.loop-k.keys in record {
-      keys_in_bounds = omega (arith, c.loop-k.invariant.1, s.requires.keys_len.1);
-      rising_by = (keys_rise cs keys s.requires.components (keys_long (goal.at.sort_pairs-requires c).After-loop-k) (keys_each (goal.at.sort_pairs-requires c).After-loop-k), keys_small cs keys s.requires.components (keys_long (goal.at.sort_pairs-requires c).After-loop-k) (keys_each (goal.at.sort_pairs-requires c).After-loop-k));
+    let cs = c.args.components.now in
+    let keys = c.loop-k.keys in
+    let long : length keys ≡ component_count cs = c.loop-k.invariant.1 ∙ c.requires.keys_len.0 in
+    let each : ((k : ℕ) → k < component_count cs → get_or keys k 0 ≡ id_key cs k) =
+    λ k h. c.loop-k.invariant.2 k (omega (arith, c.loop-k-test.false, c.loop-k.invariant.0, long)) in
+    record {
+      keys_in_bounds = omega (arith, c.loop-k.invariant.1, c.requires.keys_len.1);
+      rising_by = (keys_rise cs keys c.requires.components long each, keys_small cs keys c.requires.components long each);
     }
 
 pub shape_of-keys : goal.shape_of-keys
 shape_of-keys c =
-    
     c.sort_pairs.auto.keys ∙ c.loop-k.invariant.1
 
 pub shape_of-spare : goal.shape_of-spare
@@ -67,6 +58,9 @@ shape_of-spare c = c.sort_pairs.auto.spare
 
 pub returns : goal.returns
 returns c =
-    
-    let s = start_of (goal.at.returns c).After-loop-k in
-    table_of s.args.components.now (omega (arith, s.pre.0.few)) (keys_long (goal.at.returns c).After-loop-k) (keys_each (goal.at.returns c).After-loop-k) c.sort_pairs.ensures
+    let cs = c.args.components.now in
+    let keys = c.loop-k.keys in
+    let long : length keys ≡ component_count cs = c.loop-k.invariant.1 ∙ c.requires.keys_len.0 in
+    let each : ((k : ℕ) → k < component_count cs → get_or keys k 0 ≡ id_key cs k) =
+    λ k h. c.loop-k.invariant.2 k (omega (arith, c.loop-k-test.false, c.loop-k.invariant.0, long)) in
+    table_of cs (omega (arith, c.requires.components.few)) long each c.sort_pairs.ensures

@@ -1,5 +1,5 @@
 -- Answers for the goals that the search leaves.
-use mathlib.Core.Bool.{false, false≢true}
+use mathlib.Core.Bool.{false≢true}
 use mathlib.Core.Logic.{⊎_elim}
 use mathlib.Core.Path.{◌≡◌}
 use Prim.Native.Nat.{◌+◌, ◌-◌, ◌≤◌, ◌<◌}
@@ -26,4 +26,4 @@ pub returns-then-keys-k : goal.returns-then-keys-k
 returns-then-keys-k c e = absurd (false≢true e)
 
 pub returns : goal.returns
-returns c e. record { at = λ i h = c.loop-k.invariant.1 i (omega arith) }
+returns c e = record { at = λ i h. c.loop-k.invariant.1 i (omega arith) }

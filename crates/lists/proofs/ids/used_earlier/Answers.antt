@@ -17,12 +17,10 @@ within c = record_within c.args.k _ 8 c.requires.k_bound
 
 pub natural_at-requires : goal.natural_at-requires
 natural_at-requires c =
-    
     (omega (arith, within c.before.before), first_non_neg c.requires.components c.args.k c.requires.k_bound (omega arith) refl)
 
 pub place_of-place-requires : goal.place_of-place-requires
 place_of-place-requires c =
-    
     omega (arith, c.natural_at.ensures, first_most c.requires.components c.args.k c.requires.k_bound (omega arith) 4294967295 refl refl)
 
 -- what the lookup says of the id
@@ -33,12 +31,10 @@ looked c =
 
 pub returns-in-At : goal.returns-in-At
 returns-in-At c =
-    
     sym (used_found c.args.components.now c.args.k c.requires.k_bound _ (sym (looked (goal.at.returns-in-At c).After-place_of-place) ∙ c.in-At.is))
 
 pub returns-in-Nothing : goal.returns-in-Nothing
 returns-in-Nothing c =
-    
     sym (used_none c.args.components.now c.args.k c.requires.k_bound (sym (looked (goal.at.returns-in-Nothing c).After-place_of-place) ∙ c.in-Nothing.is))
 
 pub overflow_mul-k : goal.overflow_mul-k

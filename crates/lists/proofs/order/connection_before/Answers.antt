@@ -26,7 +26,5 @@ joined list a b source source' sink sink' kind p q r s t =
 
 pub returns : goal.returns
 returns c =
-    
-    
     joined _ _ _ _ _ _ _ _ c.number_less-source.ensures c.number_less-source_back.ensures c.number_less-sink.ensures c.number_less-sink_back.ensures
     c.number_less-kind.ensures

@@ -5,7 +5,7 @@ use Prim.Native.Nat.{◌+◌, ◌-◌, ◌*◌, ◌≤◌}
 use native.Mathlib.Nat.{div-le_self}
 use native.Mathlib.Omega.{arith}
 use lib.ListN.{length}
-use Rattle.lists.specs.Order.{record_before, first_not_ascending}
+use Rattle.lists.specs.Order.{first_not_ascending}
 use Rattle.lists.proofs.Search.{first_here, first_later, first_none, record_within}
 use Rattle.lists.proofs.order.first_not_ascending.Goals as goal
 use Rattle.lists.proofs.order.first_not_ascending.Goals.{In-loop-k}
@@ -26,12 +26,10 @@ returns-then-not-record_before c =
     ∙ c.loop-k.invariant.1
 
 pub loop-k-preserved : goal.loop-k-preserved
-loop-k-preserved c =
-    (
+loop-k-preserved c = (
   omega arith,
   sym (first_later _ _ _ c.loop-k-test.true (ap not (sym c.record_before.ensures ∙ c.if-not-record_before.false)))
       ∙ c.loop-k.invariant.1,
-
 )
 
 pub returns : goal.returns
@@ -45,9 +43,9 @@ overflow_mul-k-in-loop-k c = omega (arith, within c)
 
 pub record_before-requires : goal.record_before-requires
 record_before-requires c = record {
-      fields_below = c.requires.fields_below;
-      width_in_bounds = (omega (arith, within c), omega (arith, within c));
-    }
+  fields_below = c.requires.fields_below;
+  width_in_bounds = (omega (arith, within c), omega (arith, within c));
+}
 
 pub overflow_add-k : goal.overflow_add-k
 overflow_add-k c = omega (arith, div-le_self (length c.args.list.now) c.args.width)

@@ -16,23 +16,19 @@ below c = field_below _ _ c.requires.fields_below _ c.loop-k-test.true
 
 pub returns-then-number_less : goal.returns-then-number_less
 returns-then-number_less c =
-    
     sym (before_less _ _ _ _ _ c.loop-k-test.true (sym c.number_less.ensures ∙ c.if-number_less.true)) ∙ c.loop-k.invariant.1
 
 pub returns-then-number_less-2 : goal.returns-then-number_less-2
 returns-then-number_less-2 c =
-    
     sym (before_more _ _ _ _ _ c.loop-k-test.true (sym c.number_less.ensures ∙ c.if-number_less.false) (sym c.number_less-in-loop-k.ensures ∙ c.if-number_less-2.true))
     ∙ c.loop-k.invariant.1
 
 pub loop-k-preserved : goal.loop-k-preserved
-loop-k-preserved c =
-    
-    (
-      omega (arith, c.loop-k-test.true),
-      sym (before_same _ _ _ _ _ c.loop-k-test.true (sym c.number_less.ensures ∙ c.if-number_less.false) (sym c.number_less-in-loop-k.ensures ∙ c.if-number_less-2.false))
-          ∙ c.loop-k.invariant.1,
-    )
+loop-k-preserved c = (
+  omega (arith, c.loop-k-test.true),
+  sym (before_same _ _ _ _ _ c.loop-k-test.true (sym c.number_less.ensures ∙ c.if-number_less.false) (sym c.number_less-in-loop-k.ensures ∙ c.if-number_less-2.false))
+      ∙ c.loop-k.invariant.1,
+)
 
 pub returns : goal.returns
 returns c =

@@ -5,7 +5,7 @@ use Prim.Native.Nat.{◌+◌, ◌*◌, ◌≤◌}
 use native.Mathlib.Nat.{sub-zero, div-le_self}
 use native.Mathlib.Omega.{arith}
 use lib.ListN.{length}
-use Rattle.lists.specs.Ranges.{record_in_range, first_out_of_range}
+use Rattle.lists.specs.Ranges.{first_out_of_range}
 use Rattle.lists.proofs.Search.{first_here, first_later, first_none, record_within}
 use Rattle.lists.proofs.ranges.first_out_of_range.Goals as goal
 use Rattle.lists.proofs.ranges.first_out_of_range.Goals.{In-loop-k}

@@ -16,12 +16,10 @@ returns-then-not-field_in_range c =
     ∙ c.loop-f.invariant.1
 
 pub loop-f-preserved : goal.loop-f-preserved
-loop-f-preserved c =
-    (
+loop-f-preserved c = (
   omega arith,
   sym (all_later _ _ _ c.loop-f-test.true (sym c.field_in_range.ensures ∙ c.if-not-field_in_range.false))
       ∙ c.loop-f.invariant.1,
-
 )
 
 pub returns : goal.returns

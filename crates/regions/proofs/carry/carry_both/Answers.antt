@@ -17,9 +17,11 @@ module _ (keys : List ℕ) (marks₀ marks : List Bool) (i : ℕ) (so : Carried 
   -- both numbers of the next key have a mark
   inside : KeysBelow (length marks₀) keys → i < length keys → (get_or keys i 0 / span < length marks) × (get_or keys i 0 % span < length marks)
   inside below h = (omega (arith, so.0, below.first i h), omega (arith, so.0, below.second i h))
+
   turn : KeysBelow (length marks₀) keys → i < length keys
       → Carried keys marks₀ (i + 1) (set marks (get_or keys i 0 % span) (marked marks (get_or keys i 0 % span) || marked marks (get_or keys i 0 / span)))
   turn below h = (simp length-set so.0, carry_turn keys marks i h (inside below h).1 ∙ so.1)
+
   all : length keys ≤ i → (r : ℕ) → marked marks r ≡ Carry.carry keys (marked marks₀) r
   all h r = ap (λ f. f r) (sym (carry_all keys (marked marks) i h) ∙ so.1)
 
@@ -35,7 +37,6 @@ inside-b c = inside c.args.keys.now c.args.b.now c.loop-i.b c.loop-i.i c.loop-i.
 
 pub loop-i-preserved : goal.loop-i-preserved
 loop-i-preserved c =
-    
     let l = c.loop-i in
     let h = c.loop-i-test.true in (
       omega arith,
@@ -45,7 +46,6 @@ loop-i-preserved c =
 
 pub returns : goal.returns
 returns c =
-    
     let l = c.loop-i in
     let h = c.loop-i-test.false in
     (all c.args.keys.now c.args.a.now l.a l.i l.invariant.1 h, all c.args.keys.now c.args.b.now l.b l.i l.invariant.2 h)
