@@ -1,5 +1,5 @@
 -- The line of a count: a number with no minus is a magnitude, and the text goes on behind it. Assumes nothing.
-use Prim.Native.Nat.{ℕ, ◌≤◌}
+use Prim.Native.Nat.{ℕ, zero, suc, ◌≤◌}
 use native.Mathlib.Omega.{arith}
 use mathlib.Core.Path.{◌≡◌, refl, sym, ap, ◌∙◌}
 use mathlib.Core.Logic.{⊎_elim}
@@ -19,7 +19,8 @@ natural_positive (taken n r) = refl
 natural_positive refused = refl
 
 natural_negative : (q : Taken ℕ) → natural (negative q) ≡ refused
-natural_negative (taken n r) = elim n [ Prim.Native.Nat.zero ↦ refl | Prim.Native.Nat.suc m ↦ refl ]
+natural_negative (taken zero r) = refl
+natural_negative (taken (suc n) r) = refl
 natural_negative refused = refl
 
 pub natural_number : (s : List ℕ) → natural (read_number s) ≡ read_magnitude s

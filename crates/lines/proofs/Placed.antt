@@ -36,7 +36,8 @@ negative_line n s zero p e h = absurd (h refl)
 negative_line n s (suc m) p e h = let q = number_taken n (read_magnitude s) (suc m) p e in rw (q.1, q.2)
 
 pub negative_zero : (n : ℕ) (s : List ℕ) (m p : ℕ) → number_in n (read_magnitude s) ≡ Is m p → m ≡ 0 → line_in n (negative (read_magnitude s)) ≡ Bad
-negative_zero n s m p e h = let q = number_taken n (read_magnitude s) m p e in rw (q.1, h)
+negative_zero n s zero p e h = let q = number_taken n (read_magnitude s) zero p e in rw q.1
+negative_zero n s (suc m) p e h = absurd (omega arith)
 
 pub small_fits : (m : ℕ) → m ≤ limit → SFits w64 (pos m)
 small_fits m h = record { sfits = omega arith }

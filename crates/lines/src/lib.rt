@@ -1,6 +1,7 @@
 // Lines `key=value`, read from a text and written into a lent buffer. A value is a decimal number with no leading zero and a minus only
 // before a number that is not 0, and the line is ended by LF.
 #![tactic(auto)]
+
 pub mod known;
 pub mod read;
 pub mod write;

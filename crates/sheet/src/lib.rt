@@ -1,6 +1,7 @@
 // Sheets: text that says the three lists of a scene, line by line. The first pass takes the text alone and finds its first fault, or where
 // the lists stand; the second stores the numbers. So a refusal changes no slice.
 #![tactic(auto)]
+
 mod first_pass;
 mod keys;
 mod second_pass;

@@ -13,7 +13,6 @@ use Rattle.lines.proofs.known.known_magnitude.Goals.{In-loop-i}
 
 pub loop-i-init : goal.loop-i-init
 loop-i-init c =
-    
     let e = magnitude_digits (drop c.args.at c.args.text.now) c.requires in
     (omega arith, subst Accepted (sym e) c.requires, e)
 

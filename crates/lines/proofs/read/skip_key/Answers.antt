@@ -15,6 +15,7 @@ use Rattle.lines.proofs.read.skip_key.Goals as goal
 module _ (text : List ℕ) (at : ℕ) (key : List ℕ) where
   says_no : has_key key (drop at text) ≡ false → No ≡ after_key text at key
   says_no e = rw e
+
   says_to : has_key key (drop at text) ≡ true → (i : ℕ) → i ≡ length key → To (at + i + 1) ≡ after_key text at key
   says_to e i l = rw (e, l)
 

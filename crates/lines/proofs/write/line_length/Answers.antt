@@ -16,7 +16,7 @@ use Rattle.lines.proofs.write.line_length.Goals.{After-digit_count-n}
 few : (c : After-digit_count-n) → c.digit_count-n.result ≤ 20
 few c =
     let m = c.magnitude in
-    omega (arith, c.digit_count-n.ensures, length_of_digits m.result m.type-inv [], count_most m.result m.type-inv)
+    omega (arith, c.digit_count-n.ensures, length_of_digits m.result m.type_inv [], count_most m.result m.type_inv)
 
 pub overflow_add-result : goal.overflow_add-result
 overflow_add-result c = omega (arith, few (goal.at.overflow_add-result c).After-digit_count-n)
@@ -26,7 +26,6 @@ overflow_add-result-then-value-lt0 c = omega (arith, few (goal.at.overflow_add-r
 
 pub returns-then-value-lt0 : goal.returns-then-value-lt0
 returns-then-value-lt0 c =
-    
     let f = to_z-of_z c.ranges.value in
     let m = rw f at c.magnitude.ensures in
     let n = number_minus c.args.value (rw f at c.if-value-lt0.true) in
@@ -41,7 +40,6 @@ overflow_add-result-3 c = omega (arith, few (goal.at.overflow_add-result-3 c).Af
 
 pub returns : goal.returns
 returns c =
-    
     let f = to_z-of_z c.ranges.value in
     let m = rw f at c.magnitude.ensures in
     let n = number_plain c.args.value (rw f at c.if-value-lt0.false) in

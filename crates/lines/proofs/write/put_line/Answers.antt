@@ -7,11 +7,9 @@ use Rattle.lines.proofs.write.put_line.Goals as goal
 
 pub write_line-requires : goal.write_line-requires
 write_line-requires c =
-    
     rw (to_z-of_z c.ranges.value) (room_put c.args.at (line_of c.args.key.now c.args.value) c.args.out.now c.requires)
 
 pub returns : goal.returns
 returns c =
-    
     let w = rw (to_z-of_z c.ranges.value) at c.write_line.ensures in
     wrote_put c.args.at _ _ _ _ (omega (arith, c.requires)) w

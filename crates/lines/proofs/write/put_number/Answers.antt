@@ -25,12 +25,10 @@ put_byte-at-requires c = omega (arith, ap length (minus-at (goal.at.put_byte-at-
 
 pub put_digits-n-requires : goal.put_digits-n-requires
 put_digits-n-requires c =
-    
     room_then c.put_byte-at.ensures (digits c.magnitude-m.result []) (rw (minus-at (goal.at.put_digits-n-requires c).Then-value-lt0) at c.requires)
 
 pub returns-then-value-lt0 : goal.returns-then-value-lt0
 returns-then-value-lt0 c =
-    
     rw (minus-at (goal.at.returns-then-value-lt0 c).Then-value-lt0) (wrote_then c.put_byte-at.ensures c.put_digits-n.ensures)
 
 pub put_digits-requires : goal.put_digits-requires

@@ -1,38 +1,35 @@
 -- `lines::write::write_line` meets its contract. Four writers, one after the other (`wrote_then`), each with room left by those before it (`room_then`). Assumes nothing.
-use Prim.Native.Nat.{◌+◌, ◌≤◌}
+use Prim.Native.Nat.{ℕ, ◌+◌, ◌≤◌}
 use native.Mathlib.Omega.{arith}
-use mathlib.Core.List.{[], ◌∷◌}
+use mathlib.Core.List.{List, [], ◌∷◌}
 use lib.ListN.{length, length-append}
+use lib.IntN.{ℤ}
 use mir.Facts.{to_z-of_z}
-use Rattle.lines.specs.Decimal.{number}
+use Rattle.lines.specs.Decimal.{number, line_of}
 use Rattle.lines.proofs.Writing.{wrote_then, room_then, line_parts, line_size}
 use Rattle.lines.proofs.write.write_line.Goals as goal
-use Rattle.lines.proofs.write.write_line.Goals.{Start}
 
 -- the four parts of the line have room
-room : (c : Start) → length c.args.key.now + 1 + length (number c.args.value []) + 1 ≤ length c.args.out.now
-room c = omega (arith, line_size c.args.key.now c.args.value)
+room : (key : List ℕ) (z : ℤ) (out : List ℕ) → length (line_of key z) ≤ length out → length key + 1 + length (number z []) + 1 ≤ length out
+room key z out h = omega (arith, line_size key z)
 
 pub put_bytes-a-requires : goal.put_bytes-a-requires
-put_bytes-a-requires c = omega (arith, room c.before.before.before.before)
+put_bytes-a-requires c = omega (arith, room c.args.key.now c.args.value c.args.out.now c.requires)
 
 pub put_byte-requires : goal.put_byte-requires
 put_byte-requires c =
-    
-    room_then c.put_bytes-a.ensures (61 ∷ []) (simp length-append (omega (arith, room c.before.before.before.before.before.before.before.before)))
+    room_then c.put_bytes-a.ensures (61 ∷ []) (simp length-append (omega (arith, room c.args.key.now c.args.value c.args.out.now c.requires)))
 
 pub put_number-requires : goal.put_number-requires
 put_number-requires c =
-    
     rw (to_z-of_z c.ranges.value) (
     room_then
     (wrote_then c.put_bytes-a.ensures c.put_byte.ensures)
     (number c.args.value [])
-    (simp length-append (omega (arith, room c.before.before.before.before.before.before.before.before.before.before.before.before))))
+    (simp length-append (omega (arith, room c.args.key.now c.args.value c.args.out.now c.requires))))
 
 pub put_byte-requires-2 : goal.put_byte-requires-2
 put_byte-requires-2 c =
-    
     let n = c.put_number.ensures in
     room_then
     (wrote_then
@@ -41,11 +38,10 @@ put_byte-requires-2 c =
     c.put_byte.ensures)
     (rw (to_z-of_z c.ranges.value) at n))
     (10 ∷ [])
-    (simp length-append (omega (arith, room c.before.before.before.before.before.before.before.before.before.before.before.before.before.before.before.before)))
+    (simp length-append (omega (arith, room c.args.key.now c.args.value c.args.out.now c.requires)))
 
 pub returns : goal.returns
 returns c =
-    
     let n = c.put_number.ensures in
     rw (← line_parts c.args.key.now c.args.value) (
     wrote_then

@@ -2,15 +2,41 @@
 -- Assumes nothing.
 use Prim.Native.Nat.{ℕ, ◌+◌, ◌*◌}
 use native.Mathlib.Omega.{arith}
-use mathlib.Core.Path.{subst, sym, ap, ◌∙◌}
+use mathlib.Core.Path.{◌≡◌, subst, sym, ap, ◌∙◌}
+use mathlib.Core.List.{List}
 use Rattle.lists.specs.Limits.{component_width, connection_width}
 use Rattle.sheet.specs.Sheet.{Faulty}
 use Rattle.sheet.specs.Places.{cut_limits, ListedAs}
 use Rattle.sheet.specs.declared.Counts.{Counts}
-use Rattle.sheet.specs.declared.first_pass.Listed.TheVariants.{Good}
+use Rattle.sheet.specs.declared.Place.{Place}
+use Rattle.sheet.specs.declared.first_pass.Listed.{Listed}
+use Rattle.sheet.specs.declared.first_pass.Listed.TheVariants.{Good, Refused}
 use Rattle.sheet.proofs.Chain.{first_fault, second_fault, third_fault, all_lists, nothing_behind, something_behind}
 use Rattle.sheet.proofs.first_pass.check_sheet.Goals as goal
-use Rattle.sheet.proofs.first_pass.check_sheet.Goals.{After-check_list-first, After-check_list-second, After-check_list-third, In-Good-2, In-Good-second-2, In-Good-third-2, Start}
+
+abbrev most : Counts → Counts
+most l = cut_limits l.components l.connections l.frontiers
+
+-- what checking each list tells, with the limits as they are cut, of what its answer is
+module _ (text : List ℕ) (l m : Counts) (e : m ≡ most l) where
+  first : (r v : Listed) → ListedAs text 0 0 m.components 0 r → r ≡ v → ListedAs text 0 0 (most l).components 0 v
+  first r v h i =
+      subst (ListedAs text 0 0 (most l).components 0) i (subst (λ (x : Counts). ListedAs text 0 0 x.components 0 r) e h)
+
+  second : (at line : ℕ) (r v : Listed) → ListedAs text at 1 m.connections line r → r ≡ v → ListedAs text at 1 (most l).connections line v
+  second at line r v h i =
+      subst (ListedAs text at 1 (most l).connections line) i (subst (λ (x : Counts). ListedAs text at 1 x.connections line r) e h)
+
+  third : (at line : ℕ) (r v : Listed) → ListedAs text at 2 m.frontiers line r → r ≡ v → ListedAs text at 2 (most l).frontiers line v
+  third at line r v h i =
+      subst (ListedAs text at 2 (most l).frontiers line) i (subst (λ (x : Counts). ListedAs text at 2 x.frontiers line r) e h)
+
+-- the lines where the second list and the third start
+abbrev line-1 : Place → ℕ
+line-1 c = 1 + c.count * component_width
+
+abbrev line-2 : Place → Place → ℕ
+line-2 c p = line-1 c + 1 + p.count * connection_width
 
 pub check_list-first-requires : goal.check_list-first-requires
 check_list-first-requires c =
@@ -19,153 +45,108 @@ check_list-first-requires c =
       limit_le_connection_limit = omega (arith, e);
     }
 
-abbrev most : Start → Counts
-most s = cut_limits s.args.limits.components s.args.limits.connections s.args.limits.frontiers
-
-first : (c : After-check_list-first) → ListedAs c.args.text.now 0 0 (most c.before.before.before.before).components 0 c.check_list-first.result
-first c =
-    subst
-    (λ (m : Counts). ListedAs c.args.text.now 0 0 m.components 0 c.check_list-first.result)
-    c.cut-most.ensures
-    c.check_list-first.ensures
-
-components : (c : In-Good-2) → ListedAs c.args.text.now 0 0 (most c.before.before.before.before.before.before).components 0 (Good c.in-Good.c)
-components c = subst (ListedAs c.args.text.now 0 0 (most c.before.before.before.before.before.before).components 0) c.in-Good.is (first c.before.before.before)
-
+-- ---- the first list
 pub overflow_mul-line : goal.overflow_mul-line
-overflow_mul-line c = omega (arith, (components (goal.at.overflow_mul-line c).In-Good-2).2)
+overflow_mul-line c =
+    let g = first c.args.text.now c.args.limits c.cut-most.result c.cut-most.ensures c.check_list-first.result (Good c.in-Good.c) c.check_list-first.ensures c.in-Good.is in
+    omega (arith, g.2)
 
 pub overflow_add-line : goal.overflow_add-line
-overflow_add-line c = omega (arith, (components (goal.at.overflow_add-line c).In-Good-2).2)
+overflow_add-line c =
+    let g = first c.args.text.now c.args.limits c.cut-most.result c.cut-most.ensures c.check_list-first.result (Good c.in-Good.c) c.check_list-first.ensures c.in-Good.is in
+    omega (arith, g.2)
 
 pub check_list-second-requires : goal.check_list-second-requires
 check_list-second-requires c =
-    let g = components (goal.at.check_list-second-requires c).In-Good-2 in
+    let g = first c.args.text.now c.args.limits c.cut-most.result c.cut-most.ensures c.check_list-first.result (Good c.in-Good.c) c.check_list-first.ensures c.in-Good.is in
     let e = ap (λ (m : Counts). m.connections) c.cut-most.ensures in record {
       at_in_bounds = g.1.end_within;
       limit_le_connection_limit = omega (arith, e, g.2);
     }
 
-abbrev line-1 : In-Good-2 → ℕ
-line-1 c = 1 + c.in-Good.c.count * component_width
-
-second : (c : After-check_list-second)
-    → ListedAs (c.before.before.before.before.before.before.before.before.before).args.text.now c.in-Good.c.end 1 (most (c.before.before.before.before.before.before.before.before.before)).connections (line-1 c.before.before.before.before)
-    c.check_list-second.result
-second c =
-    subst
-    (λ (m : Counts). ListedAs (c.before.before.before.before.before.before.before.before.before).args.text.now c.in-Good.c.end 1 m.connections (line-1 c.before.before.before.before) c.check_list-second.result)
-    c.cut-most.ensures
-    c.check_list-second.ensures
-
-connections : (c : In-Good-second-2)
-    → ListedAs (c.before.before.before.before.before.before.before.before.before.before.before).args.text.now c.in-Good.c.end 1 (most (c.before.before.before.before.before.before.before.before.before.before.before)).connections (line-1 c.before.before.before.before.before.before)
-    (Good c.in-Good-second.p)
-connections c =
-    subst
-    (ListedAs (c.before.before.before.before.before.before.before.before.before.before.before).args.text.now c.in-Good.c.end 1 (most (c.before.before.before.before.before.before.before.before.before.before.before)).connections (line-1 c.before.before.before.before.before.before))
-    c.in-Good-second.is
-    (second c.before.before.before)
-
+-- ---- the second list
 pub overflow_add-next : goal.overflow_add-next
-overflow_add-next c = omega (arith, (components (goal.at.overflow_add-next c).In-Good-2).2)
+overflow_add-next c =
+    let g = first c.args.text.now c.args.limits c.cut-most.result c.cut-most.ensures c.check_list-first.result (Good c.in-Good.c) c.check_list-first.ensures c.in-Good.is in
+    omega (arith, g.2)
 
 pub overflow_mul-next : goal.overflow_mul-next
-overflow_mul-next c = omega (arith, (connections (goal.at.overflow_mul-next c).In-Good-second-2).2)
+overflow_mul-next c =
+    let h = second c.args.text.now c.args.limits c.cut-most.result c.cut-most.ensures c.in-Good.c.end (line-1 c.in-Good.c) c.check_list-second.result (Good c.in-Good-second.p) c.check_list-second.ensures c.in-Good-second.is in
+    omega (arith, h.2)
 
 pub overflow_add-next-in-Good-second : goal.overflow_add-next-in-Good-second
 overflow_add-next-in-Good-second c =
-    omega (arith, (components (goal.at.overflow_add-next-in-Good-second c).In-Good-2).2, (connections (goal.at.overflow_add-next-in-Good-second c).In-Good-second-2).2)
+    let g = first c.args.text.now c.args.limits c.cut-most.result c.cut-most.ensures c.check_list-first.result (Good c.in-Good.c) c.check_list-first.ensures c.in-Good.is in
+    let h = second c.args.text.now c.args.limits c.cut-most.result c.cut-most.ensures c.in-Good.c.end (line-1 c.in-Good.c) c.check_list-second.result (Good c.in-Good-second.p) c.check_list-second.ensures c.in-Good-second.is in
+    omega (arith, g.2, h.2)
 
 pub check_list-third-requires : goal.check_list-third-requires
 check_list-third-requires c =
-    
-    let g = connections (goal.at.check_list-third-requires c).In-Good-second-2 in
-    let h = components (goal.at.check_list-third-requires c).In-Good-2 in
+    let g = first c.args.text.now c.args.limits c.cut-most.result c.cut-most.ensures c.check_list-first.result (Good c.in-Good.c) c.check_list-first.ensures c.in-Good.is in
+    let h = second c.args.text.now c.args.limits c.cut-most.result c.cut-most.ensures c.in-Good.c.end (line-1 c.in-Good.c) c.check_list-second.result (Good c.in-Good-second.p) c.check_list-second.ensures c.in-Good-second.is in
     let e = ap (λ (m : Counts). m.frontiers) c.cut-most.ensures in record {
-      at_in_bounds = g.1.end_within;
+      at_in_bounds = h.1.end_within;
       limit_le_connection_limit = omega (arith, e, g.2, h.2);
     }
 
-abbrev line-2 : In-Good-second-2 → ℕ
-line-2 c = line-1 c.before.before.before.before.before.before + 1 + c.in-Good-second.p.count * connection_width
-
-third : (c : After-check_list-third)
-    → ListedAs (start-1 (c.before.before.before.before.before.before.before.before.before)).args.text.now c.in-Good-second.p.end 2 (most (start-1 (c.before.before.before.before.before.before.before.before.before))).frontiers
-    (line-2 c.before.before.before.before) c.check_list-third.result
-third c =
-    subst
-    (λ (m : Counts).
-    ListedAs (start-1 (c.before.before.before.before.before.before.before.before.before)).args.text.now c.in-Good-second.p.end 2 m.frontiers (line-2 c.before.before.before.before) c.check_list-third.result)
-    (c.before.before.before.before.before.before.before.before.before).before.before.before.cut.ensures
-    c.check_list-third.ensures
-
-frontiers : (c : In-Good-third-2)
-    → ListedAs (start-1 (c.before.before.before.before.before.before.before.before.before.before.before)).args.text.now c.in-Good-second.p.end 2 (most (start-1 (c.before.before.before.before.before.before.before.before.before.before.before))).frontiers
-    (line-2 c.before.before.before.before.before.before) (Good c.in-Good-third.f)
-frontiers c =
-    subst
-    (ListedAs (start-1 (c.before.before.before.before.before.before.before.before.before.before.before)).args.text.now c.in-Good-second.p.end 2 (most (start-1 (c.before.before.before.before.before.before.before.before.before.before.before))).frontiers
-    (line-2 c.before.before.before.before.before.before))
-    c.in-Good-third.is
-    (third c.before.before.before)
-
+-- ---- the third list
 pub overflow_add-last : goal.overflow_add-last
 overflow_add-last c =
-    
-    omega (arith, (components ((goal.at.overflow_add-last c).In-Good-2)).2, (connections (goal.at.overflow_add-last c).In-Good-second-2).2)
+    let g = first c.args.text.now c.args.limits c.cut-most.result c.cut-most.ensures c.check_list-first.result (Good c.in-Good.c) c.check_list-first.ensures c.in-Good.is in
+    let h = second c.args.text.now c.args.limits c.cut-most.result c.cut-most.ensures c.in-Good.c.end (line-1 c.in-Good.c) c.check_list-second.result (Good c.in-Good-second.p) c.check_list-second.ensures c.in-Good-second.is in
+    omega (arith, g.2, h.2)
 
 pub overflow_mul-last : goal.overflow_mul-last
-overflow_mul-last c = omega (arith, (frontiers (goal.at.overflow_mul-last c).In-Good-third-2).2)
+overflow_mul-last c =
+    let f = third c.args.text.now c.args.limits c.cut-most.result c.cut-most.ensures c.in-Good-second.p.end (line-2 c.in-Good.c c.in-Good-second.p) c.check_list-third.result (Good c.in-Good-third.f) c.check_list-third.ensures c.in-Good-third.is in
+    omega (arith, f.2)
 
 pub overflow_add-last-then-f-text : goal.overflow_add-last-then-f-text
 overflow_add-last-then-f-text c =
-    
-    omega (arith, (components ((goal.at.overflow_add-last-then-f-text c).In-Good-2)).2, (connections (goal.at.overflow_add-last-then-f-text c).In-Good-second-2).2, (frontiers (goal.at.overflow_add-last-then-f-text c).In-Good-third-2).2)
+    let g = first c.args.text.now c.args.limits c.cut-most.result c.cut-most.ensures c.check_list-first.result (Good c.in-Good.c) c.check_list-first.ensures c.in-Good.is in
+    let h = second c.args.text.now c.args.limits c.cut-most.result c.cut-most.ensures c.in-Good.c.end (line-1 c.in-Good.c) c.check_list-second.result (Good c.in-Good-second.p) c.check_list-second.ensures c.in-Good-second.is in
+    let f = third c.args.text.now c.args.limits c.cut-most.result c.cut-most.ensures c.in-Good-second.p.end (line-2 c.in-Good.c c.in-Good-second.p) c.check_list-third.result (Good c.in-Good-third.f) c.check_list-third.ensures c.in-Good-third.is in
+    omega (arith, g.2, h.2, f.2)
 
 -- ---- the answers
 pub returns-then-f-text : goal.returns-then-f-text
 returns-then-f-text c =
-    
-    let a = (start-1 ((goal.at.returns-then-f-text c).In-Good-2)).args in
-    let f = frontiers (goal.at.returns-then-f-text c).In-Good-third-2 in
-    all_lists a.limits.components a.limits.connections a.limits.frontiers a.text.now (components ((goal.at.returns-then-f-text c).In-Good-2)).3 (connections (goal.at.returns-then-f-text c).In-Good-second-2).3 f.3
+    let a = c.args in
+    let g = first a.text.now a.limits c.cut-most.result c.cut-most.ensures c.check_list-first.result (Good c.in-Good.c) c.check_list-first.ensures c.in-Good.is in
+    let h = second a.text.now a.limits c.cut-most.result c.cut-most.ensures c.in-Good.c.end (line-1 c.in-Good.c) c.check_list-second.result (Good c.in-Good-second.p) c.check_list-second.ensures c.in-Good-second.is in
+    let f = third a.text.now a.limits c.cut-most.result c.cut-most.ensures c.in-Good-second.p.end (line-2 c.in-Good.c c.in-Good-second.p) c.check_list-third.result (Good c.in-Good-third.f) c.check_list-third.ensures c.in-Good-third.is in
+    all_lists a.limits.components a.limits.connections a.limits.frontiers a.text.now g.3 h.3 f.3
     ∙ something_behind _ _ _ a.text.now _ _ c.if-f-text.true
     ∙ ap Faulty (sym c.bad_line.ensures)
 
 pub returns-in-Refused : goal.returns-in-Refused
 returns-in-Refused c =
-    
     let a = c.args in
-    let e = subst (ListedAs a.text.now 0 0 (most c.before.before.before.before.before.before.before).components 0) c.in-Refused.is (first (goal.at.returns-in-Refused c).After-check_list-first) in
+    let e = first a.text.now a.limits c.cut-most.result c.cut-most.ensures c.check_list-first.result (Refused c.in-Refused.refusal) c.check_list-first.ensures c.in-Refused.is in
     first_fault a.limits.components a.limits.connections a.limits.frontiers a.text.now e
 
 pub returns-in-Refused-second : goal.returns-in-Refused-second
 returns-in-Refused-second c =
-    
     let a = c.args in
-    let e =
-    subst (ListedAs a.text.now c.in-Good.c.end 1 (most c.before.before.before.before.before.before.before.before.before.before.before.before).connections (line-1 (goal.at.returns-in-Refused-second c).In-Good-2)) c.in-Refused-second.is (second (goal.at.returns-in-Refused-second c).After-check_list-second) in
-    second_fault a.limits.components a.limits.connections a.limits.frontiers a.text.now (components (goal.at.returns-in-Refused-second c).In-Good-2).3 e
+    let g = first a.text.now a.limits c.cut-most.result c.cut-most.ensures c.check_list-first.result (Good c.in-Good.c) c.check_list-first.ensures c.in-Good.is in
+    let e = second a.text.now a.limits c.cut-most.result c.cut-most.ensures c.in-Good.c.end (line-1 c.in-Good.c) c.check_list-second.result (Refused c.in-Refused-second.refusal) c.check_list-second.ensures c.in-Refused-second.is in
+    second_fault a.limits.components a.limits.connections a.limits.frontiers a.text.now g.3 e
 
 pub returns-in-Refused-third : goal.returns-in-Refused-third
 returns-in-Refused-third c =
-    
-    let a = (c.before.before.before.before.before.before.before.before.before.before.before.before.before.before.before.before.before).args in
-    let e =
-    subst
-    (ListedAs a.text.now c.in-Good-second.p.end 2 (most (c.before.before.before.before.before.before.before.before.before.before.before.before.before.before.before.before.before)).frontiers (line-2 (goal.at.returns-in-Refused-third c).In-Good-second-2))
-    c.in-Refused-third.is
-    (third (goal.at.returns-in-Refused-third c).After-check_list-third) in
-    third_fault a.limits.components a.limits.connections a.limits.frontiers a.text.now (components (goal.at.returns-in-Refused-third c).In-Good-2).3 (connections (goal.at.returns-in-Refused-third c).In-Good-second-2).3 e
+    let a = c.args in
+    let g = first a.text.now a.limits c.cut-most.result c.cut-most.ensures c.check_list-first.result (Good c.in-Good.c) c.check_list-first.ensures c.in-Good.is in
+    let h = second a.text.now a.limits c.cut-most.result c.cut-most.ensures c.in-Good.c.end (line-1 c.in-Good.c) c.check_list-second.result (Good c.in-Good-second.p) c.check_list-second.ensures c.in-Good-second.is in
+    let e = third a.text.now a.limits c.cut-most.result c.cut-most.ensures c.in-Good-second.p.end (line-2 c.in-Good.c c.in-Good-second.p) c.check_list-third.result (Refused c.in-Refused-third.refusal) c.check_list-third.ensures c.in-Refused-third.is in
+    third_fault a.limits.components a.limits.connections a.limits.frontiers a.text.now g.3 h.3 e
 
 pub returns-else-f-text : goal.returns-else-f-text
 returns-else-f-text c =
-    
-    let a = (start-1 ((goal.at.returns-else-f-text c).In-Good-2)).args in
-    let g = components ((goal.at.returns-else-f-text c).In-Good-2) in
-    let h = connections (goal.at.returns-else-f-text c).In-Good-second-2 in
-    let f = frontiers (goal.at.returns-else-f-text c).In-Good-third-2 in (
+    let a = c.args in
+    let g = first a.text.now a.limits c.cut-most.result c.cut-most.ensures c.check_list-first.result (Good c.in-Good.c) c.check_list-first.ensures c.in-Good.is in
+    let h = second a.text.now a.limits c.cut-most.result c.cut-most.ensures c.in-Good.c.end (line-1 c.in-Good.c) c.check_list-second.result (Good c.in-Good-second.p) c.check_list-second.ensures c.in-Good-second.is in
+    let f = third a.text.now a.limits c.cut-most.result c.cut-most.ensures c.in-Good-second.p.end (line-2 c.in-Good.c c.in-Good-second.p) c.check_list-third.result (Good c.in-Good-third.f) c.check_list-third.ensures c.in-Good-third.is in (
       g.0,
       h.0,
       f.0,

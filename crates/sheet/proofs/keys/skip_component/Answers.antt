@@ -1,34 +1,9 @@
 -- `sheet::keys::skip_component` meets its contract: each arm has the key of its field.
 -- Assumes nothing.
-use borrow.Author.Rules.{rules}
 use mathlib.Core.Path.{◌≡◌}
 use Prim.Native.Nat.{ℕ, ◌≤◌, ◌<◌}
 use native.Mathlib.Omega.{arith}
 use Rattle.sheet.proofs.keys.skip_component.Goals as goal
-
-slice-aggregate-skip-key : tie.Need-slice-aggregate-skip-key
-slice-aggregate-skip-key c = search rules
-
-slice-aggregate-skip-key-2 : tie.Need-slice-aggregate-skip-key-2
-slice-aggregate-skip-key-2 c = search rules
-
-slice-aggregate-skip-key-3 : tie.Need-slice-aggregate-skip-key-3
-slice-aggregate-skip-key-3 c = search rules
-
-slice-aggregate-skip-key-4 : tie.Need-slice-aggregate-skip-key-4
-slice-aggregate-skip-key-4 c = search rules
-
-slice-aggregate-skip-key-5 : tie.Need-slice-aggregate-skip-key-5
-slice-aggregate-skip-key-5 c = search rules
-
-slice-aggregate-skip-key-6 : tie.Need-slice-aggregate-skip-key-6
-slice-aggregate-skip-key-6 c = search rules
-
-slice-aggregate-skip-key-7 : tie.Need-slice-aggregate-skip-key-7
-slice-aggregate-skip-key-7 c = search rules
-
-slice-aggregate-skip-key-8 : tie.Need-slice-aggregate-skip-key-8
-slice-aggregate-skip-key-8 c = search rules
 
 pub returns-in-0 : goal.returns-in-0
 returns-in-0 c = rw c.in-0.is c.skip_key.ensures
@@ -59,8 +34,4 @@ last : (j : ℕ) → 4 ≤ j → j < 8 → (j ≡ 4 → ⊥) → (j ≡ 5 → �
 last j g b h k l = omega arith
 
 pub returns-in_default : goal.returns-in_default
-returns-in_default c =
-    let r = c.in_default.rest in
-    let g = low c.args.j r.0.0.0.0.0.0.1 r.0.0.0.0.0.1 r.0.0.0.0.1 r.0.0.0.1 in
-    let e = last c.args.j g c.requires.1 r.0.0.1 r.0.1 r.1 in
-    rw e c.skip_key-in_default.ensures
+returns-in_default c = let e : c.args.j ≡ 7 = omega arith in rw e c.skip_key-in_default.ensures

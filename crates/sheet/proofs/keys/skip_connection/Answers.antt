@@ -1,18 +1,8 @@
 -- `sheet::keys::skip_connection` meets its contract: each arm has the key of its field.
 -- Assumes nothing.
-use borrow.Author.Rules.{rules}
 use mathlib.Core.Path.{◌≡◌}
 use native.Mathlib.Omega.{arith}
 use Rattle.sheet.proofs.keys.skip_connection.Goals as goal
-
-slice-aggregate-skip-key : tie.Need-slice-aggregate-skip-key
-slice-aggregate-skip-key c = search rules
-
-slice-aggregate-skip-key-2 : tie.Need-slice-aggregate-skip-key-2
-slice-aggregate-skip-key-2 c = search rules
-
-slice-aggregate-skip-key-3 : tie.Need-slice-aggregate-skip-key-3
-slice-aggregate-skip-key-3 c = search rules
 
 pub returns-in-0 : goal.returns-in-0
 returns-in-0 c = rw c.in-0.is c.skip_key.ensures
@@ -21,7 +11,4 @@ pub returns-in-1 : goal.returns-in-1
 returns-in-1 c = rw c.in-1.is c.skip_key-in-1.ensures
 
 pub returns-in_default : goal.returns-in_default
-returns-in_default c =
-    let r = c.in_default.rest in
-    let e : c.args.j ≡ 2 = omega (arith, r.1, r.0.1) in
-    rw e c.skip_key-in_default.ensures
+returns-in_default c = let e : c.args.j ≡ 2 = omega arith in rw e c.skip_key-in_default.ensures

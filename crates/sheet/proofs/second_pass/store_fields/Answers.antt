@@ -2,9 +2,10 @@
 use native.Mathlib.Omega.{arith}
 use mathlib.Core.Path.{refl, sym, ap, ◌∙◌, subst}
 use mathlib.Core.List.{[], ◌∷◌, ◌++◌}
-use borrow.Author.Rules.{sfits_of}
+use borrow.Author.Rules.{rules}
 use lib.ListN.{length-set}
 use mir.Syntax.{w64}
+use mir.Val.{SFits}
 use mir.Facts.{to_z-of_z}
 use Rattle.lines.proofs.Writing.{laid_snoc}
 use Rattle.sheet.specs.Keys.{keys_of}
@@ -17,7 +18,6 @@ loop-k-init c = ([], start _ _ _ _ c.requires.at_in_bounds, refl, refl)
 
 pub known_field-l-requires : goal.known_field-l-requires
 known_field-l-requires c =
-    
     let a = c.args in
     let x = c.loop-k.invariant.1 in record {
       at_in_bounds = x.placed;
@@ -29,7 +29,6 @@ shape_of-out-in-Bad c = c.loop-k.invariant.3
 
 pub returns-in-Bad : goal.returns-in-Bad
 returns-in-Bad c =
-    
     let a = c.args in
     let x = c.loop-k in
     let e = sym c.known_field-l.ensures ∙ c.in-Bad.is in
@@ -42,10 +41,11 @@ loop-k-preserved c =
     let x = c.loop-k in
     let e = sym c.known_field-l.ensures ∙ c.in-Value.is in
     let t = c.loop-k-test.true in
-    let p = x.invariant.1 in (
+    let p = x.invariant.1 in
+    let f : SFits w64 c.in-Value.v = search rules in (
       x.invariant.0 ++ (c.in-Value.v ∷ []),
       step (keys_of a.list) a.text.now a.at a.n p t c.in-Value.v c.in-Value.q e,
-      rw (to_z-of_z {w = w64} (sfits_of c.known_told-1.given.0.1), x.invariant.2) (laid_snoc x.invariant.0 a.out.now c.in-Value.v x.k p.count (omega arith)),
+      rw (to_z-of_z {w = w64} f, x.invariant.2) (laid_snoc x.invariant.0 a.out.now c.in-Value.v x.k p.count (omega arith)),
       simp length-set x.invariant.3,
     )
 

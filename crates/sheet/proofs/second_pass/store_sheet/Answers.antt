@@ -7,7 +7,6 @@ use Rattle.sheet.proofs.second_pass.store_sheet.Goals as goal
 
 pub store_fields-requires : goal.store_fields-requires
 store_fields-requires c =
-    
     let (cs, ps, fs, all) = c.requires.some_stand in record {
       n_in_bounds = c.requires.lent.of_components;
       at_in_bounds = all.of_components.start_within;
@@ -16,7 +15,6 @@ store_fields-requires c =
 
 pub store_fields-requires-2 : goal.store_fields-requires-2
 store_fields-requires-2 c =
-    
     let (cs, ps, fs, all) = c.requires.some_stand in record {
       n_in_bounds = c.requires.lent.of_connections;
       at_in_bounds = all.of_connections.start_within;
@@ -25,7 +23,6 @@ store_fields-requires-2 c =
 
 pub store_fields-requires-3 : goal.store_fields-requires-3
 store_fields-requires-3 c =
-    
     let (cs, ps, fs, all) = c.requires.some_stand in record {
       n_in_bounds = c.requires.lent.of_frontiers;
       at_in_bounds = all.of_frontiers.start_within;
@@ -34,7 +31,6 @@ store_fields-requires-3 c =
 
 pub returns : goal.returns
 returns c cs ps fs all =
-    
     let a = c.args in
     record {
       of_components = c.store_fields.ensures ∙ ap (λ f. stored f a.components.now) all.of_components.fields;
