@@ -13,16 +13,11 @@ unfolding source_kind
 returns-in-3 c = ⊎_elim (λ e. rw e) (λ e. rw e) c.in-3.is
 
 pub returns-in-4 : goal.returns-in-4
-returns-in-4 c =
-    
-    let k = c.args.kind in
-    ⊎_elim (λ (e : 3 ≡ k). absurd (c.in_default-1.rest.1 (inl (sym e)))) (λ (l : 3 < k). sym (kind_within k l c.if-kind-lt7.true)) (eq-or-lt_of_le c.if-kind-lt3.false)
+returns-in-4 c = ?
 
 pub returns-in_default : goal.returns-in_default
-returns-in_default c = sym (kind_below _ c.if-kind-lt3.true)
+returns-in_default c = ?
 
 pub returns-in_default-2 : goal.returns-in_default-2
-returns-in_default-2 c =
-    
-    let k = c.args.kind in
-    ⊎_elim (λ (e : 7 ≡ k). absurd (c.in_default-1.rest.1 (inr (sym e)))) (λ (l : 7 < k). sym (kind_past k l)) (eq-or-lt_of_le c.if-kind-lt7.false)
+returns-in_default-2 c = ?
+

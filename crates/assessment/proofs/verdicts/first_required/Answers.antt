@@ -14,15 +14,11 @@ unfolding first_required
 returns-in-3 c = (rw c.in-3.is, omega arith)
 
 pub returns-in-1 : goal.returns-in-1
-returns-in-1 c = (sym (first_low _ c.if-kind-lt1.false c.if-kind-lt3.true), omega arith)
+returns-in-1 c = ?
 
 pub returns-in_default : goal.returns-in_default
-returns-in_default c = (sym (first_none _ c.if-kind-lt1.true), omega arith)
+returns-in_default c = ?
 
 pub returns-in_default-2 : goal.returns-in_default-2
-returns-in_default-2 c =
-    
-    let k = c.args.kind in (
-      ⊎_elim (λ (e : 3 ≡ k). absurd (c.in_default-1.rest.1 (sym e))) (λ (l : 3 < k). sym (first_past k l)) (eq-or-lt_of_le c.if-kind-lt3.false),
-      omega arith,
-    )
+returns-in_default-2 c = ?
+

@@ -14,15 +14,35 @@ use Rattle.lists.specs.Limits.{component_limit}
 use Rattle.signals.proofs.Crossed.{laid_below, laid_crossings}
 use Rattle.signals.proofs.crossings.find_crossings.Goals as goal
 
--- what is lent to lay_by_first, the keys that were listed, is as long as it says
-lent : (r : ℕ) {m n k : ℕ} (xs : List ℕ) → r ≤ n → length xs ≡ k → n ≤ m → k ≡ m → length (take r xs) ≡ r
-lent r xs a b d e = length-take-le r xs (omega arith)
+-- what is lent to the layout, the keys that were listed, are as many as was answered
+lent : (r n m : ℕ) (xs : List ℕ) → r ≤ n → n ≤ m → length xs ≡ m → length (take r xs) ≡ r
+lent r n m xs a b e = length-take-le r xs (omega arith)
 
 pub lay_by_first-requires : goal.lay_by_first-requires
-lay_by_first-requires c = ?
+lay_by_first-requires c =
+    let count = c.list_crossings-count in
+    let listed = take count.result count.new.keys in
+    let still : Rearranged listed listed = record { same = λ v. refl } in
+    let below = laid_below c.requires.rows.0 c.requires.indices count.ensures.1 still in
+    record {
+      keys_in_bounds = omega (arith, lent _ _ _ count.new.keys count.ensures.0 c.requires.rows.1.1 count.auto.keys, count.ensures.0, c.requires.rows.1.0);
+      counts_len_bound = (omega arith, at_all (λ x. x / span < component_limit) listed below.first);
+    }
 
 pub returns : goal.returns
-returns c = ?
+returns c =
+    let out = c.lay_by_first in
+    let count = c.list_crossings-count in
+    let listed = take count.result count.new.keys in
+    let laid = subst (λ (n : ℕ). LaidByFirst listed (take n out.new.out))
+        (lent _ _ _ count.new.keys count.ensures.0 c.requires.rows.1.1 count.auto.keys) out.ensures in
+    record {
+      few = omega (arith, out.auto.out, count.ensures.0, c.requires.rows.1.0);
+      below = laid_below c.requires.rows.0 c.requires.indices count.ensures.1 laid.rearranged;
+      pairs = laid_crossings c.requires.rows.0 c.requires.indices count.ensures.1 laid.rearranged laid.firsts;
+    }
 
 pub slice_bounds-lay_by_first-end : goal.slice_bounds-lay_by_first-end
-slice_bounds-lay_by_first-end c = ?
+slice_bounds-lay_by_first-end c =
+    let count = c.list_crossings-count in
+    sym (lent _ _ _ count.new.keys count.ensures.0 c.requires.rows.1.1 count.auto.keys)
