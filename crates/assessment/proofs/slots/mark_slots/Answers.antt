@@ -3,22 +3,18 @@ use mathlib.Core.Path.{◌≡◌, sym, ap, ◌∙◌}
 use Prim.Native.Nat.{◌/◌, ◌<◌}
 use native.Mathlib.Omega.{arith}
 use lib.ListN.{length, length-set, length-replicate}
-use Rattle.lists.specs.Limits.{connection_limit}
 use Rattle.assessment.proofs.Places.{slots_none, slots_more}
 use Rattle.assessment.proofs.slots.mark_slots.Goals as goal
-use Rattle.assessment.proofs.slots.mark_slots.Goals.{After-shared_slice_known-in-loop-k-2-1, In-loop-k}
 
 pub loop-k-init : goal.loop-k-init
 loop-k-init c =
-    
-    let a = c.args in (
+    let a = c.args in
+    let fresh = c.requires.fed_value in (
       omega arith,
-      rw (c.requires.fed_value.0, c.requires.fed_value.1.0, c.requires.fed_value.1.1) record { fed_room = simp length-replicate; driven_room = simp length-replicate; possible_room = simp length-replicate },
-      rw (c.requires.fed_value.0, c.requires.fed_value.1.0, c.requires.fed_value.1.1) (slots_none a.ports.now a.sources.now a.sinks.now a.drive.now a.potential.now),
+      rw (fresh.0, fresh.1.0, fresh.1.1)
+          record { fed_room = simp length-replicate; driven_room = simp length-replicate; possible_room = simp length-replicate },
+      rw (fresh.0, fresh.1.0, fresh.1.1) (slots_none a.ports.now a.sources.now a.sinks.now a.drive.now a.potential.now),
     )
-
-few : (c : In-loop-k) → c.loop-k.k < connection_limit
-few c = omega (arith, c.loop-k-test.true, c.requires.port_connections.0.few)
 
 pub slot_at-j-requires : goal.slot_at-j-requires
 slot_at-j-requires c =
@@ -27,23 +23,13 @@ slot_at-j-requires c =
       sink_lt_component_limit = λ e. c.requires.port_connections.1.1.below c.loop-k.k c.loop-k-test.true e;
     }
 
--- there is room for the flags of a turn
-room : (c : After-shared_slice_known-in-loop-k-2-1) → (c.slot_at-j.result < length c.loop-k.fed)
-    × (c.slot_at-j.result < length c.loop-k.driven) × (c.slot_at-j.result < length c.loop-k.possible)
-room c =
-    let r = c.loop-k.invariant.1 in
-    let h = c.slot_at-j.ensures.1 in
-    (omega (arith, r.fed_room, h), omega (arith, r.driven_room, h), omega (arith, r.possible_room, h))
-
 pub loop-k-preserved : goal.loop-k-preserved
 loop-k-preserved c =
-    
-    
     let l = c.loop-k in
-    let r = l.inv.1 in (
+    let r = l.invariant.1 in (
       omega (arith, c.loop-k-test.true),
       record { fed_room = simp length-set r.fed_room; driven_room = simp length-set r.driven_room; possible_room = simp length-set r.possible_room },
-      slots_more _ _ _ _ _ l.k l.inv.2 r c.slot_at-j.result c.slot_at-j.ensures.0 c.slot_at-j.ensures.1
+      slots_more _ _ _ _ _ l.k l.invariant.2 r c.slot_at-j.result c.slot_at-j.ensures.0 c.slot_at-j.ensures.1
           c.mark_at.result c.mark_at-in-loop-k.result c.mark_at.ensures c.mark_at-in-loop-k.ensures,
     )
 
@@ -53,44 +39,33 @@ returns c =
     let all : l.k ≡ length c.args.ports.now / 5 = omega (arith, l.invariant.0, c.loop-k-test.false) in
     rw all at l.invariant.2
 
-pub offset_bounds-sinks-k : goal.offset_bounds-sinks-k
-offset_bounds-sinks-k c = omega (arith, few c)
-
 pub bounds-sinks-k : goal.bounds-sinks-k
 bounds-sinks-k c = omega (arith, c.loop-k-test.true, c.requires.port_connections.1.1.long)
 
-pub offset_bounds-sources-k : goal.offset_bounds-sources-k
-offset_bounds-sources-k c = omega (arith, few (goal.at.offset_bounds-sources-k c).In-loop-k)
-
 pub bounds-sources-k : goal.bounds-sources-k
-bounds-sources-k c = omega (arith, c.loop-k-test.true, (c.before.before.before.before.before.before.before.before.before.before.before.before.before).requires.port_connections.1.0)
+bounds-sources-k c = omega (arith, c.loop-k-test.true, c.requires.port_connections.1.0)
 
+-- there is room for the flags of a turn
 pub bounds-fed-j : goal.bounds-fed-j
-bounds-fed-j c = (room c).0
+bounds-fed-j c = omega (arith, c.loop-k.invariant.1.fed_room, c.slot_at-j.ensures.1)
 
 pub bounds-driven-j : goal.bounds-driven-j
-bounds-driven-j c = (room (goal.at.bounds-driven-j c).After-shared_slice_known-in-loop-k-2-1).1
+bounds-driven-j c = omega (arith, c.loop-k.invariant.1.driven_room, c.slot_at-j.ensures.1)
 
 pub bounds-driven-j-in-loop-k : goal.bounds-driven-j-in-loop-k
-bounds-driven-j-in-loop-k c = (room (goal.at.bounds-driven-j-in-loop-k c).After-shared_slice_known-in-loop-k-2-1).1
+bounds-driven-j-in-loop-k c = omega (arith, c.loop-k.invariant.1.driven_room, c.slot_at-j.ensures.1)
 
 pub bounds-possible-j : goal.bounds-possible-j
-bounds-possible-j c = (room (goal.at.bounds-possible-j c).After-shared_slice_known-in-loop-k-2-1).2
+bounds-possible-j c = omega (arith, c.loop-k.invariant.1.possible_room, c.slot_at-j.ensures.1)
 
 pub bounds-possible-j-in-loop-k : goal.bounds-possible-j-in-loop-k
-bounds-possible-j-in-loop-k c = (room (goal.at.bounds-possible-j-in-loop-k c).After-shared_slice_known-in-loop-k-2-1).2
-
-pub overflow_add-k : goal.overflow_add-k
-overflow_add-k c = omega (arith, few (goal.at.overflow_add-k c).In-loop-k)
-
-pub loop-k-smaller : goal.loop-k-smaller
-loop-k-smaller c = let i = (goal.at.loop-k-smaller c).In-loop-k in omega (arith, i.loop-test.taken)
+bounds-possible-j-in-loop-k c = omega (arith, c.loop-k.invariant.1.possible_room, c.slot_at-j.ensures.1)
 
 pub shape_of-fed : goal.shape_of-fed
-shape_of-fed c = let s = c.before.before.before.before.before.before.before.before.before.before in c.loop-k.invariant.1.fed_room ∙ sym (ap length s.requires.fed_value.0 ∙ simp length-replicate)
+shape_of-fed c = c.loop-k.invariant.1.fed_room ∙ sym (ap length c.requires.fed_value.0 ∙ simp length-replicate)
 
 pub shape_of-driven : goal.shape_of-driven
-shape_of-driven c = let s = c.before.before.before.before.before.before.before.before.before.before in c.loop-k.invariant.1.driven_room ∙ sym (ap length s.requires.fed_value.1.0 ∙ simp length-replicate)
+shape_of-driven c = c.loop-k.invariant.1.driven_room ∙ sym (ap length c.requires.fed_value.1.0 ∙ simp length-replicate)
 
 pub shape_of-possible : goal.shape_of-possible
-shape_of-possible c = let s = c.before.before.before.before.before.before.before.before.before.before in c.loop-k.invariant.1.possible_room ∙ sym (ap length s.requires.fed_value.1.1 ∙ simp length-replicate)
+shape_of-possible c = c.loop-k.invariant.1.possible_room ∙ sym (ap length c.requires.fed_value.1.1 ∙ simp length-replicate)

@@ -1,9 +1,8 @@
 -- `assessment::sources::source_kind` meets its contract.
 -- Assumes nothing.
-use mathlib.Core.Path.{◌≡◌, sym}
-use mathlib.Core.Logic.{inl, inr, ⊎_elim}
-use Prim.Native.Nat.{◌<◌}
-use native.Mathlib.Nat.{eq-or-lt_of_le}
+use mathlib.Core.Path.{sym}
+use mathlib.Core.Logic.{⊎_elim}
+use native.Mathlib.Omega.{arith}
 use Rattle.signals.specs.Sources.{source_kind}
 use Rattle.assessment.proofs.Frontiers.{kind_below, kind_within, kind_past}
 use Rattle.assessment.proofs.sources.source_kind.Goals as goal
@@ -13,16 +12,10 @@ unfolding source_kind
 returns-in-3 c = ⊎_elim (λ e. rw e) (λ e. rw e) c.in-3.is
 
 pub returns-in-4 : goal.returns-in-4
-returns-in-4 c =
-    
-    let k = c.args.kind in
-    ⊎_elim (λ (e : 3 ≡ k). absurd (c.in_default-1.rest.1 (inl (sym e)))) (λ (l : 3 < k). sym (kind_within k l c.if-kind-lt7.true)) (eq-or-lt_of_le c.if-kind-lt3.false)
+returns-in-4 c = sym (kind_within c.args.kind (grind arith) (omega arith))
 
 pub returns-in_default : goal.returns-in_default
-returns-in_default c = sym (kind_below _ c.if-kind-lt3.true)
+returns-in_default c = sym (kind_below c.args.kind (omega arith))
 
 pub returns-in_default-2 : goal.returns-in_default-2
-returns-in_default-2 c =
-    
-    let k = c.args.kind in
-    ⊎_elim (λ (e : 7 ≡ k). absurd (c.in_default-1.rest.1 (inr (sym e)))) (λ (l : 7 < k). sym (kind_past k l)) (eq-or-lt_of_le c.if-kind-lt7.false)
+returns-in_default-2 c = sym (kind_past c.args.kind (grind arith))

@@ -1,6 +1,5 @@
 -- Answers for the goals that the search leaves.
 use mathlib.Core.Path.{◌≡◌, refl, ap, ◌∙◌}
-use mathlib.Core.Logic.{⊎_elim}
 use native.Mathlib.Omega.{arith}
 use lib.ListN.{length}
 use Rattle.assessment.proofs.UpRows.{seeded_none, seeded_more, seeded_skip}
@@ -8,26 +7,28 @@ use Rattle.assessment.proofs.upstream.seed_rows.Goals as goal
 use Rattle.assessment.proofs.upstream.seed_rows.Goals.{else-flags-k, then-flags-k}
 
 pub loop-k-init : goal.loop-k-init
-loop-k-init c =
-    
-    (omega arith, refl, seeded_none c.args.labels.now c.args.flags.now c.requires.rows_len.1)
+loop-k-init c = (omega arith, refl, seeded_none c.args.labels.now c.args.flags.now c.requires.rows_len.1)
 
 pub put_member-requires : goal.put_member-requires
 put_member-requires c =
-    
     let l = c.loop-k in
-    (l.invariant.1 ∙ c.requires.rows_len.0, (c.requires.indices.0.below l.k c.loop-k-test.true, omega (arith, c.loop-k-test.true, c.requires.indices.1.0)))
+    (
+      l.invariant.1 ∙ c.requires.rows_len.0,
+      (c.requires.indices.0.below l.k c.loop-k-test.true, omega (arith, c.loop-k-test.true, c.requires.indices.1.0)),
+    )
 
 pub loop-k-preserved : goal.loop-k-preserved
 loop-k-preserved c =
-    
     let l = c.loop-k in (
       omega (arith, c.loop-k-test.true),
-      elim c.if-flags-k.branch [ then-flags-k w ↦ ap length w.6 ∙ w.3.kept.0 ∙ l.invariant.1 | else-flags-k w ↦ ap length w.1 ∙ l.invariant.1 ],
-      ⊎_elim
-          (λ w. rw w.6 (seeded_more l.k l.invariant.2 w.0.taken w.3.ensures))
-          (λ w. rw w.1 (seeded_skip l.k l.invariant.2 w.0.left))
-          c.if-flags-k.branch,
+      elim c.if-flags-k.branch [
+        then-flags-k w ↦ ap length w.rows-is ∙ w.put_member.auto.rows ∙ l.invariant.1
+        | else-flags-k w ↦ ap length w.rows-is ∙ l.invariant.1
+      ],
+      elim c.if-flags-k.branch [
+        then-flags-k w ↦ rw w.rows-is (seeded_more l.k l.invariant.2 w.if-flags-k.true w.put_member.ensures)
+        | else-flags-k w ↦ rw w.rows-is (seeded_skip l.k l.invariant.2 w.if-flags-k.false)
+      ],
     )
 
 pub returns : goal.returns
@@ -38,18 +39,3 @@ returns c =
 
 pub bounds-flags-k : goal.bounds-flags-k
 bounds-flags-k c = omega (arith, c.loop-k-test.true, c.requires.indices.1.1)
-
-pub offset_bounds-labels-k : goal.offset_bounds-labels-k
-offset_bounds-labels-k c = omega (arith, c.loop-k-test.true, c.requires.indices.1.0)
-
-pub bounds-labels-k : goal.bounds-labels-k
-bounds-labels-k c = c.loop-k-test.true
-
-pub overflow_add-k : goal.overflow_add-k
-overflow_add-k c = omega (arith, c.loop-k-test.true, c.requires.indices.1.0)
-
-pub loop-k-smaller : goal.loop-k-smaller
-loop-k-smaller c = omega (arith, c.loop-k-test.true)
-
-pub shape_of-rows : goal.shape_of-rows
-shape_of-rows c = c.loop-k.invariant.1

@@ -1,9 +1,6 @@
 -- `assessment::verdicts::first_required` meets its contract.
 -- Assumes nothing.
-use mathlib.Core.Path.{◌≡◌, sym}
-use mathlib.Core.Logic.{⊎_elim}
-use Prim.Native.Nat.{◌<◌}
-use native.Mathlib.Nat.{eq-or-lt_of_le}
+use mathlib.Core.Path.{sym}
 use native.Mathlib.Omega.{arith}
 use Rattle.assessment.specs.Rows.{first_required}
 use Rattle.assessment.proofs.Fed.{first_none, first_low, first_past}
@@ -14,15 +11,10 @@ unfolding first_required
 returns-in-3 c = (rw c.in-3.is, omega arith)
 
 pub returns-in-1 : goal.returns-in-1
-returns-in-1 c = (sym (first_low _ c.if-kind-lt1.false c.if-kind-lt3.true), omega arith)
+returns-in-1 c = (sym (first_low c.args.kind (omega arith) (omega arith)), omega arith)
 
 pub returns-in_default : goal.returns-in_default
-returns-in_default c = (sym (first_none _ c.if-kind-lt1.true), omega arith)
+returns-in_default c = (sym (first_none c.args.kind (omega arith)), omega arith)
 
 pub returns-in_default-2 : goal.returns-in_default-2
-returns-in_default-2 c =
-    
-    let k = c.args.kind in (
-      ⊎_elim (λ (e : 3 ≡ k). absurd (c.in_default-1.rest.1 (sym e))) (λ (l : 3 < k). sym (first_past k l)) (eq-or-lt_of_le c.if-kind-lt3.false),
-      omega arith,
-    )
+returns-in_default-2 c = (sym (first_past c.args.kind (omega arith)), omega arith)

@@ -2,9 +2,8 @@
 use mathlib.Core.Path.{refl}
 use mathlib.Core.Bool.{Bool}
 use mathlib.Core.List.{List, []}
-use Prim.Native.Nat.{ℕ, ◌+◌, ◌*◌, ◌≤◌}
+use Prim.Native.Nat.{ℕ}
 use native.Mathlib.Omega.{arith}
-use lib.ListN.{length}
 use lib.IntN.{ℤ}
 use Rattle.lists.specs.Records.{component}
 use Rattle.lists.proofs.Search.{record_within}
@@ -14,35 +13,27 @@ use Rattle.signals.specs.Sources.{source_kind}
 use Rattle.assessment.specs.Rows.{sources_of, sources_below}
 use Rattle.assessment.proofs.Devices.{sources_few, sources_read, below_none, below_more, below_all}
 use Rattle.assessment.proofs.verdicts.put_sources.Goals as goal
-use Rattle.assessment.proofs.verdicts.put_sources.Goals.{At-loop-p, In-loop-p}
 
 -- the rows of one component
 abbrev row : List ℤ → List Bool → List Bool → ℕ → List ℕ
 row cs frontier inferred p = sources_of (component cs p).id (source_kind (component cs p).kind) (marked frontier p) (marked inferred p)
 
-abbrev row_of : At-loop-p → ℕ → List ℕ
-row_of l = row l.args.components.now l.args.on-frontier.now l.args.inferred.now
-
 pub loop-p-init : goal.loop-p-init
 unfolding sources_below
 loop-p-init c = below_none _ (λ p. []) 2 4 _ _ refl
 
-within : (c : In-loop-p) → c.loop-p.p * 8 + 8 ≤ length c.args.components.now
-within c = record_within c.loop-p.p _ 8 c.loop-p-test.true
-
 pub natural_at-id-requires : goal.natural_at-id-requires
 natural_at-id-requires c =
-    (omega (arith, within c), first_non_neg c.requires.components c.loop-p.p c.loop-p-test.true (omega arith) refl)
+    let within = record_within c.loop-p.p _ 8 c.loop-p-test.true in
+    (omega (arith, within), first_non_neg c.requires.components c.loop-p.p c.loop-p-test.true (omega arith) refl)
 
 pub natural_at-kind-requires : goal.natural_at-kind-requires
 natural_at-kind-requires c =
-    
-    (omega (arith, within (goal.at.natural_at-kind-requires c).In-loop-p), field_non_neg c.requires.components c.loop-p.p 4 c.loop-p-test.true (omega arith) refl)
+    let within = record_within c.loop-p.p _ 8 c.loop-p-test.true in
+    (omega (arith, within), field_non_neg c.requires.components c.loop-p.p 4 c.loop-p-test.true (omega arith) refl)
 
 pub put_component-at-requires : goal.put_component-at-requires
 put_component-at-requires c =
-    
-    
     let v = c.loop-p.invariant in record {
       at_in_bounds = omega (arith, v.put.place, v.few, v.long, c.loop-p-test.true, c.requires.inferred_alone.1);
       on_frontier_value = c.requires.inferred_alone.0.at c.loop-p.p c.loop-p-test.true;
@@ -51,42 +42,35 @@ put_component-at-requires c =
 pub loop-p-preserved : goal.loop-p-preserved
 unfolding sources_below
 loop-p-preserved c =
-    
-    
-    
-    let cs = c.args.components.now in
+    let a = c.args in
+    let cs = a.components.now in
     let p = c.loop-p.p in
-    below_more _ (row_of (goal.at.loop-p-preserved c).At-loop-p) 2 4 _ _ (λ k. refl) c.loop-p-test.true c.loop-p.invariant
-    (sources_few (component cs p).id (source_kind (component cs p).kind) (marked c.args.on-frontier.now p) (marked c.args.inferred.now p) (c.requires.inferred_alone.0.at p c.loop-p-test.true))
-    (sources_read _ (component cs p).id _ (component cs p).kind (marked c.args.on-frontier.now p) (marked c.args.inferred.now p) c.natural_at-id.ensures c.natural_at-kind.ensures c.put_component-at.ensures)
+    let id = (component cs p).id in
+    let kind = (component cs p).kind in
+    let frontier = marked a.on_frontier.now p in
+    let inferred = marked a.inferred.now p in
+    below_more _ (row cs a.on_frontier.now a.inferred.now) 2 4 _ _ (λ k. refl) c.loop-p-test.true c.loop-p.invariant
+    (sources_few id (source_kind kind) frontier inferred (c.requires.inferred_alone.0.at p c.loop-p-test.true))
+    (sources_read _ id _ kind frontier inferred c.natural_at-id.ensures c.natural_at-kind.ensures c.put_component-at.ensures)
     c.put_component-at.auto.out
 
 pub returns : goal.returns
 returns c =
-    
+    let a = c.args in
     let v = c.loop-p.invariant in
-    below_all _ (row_of (goal.at.returns c).At-loop-p) 2 4 _ _ c.loop-p-test.false v (omega (arith, v.put.place, v.whole))
+    below_all _ (row a.components.now a.on_frontier.now a.inferred.now) 2 4 _ _ c.loop-p-test.false v (omega (arith, v.put.place, v.whole))
 
 pub overflow_mul-p : goal.overflow_mul-p
-overflow_mul-p c = omega (arith, within c)
+overflow_mul-p c = omega (arith, record_within c.loop-p.p _ 8 c.loop-p-test.true)
 
 pub overflow_mul-p-in-loop-p : goal.overflow_mul-p-in-loop-p
-overflow_mul-p-in-loop-p c = omega (arith, within (goal.at.overflow_mul-p-in-loop-p c).In-loop-p)
+overflow_mul-p-in-loop-p c = omega (arith, record_within c.loop-p.p _ 8 c.loop-p-test.true)
 
 pub overflow_add-p : goal.overflow_add-p
-overflow_add-p c = omega (arith, within (goal.at.overflow_add-p c).In-loop-p)
+overflow_add-p c = omega (arith, record_within c.loop-p.p _ 8 c.loop-p-test.true)
 
 pub bounds-on_frontier-p : goal.bounds-on_frontier-p
-bounds-on_frontier-p c = let i = (goal.at.bounds-on_frontier-p c).In-loop-p in omega (arith, i.before.before.before.before.before.requires.components_in_bounds.0, i.loop-test.true)
+bounds-on_frontier-p c = omega (arith, c.requires.components_in_bounds.0, c.loop-p-test.true)
 
 pub bounds-inferred-p : goal.bounds-inferred-p
-bounds-inferred-p c = let i = (goal.at.bounds-inferred-p c).In-loop-p in omega (arith, i.before.before.before.before.before.requires.components_in_bounds.1, i.loop-test.true)
-
-pub overflow_add-p-in-loop-p : goal.overflow_add-p-in-loop-p
-overflow_add-p-in-loop-p c = omega (arith, c.loop-p-test.true)
-
-pub loop-p-smaller : goal.loop-p-smaller
-loop-p-smaller c = omega (arith, c.loop-p-test.true)
-
-pub shape_of-out : goal.shape_of-out
-shape_of-out c = c.loop-p.invariant.long
+bounds-inferred-p c = omega (arith, c.requires.components_in_bounds.1, c.loop-p-test.true)

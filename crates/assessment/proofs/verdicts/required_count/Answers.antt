@@ -11,10 +11,10 @@ unfolding required_count
 returns-in-8 c = (rw c.in-8.is, omega arith)
 
 pub returns-in-1 : goal.returns-in-1
-returns-in-1 c = (sym (count_low _ c.if-kind-lt1.false c.if-kind-lt4.true), omega arith)
+returns-in-1 c = (sym (count_low c.args.kind (omega arith) (omega arith)), omega arith)
 
 pub returns-in_default : goal.returns-in_default
-returns-in_default c = (sym (count_none _ c.if-kind-lt1.true), omega arith)
+returns-in_default c = (sym (count_none c.args.kind (omega arith)), omega arith)
 
 pub returns-in_default-2 : goal.returns-in_default-2
-returns-in_default-2 c = (sym (count_past _ c.if-kind-lt4.false c.in_default-1.rest.1), omega arith)
+returns-in_default-2 c = (sym (count_past c.args.kind (omega arith) (λ e. omega arith)), omega arith)

@@ -12,10 +12,8 @@ list_keys-requires c =
 
 pub sort-requires : goal.sort-requires
 sort-requires c =
-    
     omega (arith, c.list_keys.auto.keys, c.requires.keys_len)
 
 pub returns : goal.returns
 returns c =
-    
-    record { (goal.at.returns c).After-sort = rw c.list_keys.ensures at c.sort.ensures }
+    record { sorted = rw c.list_keys.ensures at c.sort.ensures }

@@ -6,7 +6,6 @@ use Rattle.signals.proofs.stages.build_fed.Goals as goal
 
 pub settle_slots-requires : goal.settle_slots-requires
 settle_slots-requires c =
-    
     let ends = c.requires.port_connections.1.1 in record {
       port_connections = c.requires.port_connections.0;
       ports_in_bounds = (c.requires.ports_in_bounds.1.0, c.requires.port_connections.0.few);
@@ -15,7 +14,6 @@ settle_slots-requires c =
 
 pub signal_keys-requires : goal.signal_keys-requires
 signal_keys-requires c =
-    
     let ends = c.requires.port_connections.1.1 in record {
       port_connections = c.requires.port_connections.0;
       sortable = sortable_slots ends.0 c.requires.port_connections.0 ends.1.0 ends.1.1 c.settle_slots.ensures
@@ -25,9 +23,8 @@ signal_keys-requires c =
 
 pub returns : goal.returns
 returns c =
-    
     record {
-      (goal.at.returns c).After-settle_slots = c.settle_slots.new.slots;
+      slots = c.settle_slots.new.slots;
       slots_are = c.settle_slots.ensures;
       fed_keys = c.signal_keys.ensures;
     }

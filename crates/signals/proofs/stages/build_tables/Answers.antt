@@ -1,17 +1,19 @@
 -- `signals::stages::build_tables` meets its contract: the settled ends can be sorted as pairs, and turned round.
 -- Assumes nothing.
-use mathlib.Core.Path.{◌≡◌, sym, ◌∙◌}
-use Prim.Native.Nat.{ℕ, ◌≤◌, ◌<◌}
+use mathlib.Core.Path.{◌≡◌, ◌∙◌}
+use mathlib.Core.List.{List}
+use Prim.Native.Nat.{ℕ, ◌+◌, ◌≤◌, ◌<◌}
 use native.Mathlib.Omega.{arith}
-use lib.ListN.{length, get_or}
-use Rattle.tables.specs.Pairs.{span, KeysBelow, below_rearranged}
-use Rattle.lists.specs.Limits.{component_limit, connection_limit}
-use Rattle.lists.specs.Records.{port_count}
+use lib.IntN.{ℤ}
+use lib.ListN.{get_or}
+use Rattle.tables.specs.Pairs.{KeysBelow, below_rearranged}
+use Rattle.lists.specs.Limits.{component_limit}
+use Rattle.lists.specs.Records.{component_count, port_count}
+use Rattle.lists.specs.Ends.{SettledEnds}
 use Rattle.signals.specs.Keys.{signal_keys, KeysOf}
 use Rattle.signals.proofs.Graph.{settled_small, sortable_members}
 use Rattle.signals.proofs.Turned.{keys_below, turned_keys_of}
 use Rattle.signals.proofs.stages.build_tables.Goals as goal
-use Rattle.signals.proofs.stages.build_tables.Goals.{After-sort_edges, After-spare-4-1, Start}
 
 pub list_keys-requires : goal.list_keys-requires
 list_keys-requires c =
@@ -26,58 +28,57 @@ list_keys-requires c =
     }
 
 -- both ends of each connection are at most the limit
-sources-low : (s : Start) (k : ℕ) → k < port_count s.args.ports.now → get_or s.args.sources.now k 0 ≤ component_limit
-sources-low s = settled_small s.requires.port_connections.1.1.0 s.requires.port_connections.1.1.1.source_members
-
-sinks-low : (s : Start) (k : ℕ) → k < port_count s.args.ports.now → get_or s.args.sinks.now k 0 ≤ component_limit
-sinks-low s = settled_small s.requires.port_connections.1.1.0 s.requires.port_connections.1.1.1.sink_members
+low : (ps : List ℤ) (sources sinks : List ℕ) (cs : List ℤ) → component_count cs ≤ component_limit → SettledEnds cs ps sources sinks
+    → (k : ℕ) → k < port_count ps → (get_or sources k 0 ≤ component_limit) × (get_or sinks k 0 ≤ component_limit)
+low ps sources sinks cs few ends k h = (settled_small few ends.source_members k h, settled_small few ends.sink_members k h)
 
 -- so that many counts serve each
-below : (s : Start) (m : ℕ) → m ≤ span → component_limit < m
-    → KeysBelow m (signal_keys s.args.ports.now s.args.sources.now s.args.sinks.now component_limit)
-below s m few more =
-    keys_below m few more s.args.ports.now s.args.sources.now s.args.sinks.now
-    (λ k h. omega (arith, sources-low s k h)) (λ k h. omega (arith, sinks-low s k h))
+below : (ps : List ℤ) (sources sinks : List ℕ) (cs : List ℤ) → component_count cs ≤ component_limit → SettledEnds cs ps sources sinks
+    → (m : ℕ) → m ≡ component_limit + 1 → KeysBelow m (signal_keys ps sources sinks component_limit)
+below ps sources sinks cs few ends m e =
+    keys_below m (omega arith) (omega arith) ps sources sinks
+    (λ k h. omega (arith, (low ps sources sinks cs few ends k h).0)) (λ k h. omega (arith, (low ps sources sinks cs few ends k h).1))
 
 pub sort_edges-requires : goal.sort_edges-requires
 sort_edges-requires c =
+    let a = c.args in
+    let (cs, small) = c.requires.port_connections.1 in
     record {
       keys_in_bounds = omega (arith, c.list_keys.auto.keys, c.requires.forward_len.0, c.requires.port_connections.0.few);
-      counts_len_bound = (omega (arith, c.well_formed), rw c.list_keys.ensures (below c.before.before.before.before.before.before.before.before.before.before.before.before _ (omega (arith, c.well_formed)) (omega (arith, c.well_formed))));
+      counts_len_bound = (
+        omega (arith, c.told-forward_ends),
+        rw c.list_keys.ensures (below a.ports.now a.sources.now a.sinks.now cs small.0 small.1 _ c.told-forward_ends),
+      );
     }
-
--- the table forward
-forward : (c : After-sort_edges)
-    → let a = (c.before.before.before.before.before.before.before.before.before.before.before.before.before).args in KeysOf a.ports.now a.sources.now a.sinks.now component_limit c.sort_edges.new.keys
-forward c = record { sorted = rw c.list_keys.ensures at c.sort_edges.ensures }
-
--- the spare is as long as it was
-spare-long : (c : After-sort_edges) → length c.sort_edges.new.spare ≡ connection_limit
-spare-long c = c.sort_edges.auto.spare
 
 pub turned_keys-requires : goal.turned_keys-requires
 turned_keys-requires c =
-    
+    let a = c.args in
+    let (cs, small) = c.requires.port_connections.1 in
     let long = c.sort_edges.auto.keys ∙ c.list_keys.auto.keys ∙ c.requires.forward_len.0 in
-    let table = forward (goal.at.turned_keys-requires c).After-sort_edges-arg-2-1 in record {
-      out_len = (omega (arith, long, c.requires.forward_len.1), omega (arith, long, c.requires.port_connections.0.few, spare-long (goal.at.turned_keys-requires c).After-sort_edges-arg-2-1));
-      ascending = (table.sorted.ascending, (omega (arith, c.well_formed), below_rearranged table.sorted.rearranged (below c.before.before.before.before.before.before.before.before.before.before.before.before.before.before.before.before.before.before.before _ (omega (arith, c.well_formed)) (omega (arith, c.well_formed)))));
+    let sorted = rw c.list_keys.ensures at c.sort_edges.ensures in
+    record {
+      out_len = (omega (arith, long, c.requires.forward_len.1), omega (arith, long, c.requires.port_connections.0.few, c.sort_edges.auto.spare));
+      ascending = (
+        sorted.ascending,
+        (
+          omega (arith, c.told-backward_ends),
+          below_rearranged sorted.rearranged (below a.ports.now a.sources.now a.sinks.now cs small.0 small.1 _ c.told-backward_ends),
+        ),
+      );
     }
-
-abbrev sorted : After-spare-4-1 → After-sort_edges
-sorted c = c.before.before.before.before.before.before.before.before.before.before.before.before
 
 pub returns : goal.returns
 returns c cs ends =
-    let f = sorted c in
-    let s = f.before.before.before.before.before.before.before.before.before.before.before.before in
+    let a = c.args in
+    let (settled, known) = c.requires.port_connections.1 in
+    let small = low a.ports.now a.sources.now a.sinks.now settled known.0 known.1 in
+    -- the table forward
+    let forward : KeysOf a.ports.now a.sources.now a.sinks.now component_limit c.sort_edges.new.keys =
+        record { sorted = rw c.list_keys.ensures at c.sort_edges.ensures } in
     record {
       source_members = ends.source_members;
       sink_members = ends.sink_members;
-      forward_keys = forward f;
-      backward_keys =
-          turned_keys_of (forward f) (λ k h. omega (arith, sources-low s k h)) (λ k h. omega (arith, sinks-low s k h)) c.turned_keys.ensures;
+      forward_keys = forward;
+      backward_keys = turned_keys_of forward (λ k h. omega (arith, (small k h).0)) (λ k h. omega (arith, (small k h).1)) c.turned_keys.ensures;
     }
-
-pub slice_bounds-turned_keys-end : goal.slice_bounds-turned_keys-end
-slice_bounds-turned_keys-end c = sym (spare-long (goal.at.slice_bounds-turned_keys-end c).After-sort_edges-arg-2-1)

@@ -1,17 +1,15 @@
 -- Answers for the goals that the search leaves.
 use mathlib.Core.Path.{◌≡◌, refl, ◌∙◌}
+use mathlib.Core.List.{List}
 use Prim.Native.Nat.{ℕ, ◌%◌, ◌<◌}
 use native.Mathlib.Omega.{arith}
 use lib.Dec.{eqb}
 use lib.ListN.{length, get_or, length-set}
 use Rattle.tables.specs.Pairs.{span}
+use Rattle.signals.specs.Flags.{Indices}
 use Rattle.signals.proofs.Marks.{by_none, by_more}
 use Rattle.signals.proofs.Tested.{edge_flags}
 use Rattle.signals.proofs.stages.flag_selves.Goals as goal
-use Rattle.signals.proofs.stages.flag_selves.Goals.{At-loop-i, In-loop-i, Start}
-
-abbrev start : At-loop-i → Start
-start c = c.before.before.before.before.before.before.before.before.before.before
 
 pub loop-i-init : goal.loop-i-init
 loop-i-init c =
@@ -19,44 +17,32 @@ loop-i-init c =
     let a = c.args in
     (omega arith, refl, rw c.clear_flags.ensures (by_none _ _ (length a.flags.now)))
 
--- the list is as long as it was
-same : (c : At-loop-i) → length c.loop-i.flags ≡ length (start c).args.flags.now
-same c = c.loop-i.invariant.1 ∙ c.clear_flags.auto.flags
-
--- the key of a turn
-abbrev key : In-loop-i → ℕ
-key c = get_or (start c.before.before).args.forward.now c.loop-i.i 0
-
--- has a second node
-second : (c : In-loop-i) → key c % span < length (start c.before.before).args.labels.now
-second c = c.IsEdge-count.ensures.second c.loop-i.i c.loop-i-test.true
-
--- whose region has a flag
-room : (c : In-loop-i) → get_or (start c.before.before).args.labels.now (key c % span) 0 < length c.loop-i.flags
-room c = omega (arith, same c.before.before, (start c.before.before).pre.1.below (key c % span) (second c))
+-- a node's region has a flag: the list is as long as it was
+room : {n m b l : ℕ} (labels : List ℕ) → Indices n m labels → b < n → l ≡ m → get_or labels b 0 < l
+room {b = b} labels i h e = omega (arith, i.below b h)
 
 pub loop-i-preserved : goal.loop-i-preserved
 loop-i-preserved c =
-    
     let l = c.loop-i in
-    (omega (arith, c.loop-i-test.true), simp length-set l.invariant.1, by_more _ _ l.i l.invariant.2 _ _ refl refl (room (goal.at.loop-i-preserved c).In-loop-i))
+    let there = room c.args.labels.now c.requires.1 (c.edge_count-count.ensures.second l.i c.loop-i-test.true) (l.invariant.1 ∙ c.clear_flags.auto.flags) in
+    (omega (arith, c.loop-i-test.true), simp length-set l.invariant.1, by_more _ _ l.i l.invariant.2 _ _ refl refl there)
 
 pub returns : goal.returns
 returns c =
     let l = c.loop-i in
-    let a = (start (goal.at.returns c).At-loop-i).args in
-    let counted = c.IsEdge-count in
+    let a = c.args in
+    let counted = c.edge_count-count in
     let all : l.i ≡ counted.result = omega (arith, l.invariant.0, c.loop-i-test.false) in
-    edge_flags counted.ensures (λ b. get_or a.labels.now b 0) eqb (same (goal.at.returns c).At-loop-i) (rw all at l.invariant.2)
+    edge_flags counted.ensures (λ b. get_or a.labels.now b 0) eqb (l.invariant.1 ∙ c.clear_flags.auto.flags) (rw all at l.invariant.2)
 
+-- a turn's key has two nodes
 pub bounds-labels-key : goal.bounds-labels-key
-bounds-labels-key c = second (goal.at.bounds-labels-key c).In-loop-i
+bounds-labels-key c = c.edge_count-count.ensures.second c.loop-i.i c.loop-i-test.true
 
 pub bounds-flags-r : goal.bounds-flags-r
-bounds-flags-r c = room (goal.at.bounds-flags-r c).In-loop-i
+bounds-flags-r c =
+    room c.args.labels.now c.requires.1 (c.edge_count-count.ensures.second c.loop-i.i c.loop-i-test.true) (c.loop-i.invariant.1 ∙ c.clear_flags.auto.flags)
 
 pub bounds-flags-r-in-loop-i : goal.bounds-flags-r-in-loop-i
-bounds-flags-r-in-loop-i c = room (goal.at.bounds-flags-r-in-loop-i c).In-loop-i
-
-pub shape_of-flags : goal.shape_of-flags
-shape_of-flags c = same (goal.at.shape_of-flags c).At-loop-i
+bounds-flags-r-in-loop-i c =
+    room c.args.labels.now c.requires.1 (c.edge_count-count.ensures.second c.loop-i.i c.loop-i-test.true) (c.loop-i.invariant.1 ∙ c.clear_flags.auto.flags)

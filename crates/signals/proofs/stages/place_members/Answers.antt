@@ -15,7 +15,6 @@ use Rattle.lists.specs.declared.Found.TheVariants.{Nothing}
 use Rattle.lists.proofs.Table.{table_long}
 use Rattle.lists.proofs.Members.{member_below, member_inj}
 use Rattle.signals.proofs.stages.place_members.Goals as goal
-use Rattle.signals.proofs.stages.place_members.Goals.{After-place_at}
 
 -- a further member at its component's place
 placed : (cs : List ℤ) (members : List ℕ) (m r : ℕ) → first_repeated cs ≡ Nothing → r < component_count cs → member_of cs r ≡ m → r < length members
@@ -31,20 +30,20 @@ placed cs members m r once below is room before p h l =
     (same? p r)
 
 -- there is room for the member of a turn
-room : (c : After-place_at) → c.place_at.result < length c.loop-m.members
-room c =
+pub bounds-members-place_at : goal.bounds-members-place_at
+bounds-members-place_at c =
     let (cs, t) = c.requires.0 in
     omega (arith, (c.place_at.ensures cs t).below, table_long t, c.loop-m.invariant.1, c.requires.1)
 
 pub loop-m-preserved : goal.loop-m-preserved
 loop-m-preserved c =
-    
     let l = c.loop-m in (
       omega (arith, c.loop-m-test.true),
       simp length-set l.invariant.1,
       λ cs t once.
           let place = c.place_at.ensures cs t in
-          placed cs l.members l.m c.place_at.result once place.below (place.member once) (room c) (l.invariant.2 cs t once),
+          placed cs l.members l.m c.place_at.result once place.below (place.member once)
+              (omega (arith, place.below, table_long t, l.invariant.1, c.requires.1)) (l.invariant.2 cs t once),
     )
 
 pub returns : goal.returns
@@ -59,7 +58,9 @@ pub loop-m-init : goal.loop-m-init
 loop-m-init c = (omega arith, refl, λ cs t once p h l. absurd (omega arith))
 
 pub offset_bounds-members-place_at : goal.offset_bounds-members-place_at
-offset_bounds-members-place_at c = omega (arith, room c, c.well_formed.1.0)
+offset_bounds-members-place_at c =
+    let (cs, t) = c.requires.0 in
+    omega (arith, (c.place_at.ensures cs t).below, table_long t, c.loop-m.invariant.1, c.requires.1, c.well_formed.1.0)
 
 pub shape_of-members : goal.shape_of-members
 shape_of-members c = c.loop-m.invariant.1
