@@ -1,5 +1,6 @@
 // Faces and ports: what each component has, and which of them a connection takes.
 #![tactic(auto)]
+
 pub mod ports;
 pub mod select;
 pub mod step;

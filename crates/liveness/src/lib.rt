@@ -1,5 +1,6 @@
 // Regions, sources, drive and verdicts of a scene.
 #![tactic(auto)]
+
 mod alive;
 mod infer;
 pub mod prepare;

@@ -9,6 +9,7 @@ use native.Mathlib.Omega.{arith}
 use lib.ListN.{length}
 use lib.Seq.{length-take-le}
 use borrow.Author.Tests.{leb-true}
+use Rattle.lists.specs.Limits.{component_limit}
 use Rattle.lists.specs.Records.{component_count}
 use Rattle.checks.specs.Refusals.{room_for, liveness_lists, liveness_refusal}
 use Rattle.lists.specs.declared.Checked.{Checked}
@@ -18,7 +19,7 @@ use Rattle.checks.proofs.Accepted.{LivenessScene, liveness_accept, room_places}
 use Rattle.liveness.specs.Scene.{Scene, RowsRoom}
 use Rattle.liveness.proofs.Answers.{scene_of_lem, analyzed_accepted, analyzed_refused}
 use Rattle.liveness.proofs.analyze_signal_liveness.Goals as goal
-use Rattle.liveness.proofs.analyze_signal_liveness.Goals.{After-liveness_lists-checked, In-Accepted, Start}
+use Rattle.liveness.proofs.analyze_signal_liveness.Goals.{Start}
 
 abbrev refusal : Start → Checked
 refusal s =
@@ -29,11 +30,13 @@ refusal s =
 by_rooms : (f : Bool → Checked) {a a' b b' d d' e e' : Bool} → a ≡ a' → b ≡ b' → d ≡ d' → e ≡ e' → f (a && (b && (d && e))) ≡ f (a' && (b' && (d' && e')))
 by_rooms f p q r s = rw (p, q, r, s)
 
-answer : (c : After-liveness_lists-checked) → c.liveness_lists-checked.result ≡ refusal c.before.before.before.before.before.before.before.before.before.before.before.before.before
-answer c =
-    let a = c.args in
-    c.liveness_lists-checked.ensures.lists.answer
-    ∙ by_rooms (liveness_lists a.components.now a.ports.now a.frontiers.now) c.room_for.ensures c.room_for-2.ensures c.room_for-3.ensures c.room_for-4.ensures
+answer : (s : Start) {r : Checked} {a b d e : Bool} → r ≡ liveness_lists s.args.components.now s.args.ports.now s.args.frontiers.now (a && (b && (d && e)))
+    → a ≡ room_for (component_count s.args.components.now) 1 (length s.args.regions.now)
+    → b ≡ room_for (component_count s.args.components.now * 2) 2 (length s.args.sources.now)
+    → d ≡ room_for (component_count s.args.components.now * 4) 3 (length s.args.inputs.now)
+    → e ≡ room_for (component_count s.args.components.now) 2 (length s.args.stack.now)
+    → r ≡ refusal s
+answer s h p q u v = h ∙ by_rooms (liveness_lists s.args.components.now s.args.ports.now s.args.frontiers.now) p q u v
 
 abbrev enough : Start → Bool
 enough s =
@@ -41,62 +44,70 @@ enough s =
     room_for n 1 (length s.args.regions.now)
     && (room_for (n * 2) 2 (length s.args.sources.now) && (room_for (n * 4) 3 (length s.args.inputs.now) && room_for n 2 (length s.args.stack.now)))
 
-accepted : (c : In-Accepted) → refusal (c.before.before.before.before.before.before.before.before.before.before.before.before.before.before.before.before.before.before) ≡ Accepted
-accepted c = sym (answer c.before.before.before.before.before.before) ∙ c.in-Accepted.is
+-- ---- where they accept
+module _ (s : Start) (accepted : refusal s ≡ Accepted) where
+  live : LivenessScene s.args.components.now s.args.ports.now s.args.frontiers.now (enough s)
+  live = liveness_accept _ _ _ _ accepted
 
-live : (c : In-Accepted) → LivenessScene c.args.components.now c.args.ports.now c.args.frontiers.now (enough c.before.before.before.before.before.before.before.before.before.before.before.before.before.before.before.before.before.before)
-live c = liveness_accept _ _ _ _ (accepted c)
+  scene : Scene s.args.components.now s.args.ports.now
+  scene = scene_of_lem live
 
-scene : (c : In-Accepted) → Scene c.args.components.now c.args.ports.now
-scene c = scene_of_lem (live c)
+  room : RowsRoom s.args.components.now s.args.regions.now s.args.sources.now s.args.inputs.now s.args.stack.now
+  room =
+      let n = component_count s.args.components.now in
+      let regions = room_for n 1 (length s.args.regions.now) in
+      let sources = room_for (n * 2) 2 (length s.args.sources.now) in
+      let inputs = room_for (n * 4) 3 (length s.args.inputs.now) in
+      let stack = room_for n 2 (length s.args.stack.now) in
+      let one = both regions (sources && (inputs && stack)) live.scene.lengths.room in
+      let two = both sources (inputs && stack) one.1 in
+      let three = both inputs stack two.1 in
+      record {
+        regions_room = room_places n (length s.args.regions.now) one.0;
+        sources_room = omega (arith, leb-true (n * 2) (length s.args.sources.now / 2) two.0);
+        inputs_room = omega (arith, leb-true (n * 4) (length s.args.inputs.now / 3) three.0);
+        stack_room = omega (arith, leb-true n (length s.args.stack.now / 2) three.1);
+      }
 
-room : (c : In-Accepted)
-    → RowsRoom c.args.components.now c.args.regions.now c.args.sources.now c.args.inputs.now c.args.stack.now
-room c =
-    let n = component_count c.args.components.now in
-    let regions = room_for n 1 (length c.args.regions.now) in
-    let sources = room_for (n * 2) 2 (length c.args.sources.now) in
-    let inputs = room_for (n * 4) 3 (length c.args.inputs.now) in
-    let stack = room_for n 2 (length c.args.stack.now) in
-    let one = both regions (sources && (inputs && stack)) (live c).scene.lengths.room in
-    let two = both sources (inputs && stack) one.1 in
-    let three = both inputs stack two.1 in
-    record {
-      regions_room = room_places n (length c.args.regions.now) one.0;
-      sources_room = omega (arith, leb-true (n * 2) (length c.args.sources.now / 2) two.0);
-      inputs_room = omega (arith, leb-true (n * 4) (length c.args.inputs.now / 3) three.0);
-      stack_room = omega (arith, leb-true n (length c.args.stack.now / 2) three.1);
-    }
-
--- ---- the table of ids at the front of the keys
-abbrev keys : In-Accepted → List ℕ
-keys c = c.liveness_lists-checked.new.keys
-
-long : (c : In-Accepted) → component_count (c.before.before.before.before.before.before.before.before.before.before.before.before.before.before.before.before.before.before).args.components.now ≤ length (keys c)
-long c = omega (arith, (live c).components.few, c.liveness_lists-checked.auto.keys)
+  -- the table of ids at the front of the keys
+  long : (keys : List ℕ) → length keys ≡ component_limit → component_count s.args.components.now ≤ length keys
+  long keys e = omega (arith, live.components.few)
 
 pub analyze-requires : goal.analyze-requires
 analyze-requires c =
-    
+    let s = (goal.at.analyze-requires c).Start in
+    let e = sym (answer s c.liveness_lists-checked.ensures.lists.answer c.room_for.ensures c.room_for-2.ensures c.room_for-3.ensures c.room_for-4.ensures)
+    ∙ c.in-Accepted.is in
     let left = c.liveness_lists-checked.ensures in record {
-      scene = (scene (goal.at.analyze-requires c).In-Accepted, (left.lists.table c.in-Accepted.is, left.ends c.in-Accepted.is));
-      rows_room = room (goal.at.analyze-requires c).In-Accepted;
+      scene = (scene s e, (left.lists.table c.in-Accepted.is, left.ends c.in-Accepted.is));
+      rows_room = room s e;
     }
 
 pub returns-in-Refused : goal.returns-in-Refused
 returns-in-Refused c =
-    
     let a = c.args in
-    let e = sym (answer (goal.at.returns-in-Refused c).After-liveness_lists-checked) ∙ c.in-Refused.is in
+    let s = (goal.at.returns-in-Refused c).Start in
+    let e = sym (answer s c.liveness_lists-checked.ensures.lists.answer c.room_for.ensures c.room_for-2.ensures c.room_for-3.ensures c.room_for-4.ensures)
+    ∙ c.in-Refused.is in
     analyzed_refused e (c.refused.ensures a.components.now a.ports.now a.frontiers.now a.regions.now a.sources.now a.inputs.now a.stack.now)
 
 pub returns-in-Accepted : goal.returns-in-Accepted
 returns-in-Accepted c =
-    
-    analyzed_accepted (accepted (goal.at.returns-in-Accepted c).In-Accepted) (scene (goal.at.returns-in-Accepted c).In-Accepted) c.analyze.ensures
+    let s = (goal.at.returns-in-Accepted c).Start in
+    let e = sym (answer s c.liveness_lists-checked.ensures.lists.answer c.room_for.ensures c.room_for-2.ensures c.room_for-3.ensures c.room_for-4.ensures)
+    ∙ c.in-Accepted.is in
+    analyzed_accepted e (scene s e) c.analyze.ensures
 
 pub slice_bounds-keys-end : goal.slice_bounds-keys-end
-slice_bounds-keys-end c = long c
+slice_bounds-keys-end c =
+    let s = (goal.at.slice_bounds-keys-end c).Start in
+    let e = sym (answer s c.liveness_lists-checked.ensures.lists.answer c.room_for.ensures c.room_for-2.ensures c.room_for-3.ensures c.room_for-4.ensures)
+    ∙ c.in-Accepted.is in
+    long s e c.liveness_lists-checked.new.keys c.liveness_lists-checked.auto.keys
 
 pub slice_bounds-analyze-end : goal.slice_bounds-analyze-end
-slice_bounds-analyze-end c = sym (length-take-le _ (keys (goal.at.slice_bounds-analyze-end c).In-Accepted) (long (goal.at.slice_bounds-analyze-end c).In-Accepted))
+slice_bounds-analyze-end c =
+    let s = (goal.at.slice_bounds-analyze-end c).Start in
+    let e = sym (answer s c.liveness_lists-checked.ensures.lists.answer c.room_for.ensures c.room_for-2.ensures c.room_for-3.ensures c.room_for-4.ensures)
+    ∙ c.in-Accepted.is in
+    sym (length-take-le _ c.liveness_lists-checked.new.keys (long s e c.liveness_lists-checked.new.keys c.liveness_lists-checked.auto.keys))

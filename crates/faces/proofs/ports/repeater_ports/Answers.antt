@@ -1,5 +1,6 @@
 -- `faces::ports::repeater_ports` meets its contract: each arm's rows are those of its facing in the table.
 -- Assumes nothing.
+use native.Mathlib.Omega.{arith}
 use Rattle.faces.specs.Ports.{face_or}
 use Rattle.faces.proofs.Faces.{north_faced}
 use Rattle.faces.proofs.Computed.{repeater_rows}
@@ -27,5 +28,9 @@ returns-in-6 c = rw (repeater_rows, c.in-6.is, c.with_face-in-6-2.ensures, c.wit
 
 pub returns-in_default : goal.returns-in_default
 returns-in_default c =
-    let r = c.in_default.rest in
-    rw (repeater_rows, north_faced _ r.0.0.0.0.1 r.0.0.0.1 r.0.0.1 r.0.1 r.1, c.with_face-in_default-2.ensures, c.with_face-in_default.ensures)
+    rw (
+      repeater_rows,
+      north_faced c.args.facing (λ e. omega arith) (λ e. omega arith) (λ e. omega arith) (λ e. omega arith) (λ e. omega arith),
+      c.with_face-in_default-2.ensures,
+      c.with_face-in_default.ensures,
+    )

@@ -1,5 +1,6 @@
 -- `faces::step::opposite_face` meets its contract.
 -- Assumes nothing.
+use native.Mathlib.Omega.{arith}
 use Rattle.faces.specs.Ports.{opposite}
 use Rattle.faces.proofs.Faces.{opposite_none}
 use Rattle.faces.proofs.step.opposite_face.Goals as goal
@@ -30,5 +31,4 @@ returns-in-6 c = rw c.in-6.is
 
 pub returns-in_default : goal.returns-in_default
 returns-in_default c =
-    let r = c.in_default.rest in
-    opposite_none c.args.face r.0.0.0.0.0.1 r.0.0.0.0.1 r.0.0.0.1 r.0.0.1 r.0.1 r.1
+    opposite_none c.args.face (λ e. omega arith) (λ e. omega arith) (λ e. omega arith) (λ e. omega arith) (λ e. omega arith) (λ e. omega arith)

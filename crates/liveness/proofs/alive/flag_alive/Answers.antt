@@ -31,14 +31,18 @@ use Rattle.liveness.proofs.alive.flag_alive.Goals.{After-find_crossings-count}
 module _ {cs ps : List ℤ} {forward labelled region_of : List ℕ} (r : SceneRegions cs ps forward labelled region_of) where
   few : component_count cs ≤ component_limit
   few = r.scene.components.few
+
   all : length labelled ≡ component_count cs
   all = ap length r.labels_are ∙ labels_count cs ps r.scene.ends
+
   labels_small : Indices (length labelled) component_limit labelled
   labels_small =
       subst (λ (l : List ℕ). Indices (length l) component_limit l) (sym r.labels_are) (labels_under cs ps r.scene.ends component_limit few)
+
   regions_small : Indices (length labelled) component_limit region_of
   regions_small =
       subst (λ (n : ℕ). Indices n component_limit region_of) (sym all) (places_under cs ps r.scene.ends component_limit few r.regions_are)
+
   -- flags of the regions' marks, by the labels of the scene
   by_labels : (mark : ℕ → Bool) {out : List Bool} → Flags (length labelled) (λ m. mark (get_or labelled m 0)) out
       → Flags (component_count cs) (λ m. mark (get_or (labels cs ps) m 0)) out
@@ -50,7 +54,6 @@ module _ {cs ps : List ℤ} {forward labelled region_of : List ℕ} (r : SceneRe
 -- ---- the calls
 pub find_crossings-count-requires : goal.find_crossings-count-requires
 find_crossings-count-requires c =
-    
     let r = c.requires.scene_regions.2 in record {
       rows = (r.rows, (r.few, r.few));
       indices = labels_small r;
@@ -72,8 +75,6 @@ keys_as e k = record { first = λ i h. omega (arith, e, k.first i h); second = �
 
 pub carry_marks-requires : goal.carry_marks-requires
 carry_marks-requires c =
-    
-    
     let below = c.find_crossings-count.ensures.below in
     let small = labels_small c.requires.scene_regions.2 in
     let long-a = c.copy_flags.auto.out in
@@ -85,29 +86,26 @@ carry_marks-requires c =
 
 pub returns : goal.returns
 returns c cs ps fs r driven inferred =
-    
     let carried = c.carry_marks in
     let possible = c.possible_regions in
-    let copied = ((goal.at.returns c).After-copy_flags).copy-flags in
-    let finding = found_before ((goal.at.returns c).After-copy_flags) in
-    let found = finding.find-crossings in
-    let s = finding.before.before.before.before.before.before.before.before.before in
-    let room = s.requires.alive_room in
-    let keys = take found.result found.last.1.1.0 in
+    let copied = c.copy_flags in
+    let found = c.find_crossings-count in
+    let room = c.requires.alive_room in
+    let keys = take found.result found.new.keys in
     let pairs : Crossings (signals cs ps) (labels cs ps) keys = crossings_of r found.ensures.pairs in
-    let marks : Flags component_limit (holds_drive cs ps fs) copied.last.1.0 = record {
-      long = omega (arith, copied.kept.1.0);
+    let marks : Flags component_limit (holds_drive cs ps fs) copied.new.out = record {
+      long = omega (arith, copied.auto.out);
       at = λ k h. copied.ensures.at k (omega (arith, room.regions_room)) ∙ driven.at k h;
     } in
     let joined : Flags component_limit
-    (λ k. marked s.args.has_drive.now k || some (λ p. marked s.args.inferred.now p && eqb (get_or s.args.region-at.now p 0) k) (component_count cs))
-    possible.last.1.1.1.1.0 =
+    (λ k. marked c.args.has_drive.now k || some (λ p. marked c.args.inferred.now p && eqb (get_or c.args.region_at.now p 0) k) (component_count cs))
+    possible.new.possible =
     rw (all r) at possible.ensures in
     record {
-      drive_is = drive_is cs ps (few r) r.scene.ends pairs fs (carried.auto.1.1.1.1.0 ∙ room.drive_room ∙ all r)
-          (by_labels r (carry keys (marked copied.last.1.0)) carried.ensures.0) marks;
-      potential_is = potential_is cs ps (few r) r.scene.ends pairs fs (carried.auto.1.1.1.1.1.0 ∙ room.potential_room ∙ all r)
-          (by_labels r (carry keys (marked possible.last.1.1.1.1.0)) carried.ensures.1)
+      drive_is = drive_is cs ps (few r) r.scene.ends pairs fs (carried.auto.out_a ∙ room.drive_room ∙ all r)
+          (by_labels r (carry keys (marked copied.new.out)) carried.ensures.0) marks;
+      potential_is = potential_is cs ps (few r) r.scene.ends pairs fs (carried.auto.out_b ∙ room.potential_room ∙ all r)
+          (by_labels r (carry keys (marked possible.new.possible)) carried.ensures.1)
           r.regions_are driven inferred joined;
     }
 

@@ -14,5 +14,5 @@ returns c =
     let a = c.args in
     record {
       long = joined.long;
-      at = λ r h. joined.at r h ∙ ap (λ t. marked a.has_drive.now r || t) (gathered.ensures.at r (omega (arith, gathered.auto.1.1.1.0)));
+      at = λ r h. joined.at r h ∙ ap (λ t. marked a.has_drive.now r || t) (gathered.ensures.at r (omega (arith, gathered.auto.out)));
     }

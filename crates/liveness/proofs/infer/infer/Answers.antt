@@ -13,10 +13,10 @@ use Rattle.liveness.proofs.infer.infer.Goals.{In-loop-p}
 few : (c : In-loop-p) → c.loop-p.p < 65536
 few c = omega (arith, c.loop-p-test.true, c.requires.components.0.few)
 
-read-region : (c : In-loop-p) → c.loop-p.p < length c.args.region-at.now
+read-region : (c : In-loop-p) → c.loop-p.p < length c.args.region_at.now
 read-region c = omega (arith, c.loop-p-test.true, c.requires.indices_2.0.long)
 
-region_below : (c : In-loop-p) → get_or c.args.region-at.now c.loop-p.p 0 < length c.args.has_drive.now
+region_below : (c : In-loop-p) → get_or c.args.region_at.now c.loop-p.p 0 < length c.args.has_drive.now
 region_below c = c.requires.indices_2.0.below c.loop-p.p c.loop-p-test.true
 
 read-member : (c : In-loop-p) → c.loop-p.p < length c.args.members.now
@@ -34,12 +34,11 @@ is_inferred-requires c =
 
 pub loop-p-preserved : goal.loop-p-preserved
 loop-p-preserved c =
-    
     let l = c.loop-p in
     let a = c.args in (
       omega (arith, c.loop-p-test.true),
       simp length-set l.invariant.1,
-      stored false (inferred_by a.components.now a.members.now a.region-at.now a.has_drive.now a.fed.now a.forward.now a.backward.now a.labels.now) l.flags l.p _ (room (goal.at.loop-p-preserved c).In-loop-p) l.invariant.2
+      stored false (inferred_by a.components.now a.members.now a.region_at.now a.has_drive.now a.fed.now a.forward.now a.backward.now a.labels.now) l.flags l.p _ (room (goal.at.loop-p-preserved c).In-loop-p) l.invariant.2
           c.is_inferred.ensures,
     )
 

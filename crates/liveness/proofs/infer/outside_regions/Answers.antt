@@ -5,7 +5,7 @@ use mathlib.Core.Bool.{Bool, false}
 use mathlib.Core.List.{List, ◌++◌}
 use Prim.Native.Nat.{ℕ, ◌≤◌}
 use native.Mathlib.Omega.{arith}
-use lib.ListN.{length, drop, replicate, length-append, length-drop}
+use lib.ListN.{length, take, drop, replicate, length-append, length-drop}
 use lib.Seq.{length-take-le}
 use Rattle.lists.specs.Limits.{component_limit}
 use Rattle.lists.specs.Records.{component_count}
@@ -17,7 +17,7 @@ use Rattle.liveness.specs.Scene.{PreparedScene}
 use Rattle.liveness.proofs.Inferring.{labels_long, forward_rows}
 use Rattle.liveness.proofs.Outside.{fed_is}
 use Rattle.liveness.proofs.infer.outside_regions.Goals as goal
-use Rattle.liveness.proofs.infer.outside_regions.Goals.{After-gather, Start}
+use Rattle.liveness.proofs.infer.outside_regions.Goals.{Start}
 
 -- the prepared scene
 abbrev scene : (c : Start)
@@ -32,42 +32,46 @@ small : (c : Start) → length c.args.labels.now ≤ component_limit
 small c = omega (arith, labelled c, (scene c).scene.components.few)
 
 pub slice_bounds-passive-end : goal.slice_bounds-passive-end
-slice_bounds-passive-end c = small c.before.before.before.before.before.before.before.before.before
+slice_bounds-passive-end c =
+    let s = (goal.at.slice_bounds-passive-end c).Start in
+    small s
 
 pub slice_bounds-gather-end-2 : goal.slice_bounds-gather-end-2
-slice_bounds-gather-end-2 c = sym (length-take-le _ _ (small c.before.before.before.before.before.before.before.before.before.before))
+slice_bounds-gather-end-2 c =
+    let s = (goal.at.slice_bounds-gather-end-2 c).Start in
+    sym (length-take-le _ _ (small s))
 
 pub gather-requires : goal.gather-requires
 gather-requires c =
-    
-    let below = members_below c.args.components.now (scene c.before.before.before.before.before.before.before.before.before.before).prepared.members_are in (
+    let s = (goal.at.gather-requires c).Start in
+    let below = members_below c.args.components.now (scene s).prepared.members_are in (
       record {
-        long = omega (arith, labelled c.before.before.before.before.before.before.before.before.before.before, below.long);
+        long = omega (arith, labelled s, below.long);
         below = λ p h. omega (
           arith,
-          labelled c.before.before.before.before.before.before.before.before.before.before,
-          below.below p (omega (arith, labelled c.before.before.before.before.before.before.before.before.before.before)),
-          length-take-le (length c.args.labels.now) (replicate component_limit false) (small c.before.before.before.before.before.before.before.before.before.before),
+          labelled s,
+          below.below p (omega (arith, labelled s)),
+          length-take-le (length c.args.labels.now) (replicate component_limit false) (small s),
         );
       },
-      omega (arith, labelled c.before.before.before.before.before.before.before.before.before.before, c.passive_flags.ensures.long),
+      omega (arith, labelled s, c.passive_flags.ensures.long),
     )
 
--- the gathered marks, and what lies behind them
-abbrev marks : After-gather → List Bool
-marks c = c.gather.new.out
+-- what lies behind the gathered marks, and the length of both
+abbrev rest : Start → List Bool
+rest s = drop (length s.args.labels.now) (replicate component_limit false)
 
-abbrev rest : After-gather → List Bool
-rest c = drop (length c.args.labels.now) (replicate component_limit false)
+long : (s : Start) (marks : List Bool) → length marks ≡ length (take (length s.args.labels.now) (replicate component_limit false))
+    → length marks ≡ length s.args.labels.now
+long s marks e = e ∙ length-take-le _ _ (small s)
 
-long : (c : After-gather) → length (marks c) ≡ length c.args.labels.now
-long c = c.gather.auto.out ∙ length-take-le _ _ (small c.before.before.before.before.before.before.before.before.before.before.before)
-
-whole : (c : After-gather) → length (marks c ++ rest c) ≡ component_limit
-whole c = omega (arith, length-append (marks c) (rest c), long c, small c.before.before.before.before.before.before.before.before.before.before.before, length-drop (length c.args.labels.now) (replicate component_limit false))
+whole : (s : Start) (marks : List Bool) → length marks ≡ length (take (length s.args.labels.now) (replicate component_limit false))
+    → length (marks ++ rest s) ≡ component_limit
+whole s marks e =
+    omega (arith, length-append marks (rest s), long s marks e, small s, length-drop (length s.args.labels.now) (replicate component_limit false))
 
 pub slice_bounds-flag_outside-end : goal.slice_bounds-flag_outside-end
-slice_bounds-flag_outside-end c = sym (whole (goal.at.slice_bounds-flag_outside-end c).After-gather)
+slice_bounds-flag_outside-end c = sym (whole (goal.at.slice_bounds-flag_outside-end c).Start c.gather.new.out c.gather.auto.out)
 
 labels-below : (c : Start) → Indices (length c.args.labels.now) (length c.args.fed.now) c.args.labels.now
 labels-below c =
@@ -76,16 +80,16 @@ labels-below c =
 
 pub flag_outside-requires : goal.flag_outside-requires
 flag_outside-requires c =
+    let s = (goal.at.flag_outside-requires c).Start in
     record {
-      rows = forward_rows (scene c.before.before.before.before.before.before.before.before.before.before.before.before.before.before).scene (scene c.before.before.before.before.before.before.before.before.before.before.before.before.before.before).prepared;
-      labels_in_bounds = (omega (arith, whole (goal.at.flag_outside-requires c).After-gather, small c.before.before.before.before.before.before.before.before.before.before.before.before.before.before), labels-below c.before.before.before.before.before.before.before.before.before.before.before.before.before.before);
+      rows = forward_rows (scene s).scene (scene s).prepared;
+      labels_in_bounds = (omega (arith, whole s c.gather.new.out c.gather.auto.out, small s), labels-below s);
     }
 
 pub returns : goal.returns
 returns c ps backward region_of r =
-    
-    
+    let s = (goal.at.returns c).Start in
     let p = r.prepared in
     let all = labels_long r.scene p in
-    fed_is r.scene p.tables.source_members p.tables.sink_members p.tables.forward_keys p.labels_are p.members_are (rest (goal.at.returns c).After-gather) c.passive_flags.ensures
-    (long (goal.at.returns c).After-gather ∙ all) (gathered_same all c.gather.ensures) c.requires.fed_len c.flag_outside.ensures
+    fed_is r.scene p.tables.source_members p.tables.sink_members p.tables.forward_keys p.labels_are p.members_are (rest s) c.passive_flags.ensures
+    (long s c.gather.new.out c.gather.auto.out ∙ all) (gathered_same all c.gather.ensures) c.requires.fed_len c.flag_outside.ensures

@@ -34,36 +34,49 @@ labels-lent s = length-take-le _ _ (nodes-few s)
 
 pub analyze_in-requires : goal.analyze_in-requires
 analyze_in-requires c =
+    let s = (goal.at.analyze_in-requires c).Start in
     record {
       scene = c.requires.scene;
       prepared_room = record {
-          forward_room = keys-lent c.before.before.before.before.before.before.before.before.before.before.before.before.before.before.before.before.before.before.before;
-          backward_room = keys-lent c.before.before.before.before.before.before.before.before.before.before.before.before.before.before.before.before.before.before.before;
-          labels_room = labels-lent c.before.before.before.before.before.before.before.before.before.before.before.before.before.before.before.before.before.before.before ∙ all c.before.before.before.before.before.before.before.before.before.before.before.before.before.before.before.before.before.before.before;
-          members_room = omega (arith, nodes-few c.before.before.before.before.before.before.before.before.before.before.before.before.before.before.before.before.before.before.before, all c.before.before.before.before.before.before.before.before.before.before.before.before.before.before.before.before.before.before.before);
-          regions_room = omega (arith, nodes-few c.before.before.before.before.before.before.before.before.before.before.before.before.before.before.before.before.before.before.before, all c.before.before.before.before.before.before.before.before.before.before.before.before.before.before.before.before.before.before.before);
-          stack_room = c.requires.rows_room.stack_room;
-        };
+        forward_room = keys-lent s;
+        backward_room = keys-lent s;
+        labels_room = labels-lent s ∙ all s;
+        members_room = omega (arith, nodes-few s, all s);
+        regions_room = omega (arith, nodes-few s, all s);
+        stack_room = c.requires.rows_room.stack_room;
+      };
       rows_room = c.requires.rows_room;
     }
 
 pub slice_bounds-forward-end : goal.slice_bounds-forward-end
-slice_bounds-forward-end c = edges_few c.before.before.before.before.before.before.before.before
+slice_bounds-forward-end c =
+    let s = (goal.at.slice_bounds-forward-end c).Start in
+    edges_few s
 
 pub slice_bounds-analyze_in-end : goal.slice_bounds-analyze_in-end
-slice_bounds-analyze_in-end c = sym (keys-lent c.before.before.before.before.before.before.before.before.before)
+slice_bounds-analyze_in-end c =
+    let s = (goal.at.slice_bounds-analyze_in-end c).Start in
+    sym (keys-lent s)
 
 pub slice_bounds-backward-end : goal.slice_bounds-backward-end
-slice_bounds-backward-end c = edges_few c.before.before.before.before.before.before.before.before.before
+slice_bounds-backward-end c =
+    let s = (goal.at.slice_bounds-backward-end c).Start in
+    edges_few s
 
 pub slice_bounds-analyze_in-end-2 : goal.slice_bounds-analyze_in-end-2
-slice_bounds-analyze_in-end-2 c = sym (keys-lent c.before.before.before.before.before.before.before.before.before.before)
+slice_bounds-analyze_in-end-2 c =
+    let s = (goal.at.slice_bounds-analyze_in-end-2 c).Start in
+    sym (keys-lent s)
 
 pub slice_bounds-labels-end : goal.slice_bounds-labels-end
-slice_bounds-labels-end c = nodes-few c.before.before.before.before.before.before.before.before.before.before
+slice_bounds-labels-end c =
+    let s = (goal.at.slice_bounds-labels-end c).Start in
+    nodes-few s
 
 pub slice_bounds-analyze_in-end-3 : goal.slice_bounds-analyze_in-end-3
-slice_bounds-analyze_in-end-3 c = sym (labels-lent c.before.before.before.before.before.before.before.before.before.before.before)
+slice_bounds-analyze_in-end-3 c =
+    let s = (goal.at.slice_bounds-analyze_in-end-3 c).Start in
+    sym (labels-lent s)
 
 pub returns : goal.returns
 returns c = c.analyze_in.ensures

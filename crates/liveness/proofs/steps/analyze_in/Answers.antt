@@ -1,11 +1,9 @@
 -- `liveness::steps::analyze_in` meets its contract: the scene is prepared, then reported.
 -- Assumes nothing.
-use mathlib.Core.Path.{◌≡◌, ◌∙◌}
+use mathlib.Core.Path.{◌∙◌}
 use native.Mathlib.Omega.{arith}
-use lib.ListN.{length}
 use Rattle.liveness.proofs.Answers.{analyzed_stack}
 use Rattle.liveness.proofs.steps.analyze_in.Goals as goal
-use Rattle.liveness.proofs.steps.analyze_in.Goals.{After-prepare-count}
 
 pub prepare-count-requires : goal.prepare-count-requires
 prepare-count-requires c =
@@ -14,34 +12,29 @@ prepare-count-requires c =
       prepared_room = c.requires.prepared_room;
     }
 
-stack-kept : (c : After-prepare-count) → length c.prepare-count.new.stack ≡ length c.args.stack.now
-stack-kept c = c.prepare-count.auto.stack
-
 pub report-requires : goal.report-requires
 report-requires c =
-    
     let room = c.requires.rows_room in
     let e = c.prepare-count.ensures in record {
       scene = c.requires.scene.0;
       prepared = e.prepared;
       count_value = (
-          e.count,
-          (
-            record {
-              regions_room = room.regions_room;
-              sources_room = room.sources_room;
-              inputs_room = room.inputs_room;
-              stack_room = omega (arith, room.stack_room, stack-kept (goal.at.report-requires c).After-prepare-arg-4-1);
-            },
-            e.stack_zeros,
-          ),
-        );
+        e.count,
+        (
+          record {
+            regions_room = room.regions_room;
+            sources_room = room.sources_room;
+            inputs_room = room.inputs_room;
+            stack_room = omega (arith, room.stack_room, c.prepare-count.auto.stack);
+          },
+          e.stack_zeros,
+        ),
+      );
     }
 
 pub returns : goal.returns
 returns c =
-    
-    analyzed_stack (stack-kept (goal.at.returns c).After-prepare-arg-4-1) c.report.ensures
+    analyzed_stack c.prepare-count.auto.stack c.report.ensures
 
 pub shape_of-forward : goal.shape_of-forward
 shape_of-forward c = c.prepare-count.auto.forward
@@ -68,4 +61,4 @@ pub shape_of-inputs : goal.shape_of-inputs
 shape_of-inputs c = c.report.auto.inputs
 
 pub shape_of-stack : goal.shape_of-stack
-shape_of-stack c = let p = (goal.at.shape_of-stack c).After-prepare-arg-4-1 in c.report.auto.stack ∙ stack-kept p
+shape_of-stack c = c.report.auto.stack ∙ c.prepare-count.auto.stack

@@ -27,8 +27,6 @@ drive_flags-requires c =
 
 pub gather-requires : goal.gather-requires
 gather-requires c =
-    
-    
     let cs = c.args.components.now in
     let scene = c.requires.scene.1.0 in (
       places_under cs c.requires.scene.0 scene.ends _ (omega (arith, scene.components.few, c.requires.components_in_bounds.1.1)) c.requires.scene.1.1,
@@ -48,13 +46,10 @@ regions_driven cs ps fs long at_place driven g = record {
   long = omega arith;
   at = λ r h. g.at r (omega arith)
       ∙ ap is_found (first_cong _ _ 0 (component_count cs) (λ p a b. rw (driven.at p (omega arith), at_place.at p (omega arith))));
-
 }
 
 pub returns : goal.returns
 returns c ps placed =
-    
-    
     let fs = c.args.frontiers.now in
     let drives = drives_too c.args.components.now fs c.frontier_flags.ensures c.drive_flags.ensures in
     record {
@@ -64,7 +59,7 @@ returns c ps placed =
     }
 
 pub frontier_flags-requires : goal.frontier_flags-requires
-frontier_flags-requires c = let s = c.before.before.before.before.before.before in record {
-      components_value = s.requires.0.1.0.ascending;
-      components_in_bounds = s.requires.components_in_bounds.0;
-    }
+frontier_flags-requires c = record {
+  components_value = c.requires.scene.1.0.ascending;
+  components_in_bounds = c.requires.components_in_bounds.0;
+}

@@ -11,17 +11,16 @@ use Rattle.liveness.proofs.steps.flag_inferred.Goals as goal
 pub outside_regions-requires : goal.outside_regions-requires
 outside_regions-requires c =
     record {
-      by_index = (c.requires.prepared_scene.0, c.args.backward.now, c.args.region-at.now, c.requires.prepared_scene.1);
+      by_index = (c.requires.prepared_scene.0, c.args.backward.now, c.args.region_at.now, c.requires.prepared_scene.1);
       fed_len = refl;
     }
 
 pub infer-requires : goal.infer-requires
 infer-requires c =
-    
     let scene = c.requires.prepared_scene.1.scene in
     let p = c.requires.prepared_scene.1.prepared in
     let cs = c.args.components.now in
-    let flags = c.outside_regions.ensures c.requires.prepared_scene.0 c.args.backward.now c.args.region-at.now c.requires.prepared_scene.1 in record {
+    let flags = c.outside_regions.ensures c.requires.prepared_scene.0 c.args.backward.now c.args.region_at.now c.requires.prepared_scene.1 in record {
       components = (scene.components, (forward_rows scene p, backward_rows scene p));
       indices = (indices_same (sym (labels_long scene p)) (members_below cs p.members_are), c.requires.has_drive_len.1);
       indices_2 = (places_under cs c.requires.prepared_scene.0 scene.ends _ (omega (arith, scene.components.few, c.requires.has_drive_len.0)) p.regions_are, omega (arith, c.requires.has_drive_len.0, flags.long));
@@ -29,11 +28,10 @@ infer-requires c =
 
 pub returns : goal.returns
 returns c ps fs r driven =
-    
     let a = c.args in
     record {
       long = c.infer.ensures.long;
       at = λ q h.
           c.infer.ensures.at q h
-          ∙ inferred_is r.scene r.prepared fs driven (c.outside_regions.ensures ps a.backward.now a.region-at.now r) q h;
+          ∙ inferred_is r.scene r.prepared fs driven (c.outside_regions.ensures ps a.backward.now a.region_at.now r) q h;
     }

@@ -27,7 +27,7 @@ use Rattle.liveness.specs.Scene.{PreparedScene}
 use Rattle.liveness.proofs.Inferring.{labels_long, forward_rows, graph}
 use Rattle.liveness.proofs.Answers.{set_all, set_where, set_same, tabulated_same}
 use Rattle.liveness.proofs.steps.report.Goals as goal
-use Rattle.liveness.proofs.steps.report.Goals.{After-mark, Start}
+use Rattle.liveness.proofs.steps.report.Goals.{Start}
 
 -- ---- the prepared scene
 abbrev cs : Start → List ℤ
@@ -59,67 +59,55 @@ lent s = length-take-le _ _ (small s)
 
 -- ---- marks
 prepared : (s : Start)
-    → PreparedScene (cs s) (ps s) s.args.forward.now s.args.backward.now s.args.labels.now s.args.members.now s.args.region-at.now
+    → PreparedScene (cs s) (ps s) s.args.forward.now s.args.backward.now s.args.labels.now s.args.members.now s.args.region_at.now
 prepared s = record { scene = s.requires.scene; sources = s.args.source_at.now; sinks = s.args.sink_at.now; prepared = s.requires.prepared }
 
 pub mark-requires : goal.mark-requires
 mark-requires c =
+    let s = (goal.at.mark-requires c).Start in
     record {
-      prepared_scene = (ps c.before.before.before.before.before.before.before.before.before.before.before.before.before.before.before.before.before.before.before, prepared c.before.before.before.before.before.before.before.before.before.before.before.before.before.before.before.before.before.before.before);
+      prepared_scene = (ps s, prepared s);
       mark_room = record {
-        frontier_room = few c.before.before.before.before.before.before.before.before.before.before.before.before.before.before.before.before.before.before.before;
-        inferred_room = few c.before.before.before.before.before.before.before.before.before.before.before.before.before.before.before.before.before.before.before;
+        frontier_room = few s;
+        inferred_room = few s;
         regions_room = omega arith;
-        drive_room = lent c.before.before.before.before.before.before.before.before.before.before.before.before.before.before.before.before.before.before.before ∙ all c.before.before.before.before.before.before.before.before.before.before.before.before.before.before.before.before.before.before.before;
-        potential_room = lent c.before.before.before.before.before.before.before.before.before.before.before.before.before.before.before.before.before.before.before ∙ all c.before.before.before.before.before.before.before.before.before.before.before.before.before.before.before.before.before.before.before;
+        drive_room = lent s ∙ all s;
+        potential_room = lent s ∙ all s;
       };
     }
 
-abbrev driven : After-mark → List Bool
-driven c = c.mark.new.drive
+-- marks of the nodes, lent from the front of an array of flags
+abbrev rest : Start → List Bool
+rest s = drop (nodes s) (replicate component_limit false)
 
-abbrev possible : After-mark → List Bool
-possible c = c.mark.new.potential
+marks_long : (s : Start) (marks : List Bool) → length marks ≡ length (take (nodes s) (replicate component_limit false)) → length marks ≡ nodes s
+marks_long s marks e = e ∙ lent s
 
-abbrev rest : After-mark → List Bool
-rest c = drop (nodes c.before.before.before.before.before.before.before.before.before.before.before.before.before.before.before.before.before.before.before.before) (replicate component_limit false)
+marks_front : (s : Start) (marks : List Bool) → length marks ≡ length (take (nodes s) (replicate component_limit false))
+    → take (nodes s) (marks ++ rest s) ≡ marks
+marks_front s marks e = front _ marks (rest s) (marks_long s marks e)
 
-driven-long : (c : After-mark) → length (driven c) ≡ nodes c.before.before.before.before.before.before.before.before.before.before.before.before.before.before.before.before.before.before.before.before
-driven-long c = c.mark.auto.drive ∙ lent c.before.before.before.before.before.before.before.before.before.before.before.before.before.before.before.before.before.before.before.before
-
-possible-long : (c : After-mark) → length (possible c) ≡ nodes c.before.before.before.before.before.before.before.before.before.before.before.before.before.before.before.before.before.before.before.before
-possible-long c = c.mark.auto.potential ∙ lent c.before.before.before.before.before.before.before.before.before.before.before.before.before.before.before.before.before.before.before.before
-
-driven-front : (c : After-mark) → take (nodes c.before.before.before.before.before.before.before.before.before.before.before.before.before.before.before.before.before.before.before.before) (driven c ++ rest c) ≡ driven c
-driven-front c = front _ (driven c) (rest c) (driven-long c)
-
-possible-front : (c : After-mark) → take (nodes c.before.before.before.before.before.before.before.before.before.before.before.before.before.before.before.before.before.before.before.before) (possible c ++ rest c) ≡ possible c
-possible-front c = front _ (possible c) (rest c) (possible-long c)
-
-driven-lent : (c : After-mark) → length (take (nodes c.before.before.before.before.before.before.before.before.before.before.before.before.before.before.before.before.before.before.before.before) (driven c ++ rest c)) ≡ nodes c.before.before.before.before.before.before.before.before.before.before.before.before.before.before.before.before.before.before.before.before
-driven-lent c = ap length (driven-front c) ∙ driven-long c
-
-possible-lent : (c : After-mark) → length (take (nodes c.before.before.before.before.before.before.before.before.before.before.before.before.before.before.before.before.before.before.before.before) (possible c ++ rest c)) ≡ nodes c.before.before.before.before.before.before.before.before.before.before.before.before.before.before.before.before.before.before.before.before
-possible-lent c = ap length (possible-front c) ∙ possible-long c
+marks_lent : (s : Start) (marks : List Bool) → length marks ≡ length (take (nodes s) (replicate component_limit false))
+    → length (take (nodes s) (marks ++ rest s)) ≡ nodes s
+marks_lent s marks e = ap length (marks_front s marks e) ∙ marks_long s marks e
 
 -- ---- rows
 pub put_regions-requires : goal.put_regions-requires
 put_regions-requires c =
-    
-    (omega (arith, all c.before.before.before.before.before.before.before.before.before.before.before.before.before.before.before.before.before.before.before.before.before.before.before.before.before.before, c.requires.prepared.regions_are.long), omega (arith, all c.before.before.before.before.before.before.before.before.before.before.before.before.before.before.before.before.before.before.before.before.before.before.before.before.before.before, c.requires.count_value.1.0.regions_room))
+    let s = (goal.at.put_regions-requires c).Start in
+    (omega (arith, all s, c.requires.prepared.regions_are.long), omega (arith, all s, c.requires.count_value.1.0.regions_room))
 
 pub put_sources-requires : goal.put_sources-requires
 put_sources-requires c =
-    
-    let e = c.mark.ensures (ps c.before.before.before.before.before.before.before.before.before.before.before.before.before.before.before.before.before.before.before.before.before.before.before.before.before.before.before.before.before.before.before.before) (prepared c.before.before.before.before.before.before.before.before.before.before.before.before.before.before.before.before.before.before.before.before.before.before.before.before.before.before.before.before.before.before.before.before) in record {
+    let s = (goal.at.put_sources-requires c).Start in
+    let e = c.mark.ensures (ps s) (prepared s) in record {
       components = c.requires.scene.components;
       components_in_bounds = (e.frontier_flags.long, e.inferred_flags.long);
-      inferred_alone = (inferred_alone (cs c.before.before.before.before.before.before.before.before.before.before.before.before.before.before.before.before.before.before.before.before.before.before.before.before.before.before.before.before.before.before.before.before) (ps c.before.before.before.before.before.before.before.before.before.before.before.before.before.before.before.before.before.before.before.before.before.before.before.before.before.before.before.before.before.before.before.before) (fs c.before.before.before.before.before.before.before.before.before.before.before.before.before.before.before.before.before.before.before.before.before.before.before.before.before.before.before.before.before.before.before.before) e.frontier_flags e.inferred_flags, c.requires.count_value.1.0.sources_room);
+      inferred_alone = (inferred_alone (cs s) (ps s) (fs s) e.frontier_flags e.inferred_flags, c.requires.count_value.1.0.sources_room);
     }
 
 pub write_verdicts-requires : goal.write_verdicts-requires
 write_verdicts-requires c =
-    
     let p = c.requires.prepared in
     let t = p.tables in record {
       components = (c.requires.scene.components, (c.requires.scene.connections, c.requires.scene.ends));
@@ -131,32 +119,30 @@ write_verdicts-requires c =
 -- ---- the answer
 pub answer-requires : goal.answer-requires
 answer-requires c =
-    
+    let s = (goal.at.answer-requires c).Start in
     let p = c.requires.prepared in record {
       rows = forward_rows c.requires.scene p;
-      indices = (rw p.labels_are (labels_under (cs c.before.before.before.before.before.before.before.before.before.before.before.before.before.before.before.before.before.before.before.before.before.before.before.before.before.before.before.before.before.before.before.before.before.before.before.before.before.before.before.before.before.before.before.before) (ps c.before.before.before.before.before.before.before.before.before.before.before.before.before.before.before.before.before.before.before.before.before.before.before.before.before.before.before.before.before.before.before.before.before.before.before.before.before.before.before.before.before.before.before.before) c.requires.scene.ends component_limit (few c.before.before.before.before.before.before.before.before.before.before.before.before.before.before.before.before.before.before.before.before.before.before.before.before.before.before.before.before.before.before.before.before.before.before.before.before.before.before.before.before.before.before.before.before)), (small c.before.before.before.before.before.before.before.before.before.before.before.before.before.before.before.before.before.before.before.before.before.before.before.before.before.before.before.before.before.before.before.before.before.before.before.before.before.before.before.before.before.before.before.before, count_small c.before.before.before.before.before.before.before.before.before.before.before.before.before.before.before.before.before.before.before.before.before.before.before.before.before.before.before.before.before.before.before.before.before.before.before.before.before.before.before.before.before.before.before.before));
-      labels_in_bounds = (omega (arith, driven-lent (goal.at.answer-requires c).After-mark), (omega (arith, possible-lent (goal.at.answer-requires c).After-mark), omega (arith, count_small c.before.before.before.before.before.before.before.before.before.before.before.before.before.before.before.before.before.before.before.before.before.before.before.before.before.before.before.before.before.before.before.before.before.before.before.before.before.before.before.before.before.before.before.before, c.mark.auto.has_drive)));
+      indices = (rw p.labels_are (labels_under (cs s) (ps s) c.requires.scene.ends component_limit (few s)), (small s, count_small s));
+      labels_in_bounds = (omega (arith, marks_lent s c.mark.new.drive c.mark.auto.drive), (omega (arith, marks_lent s c.mark.new.potential c.mark.auto.potential), omega (arith, count_small s, c.mark.auto.has_drive)));
     }
 
 pub returns : goal.returns
 returns c =
-    
-    
-    
+    let s = (goal.at.returns c).Start in
     let a = c.answer.ensures in
     let p = c.requires.prepared in
     let t = p.tables in
     let f = c.requires.prepared in
-    let e = c.mark.ensures (ps c.before.before.before.before.before.before.before.before.before.before.before.before.before.before.before.before.before.before.before.before.before.before.before.before.before.before.before.before.before.before.before.before.before.before.before.before.before.before.before.before.before.before.before.before.before) (prepared c.before.before.before.before.before.before.before.before.before.before.before.before.before.before.before.before.before.before.before.before.before.before.before.before.before.before.before.before.before.before.before.before.before.before.before.before.before.before.before.before.before.before.before.before.before) in
-    let n = component_count (cs c.before.before.before.before.before.before.before.before.before.before.before.before.before.before.before.before.before.before.before.before.before.before.before.before.before.before.before.before.before.before.before.before.before.before.before.before.before.before.before.before.before.before.before.before.before) in
-    let region_rows_lem : tabulate (λ q. get_or c.args.region-at.now q 0) (nodes c.before.before.before.before.before.before.before.before.before.before.before.before.before.before.before.before.before.before.before.before.before.before.before.before.before.before.before.before.before.before.before.before.before.before.before.before.before.before.before.before.before.before.before.before.before) ≡ regions_of (cs c.before.before.before.before.before.before.before.before.before.before.before.before.before.before.before.before.before.before.before.before.before.before.before.before.before.before.before.before.before.before.before.before.before.before.before.before.before.before.before.before.before.before.before.before.before) (ps c.before.before.before.before.before.before.before.before.before.before.before.before.before.before.before.before.before.before.before.before.before.before.before.before.before.before.before.before.before.before.before.before.before.before.before.before.before.before.before.before.before.before.before.before.before) =
-    tabulated_same (λ q. get_or c.args.region-at.now q 0) (region_of_place (cs c.before.before.before.before.before.before.before.before.before.before.before.before.before.before.before.before.before.before.before.before.before.before.before.before.before.before.before.before.before.before.before.before.before.before.before.before.before.before.before.before.before.before.before.before.before) (ps c.before.before.before.before.before.before.before.before.before.before.before.before.before.before.before.before.before.before.before.before.before.before.before.before.before.before.before.before.before.before.before.before.before.before.before.before.before.before.before.before.before.before.before.before.before)) (nodes c.before.before.before.before.before.before.before.before.before.before.before.before.before.before.before.before.before.before.before.before.before.before.before.before.before.before.before.before.before.before.before.before.before.before.before.before.before.before.before.before.before.before.before.before.before) (λ q h. p.regions_are.at q (omega (arith, all c.before.before.before.before.before.before.before.before.before.before.before.before.before.before.before.before.before.before.before.before.before.before.before.before.before.before.before.before.before.before.before.before.before.before.before.before.before.before.before.before.before.before.before.before.before)))
-    ∙ ap (tabulate (region_of_place (cs c.before.before.before.before.before.before.before.before.before.before.before.before.before.before.before.before.before.before.before.before.before.before.before.before.before.before.before.before.before.before.before.before.before.before.before.before.before.before.before.before.before.before.before.before.before) (ps c.before.before.before.before.before.before.before.before.before.before.before.before.before.before.before.before.before.before.before.before.before.before.before.before.before.before.before.before.before.before.before.before.before.before.before.before.before.before.before.before.before.before.before.before.before))) (all c.before.before.before.before.before.before.before.before.before.before.before.before.before.before.before.before.before.before.before.before.before.before.before.before.before.before.before.before.before.before.before.before.before.before.before.before.before.before.before.before.before.before.before.before.before) in
-    let source-rows : sources_below (cs c.before.before.before.before.before.before.before.before.before.before.before.before.before.before.before.before.before.before.before.before.before.before.before.before.before.before.before.before.before.before.before.before.before.before.before.before.before.before.before.before.before.before.before.before.before) c.mark.new.on_frontier c.mark.new.inferred n ≡ source_rows_below (cs c.before.before.before.before.before.before.before.before.before.before.before.before.before.before.before.before.before.before.before.before.before.before.before.before.before.before.before.before.before.before.before.before.before.before.before.before.before.before.before.before.before.before.before.before.before) (ps c.before.before.before.before.before.before.before.before.before.before.before.before.before.before.before.before.before.before.before.before.before.before.before.before.before.before.before.before.before.before.before.before.before.before.before.before.before.before.before.before.before.before.before.before.before) (fs c.before.before.before.before.before.before.before.before.before.before.before.before.before.before.before.before.before.before.before.before.before.before.before.before.before.before.before.before.before.before.before.before.before.before.before.before.before.before.before.before.before.before.before.before.before) n =
-    sources_are (cs c.before.before.before.before.before.before.before.before.before.before.before.before.before.before.before.before.before.before.before.before.before.before.before.before.before.before.before.before.before.before.before.before.before.before.before.before.before.before.before.before.before.before.before.before.before) (ps c.before.before.before.before.before.before.before.before.before.before.before.before.before.before.before.before.before.before.before.before.before.before.before.before.before.before.before.before.before.before.before.before.before.before.before.before.before.before.before.before.before.before.before.before.before) (fs c.before.before.before.before.before.before.before.before.before.before.before.before.before.before.before.before.before.before.before.before.before.before.before.before.before.before.before.before.before.before.before.before.before.before.before.before.before.before.before.before.before.before.before.before.before) e.frontier_flags e.inferred_flags n (omega arith) in
-    let live : take (nodes c.before.before.before.before.before.before.before.before.before.before.before.before.before.before.before.before.before.before.before.before.before.before.before.before.before.before.before.before.before.before.before.before.before.before.before.before.before.before.before.before.before.before.before.before.before) (driven (goal.at.returns c).After-mark ++ rest (goal.at.returns c).After-mark) ≡ drive (cs c.before.before.before.before.before.before.before.before.before.before.before.before.before.before.before.before.before.before.before.before.before.before.before.before.before.before.before.before.before.before.before.before.before.before.before.before.before.before.before.before.before.before.before.before.before) (ps c.before.before.before.before.before.before.before.before.before.before.before.before.before.before.before.before.before.before.before.before.before.before.before.before.before.before.before.before.before.before.before.before.before.before.before.before.before.before.before.before.before.before.before.before.before) (fs c.before.before.before.before.before.before.before.before.before.before.before.before.before.before.before.before.before.before.before.before.before.before.before.before.before.before.before.before.before.before.before.before.before.before.before.before.before.before.before.before.before.before.before.before.before) = driven-front (goal.at.returns c).After-mark ∙ e.drive_is in
-    let may : take (nodes c.before.before.before.before.before.before.before.before.before.before.before.before.before.before.before.before.before.before.before.before.before.before.before.before.before.before.before.before.before.before.before.before.before.before.before.before.before.before.before.before.before.before.before.before.before) (possible (goal.at.returns c).After-mark ++ rest (goal.at.returns c).After-mark) ≡ potential (cs c.before.before.before.before.before.before.before.before.before.before.before.before.before.before.before.before.before.before.before.before.before.before.before.before.before.before.before.before.before.before.before.before.before.before.before.before.before.before.before.before.before.before.before.before.before) (ps c.before.before.before.before.before.before.before.before.before.before.before.before.before.before.before.before.before.before.before.before.before.before.before.before.before.before.before.before.before.before.before.before.before.before.before.before.before.before.before.before.before.before.before.before.before) (fs c.before.before.before.before.before.before.before.before.before.before.before.before.before.before.before.before.before.before.before.before.before.before.before.before.before.before.before.before.before.before.before.before.before.before.before.before.before.before.before.before.before.before.before.before.before) = possible-front (goal.at.returns c).After-mark ∙ e.potential_is in
-    let verdict-rows = c.write_verdicts.ensures (fs c.before.before.before.before.before.before.before.before.before.before.before.before.before.before.before.before.before.before.before.before.before.before.before.before.before.before.before.before.before.before.before.before.before.before.before.before.before.before.before.before.before.before.before.before.before) record { drive_is = live; potential_is = may } in
+    let e = c.mark.ensures (ps s) (prepared s) in
+    let n = component_count (cs s) in
+    let region_rows_lem : tabulate (λ q. get_or c.args.region_at.now q 0) (nodes s) ≡ regions_of (cs s) (ps s) =
+    tabulated_same (λ q. get_or c.args.region_at.now q 0) (region_of_place (cs s) (ps s)) (nodes s) (λ q h. p.regions_are.at q (omega (arith, all s)))
+    ∙ ap (tabulate (region_of_place (cs s) (ps s))) (all s) in
+    let source-rows : sources_below (cs s) c.mark.new.on_frontier c.mark.new.inferred n ≡ source_rows_below (cs s) (ps s) (fs s) n =
+    sources_are (cs s) (ps s) (fs s) e.frontier_flags e.inferred_flags n (omega arith) in
+    let live : take (nodes s) (c.mark.new.drive ++ rest s) ≡ drive (cs s) (ps s) (fs s) = marks_front s c.mark.new.drive c.mark.auto.drive ∙ e.drive_is in
+    let may : take (nodes s) (c.mark.new.potential ++ rest s) ≡ potential (cs s) (ps s) (fs s) = marks_front s c.mark.new.potential c.mark.auto.potential ∙ e.potential_is in
+    let verdict-rows = c.write_verdicts.ensures (fs s) record { drive_is = live; potential_is = may } in
     record {
       answer = a.checked_is;
       regions_left = c.put_regions.ensures ∙ ap (λ (l : List ℕ). laid l c.args.regions.now) region_rows_lem;
@@ -166,50 +152,58 @@ returns c =
       region_count_lem = a.regions_is ∙ c.requires.count_value.0;
       source_count = ap (λ (k : ℕ). k * 2) a.sources_is ∙ c.put_sources.ensures.count ∙ ap length source-rows;
       input_count = ap (λ (k : ℕ). k * 3) a.inputs_is ∙ verdict-rows.count;
-      drive_set = set_all (all c.before.before.before.before.before.before.before.before.before.before.before.before.before.before.before.before.before.before.before.before.before.before.before.before.before.before.before.before.before.before.before.before.before.before.before.before.before.before.before.before.before.before.before.before.before) live a.drive_set;
-      potential_set = set_all (all c.before.before.before.before.before.before.before.before.before.before.before.before.before.before.before.before.before.before.before.before.before.before.before.before.before.before.before.before.before.before.before.before.before.before.before.before.before.before.before.before.before.before.before.before.before) may a.potential_set;
+      drive_set = set_all (all s) live a.drive_set;
+      potential_set = set_all (all s) may a.potential_set;
       cyclic_set = set_same c.requires.count_value.0
           (λ r. ap (λ (l : List ℕ). cyclic_at c.args.forward.now l r) p.labels_are
-          ∙ cyclic_is (cs c.before.before.before.before.before.before.before.before.before.before.before.before.before.before.before.before.before.before.before.before.before.before.before.before.before.before.before.before.before.before.before.before.before.before.before.before.before.before.before.before.before.before.before.before.before) (ps c.before.before.before.before.before.before.before.before.before.before.before.before.before.before.before.before.before.before.before.before.before.before.before.before.before.before.before.before.before.before.before.before.before.before.before.before.before.before.before.before.before.before.before.before.before) c.args.forward.now (graph c.requires.scene p) (few c.before.before.before.before.before.before.before.before.before.before.before.before.before.before.before.before.before.before.before.before.before.before.before.before.before.before.before.before.before.before.before.before.before.before.before.before.before.before.before.before.before.before.before.before.before) t.source_members t.sink_members
-          (ends_within (cs c.before.before.before.before.before.before.before.before.before.before.before.before.before.before.before.before.before.before.before.before.before.before.before.before.before.before.before.before.before.before.before.before.before.before.before.before.before.before.before.before.before.before.before.before.before) (ps c.before.before.before.before.before.before.before.before.before.before.before.before.before.before.before.before.before.before.before.before.before.before.before.before.before.before.before.before.before.before.before.before.before.before.before.before.before.before.before.before.before.before.before.before.before) c.requires.scene.ends) t.forward_keys r) a.cyclic_set;
-      has_drive_set = set_same c.requires.count_value.0 (λ r. refl) (set_where (count_small c.before.before.before.before.before.before.before.before.before.before.before.before.before.before.before.before.before.before.before.before.before.before.before.before.before.before.before.before.before.before.before.before.before.before.before.before.before.before.before.before.before.before.before.before.before) a.has_drive_set e.region_flags);
+          ∙ cyclic_is (cs s) (ps s) c.args.forward.now (graph c.requires.scene p) (few s) t.source_members t.sink_members
+          (ends_within (cs s) (ps s) c.requires.scene.ends) t.forward_keys r) a.cyclic_set;
+      has_drive_set = set_same c.requires.count_value.0 (λ r. refl) (set_where (count_small s) a.has_drive_set e.region_flags);
     }
 
 pub slice_bounds-drive-end : goal.slice_bounds-drive-end
-slice_bounds-drive-end c = small c.before.before.before.before.before.before.before.before.before.before.before.before.before.before.before.before.before
+slice_bounds-drive-end c =
+    let s = (goal.at.slice_bounds-drive-end c).Start in
+    small s
 
 pub slice_bounds-mark-end-4 : goal.slice_bounds-mark-end-4
-slice_bounds-mark-end-4 c = sym (lent c.before.before.before.before.before.before.before.before.before.before.before.before.before.before.before.before.before.before)
+slice_bounds-mark-end-4 c =
+    let s = (goal.at.slice_bounds-mark-end-4 c).Start in
+    sym (lent s)
 
 pub slice_bounds-potential-end : goal.slice_bounds-potential-end
-slice_bounds-potential-end c = small c.before.before.before.before.before.before.before.before.before.before.before.before.before.before.before.before.before.before
+slice_bounds-potential-end c =
+    let s = (goal.at.slice_bounds-potential-end c).Start in
+    small s
 
 pub slice_bounds-mark-end-5 : goal.slice_bounds-mark-end-5
-slice_bounds-mark-end-5 c = sym (lent c.before.before.before.before.before.before.before.before.before.before.before.before.before.before.before.before.before.before.before)
+slice_bounds-mark-end-5 c =
+    let s = (goal.at.slice_bounds-mark-end-5 c).Start in
+    sym (lent s)
 
 pub slice_bounds-drive-end-2 : goal.slice_bounds-drive-end-2
-slice_bounds-drive-end-2 c = let m = (goal.at.slice_bounds-drive-end-2 c).After-mark in front_long _ (driven m) (rest m) (driven-long m)
+slice_bounds-drive-end-2 c = let s = (goal.at.slice_bounds-drive-end-2 c).Start in front_long _ c.mark.new.drive (rest s) (marks_long s c.mark.new.drive c.mark.auto.drive)
 
 pub slice_bounds-write_verdicts-end : goal.slice_bounds-write_verdicts-end
-slice_bounds-write_verdicts-end c = let m = (goal.at.slice_bounds-write_verdicts-end c).After-mark in sym (driven-lent m)
+slice_bounds-write_verdicts-end c = let s = (goal.at.slice_bounds-write_verdicts-end c).Start in sym (marks_lent s c.mark.new.drive c.mark.auto.drive)
 
 pub slice_bounds-potential-end-2 : goal.slice_bounds-potential-end-2
-slice_bounds-potential-end-2 c = let m = (goal.at.slice_bounds-potential-end-2 c).After-mark in front_long _ (possible m) (rest m) (possible-long m)
+slice_bounds-potential-end-2 c = let s = (goal.at.slice_bounds-potential-end-2 c).Start in front_long _ c.mark.new.potential (rest s) (marks_long s c.mark.new.potential c.mark.auto.potential)
 
 pub slice_bounds-write_verdicts-end-2 : goal.slice_bounds-write_verdicts-end-2
-slice_bounds-write_verdicts-end-2 c = let m = (goal.at.slice_bounds-write_verdicts-end-2 c).After-mark in sym (possible-lent m)
+slice_bounds-write_verdicts-end-2 c = let s = (goal.at.slice_bounds-write_verdicts-end-2 c).Start in sym (marks_lent s c.mark.new.potential c.mark.auto.potential)
 
 pub slice_bounds-drive-end-3 : goal.slice_bounds-drive-end-3
-slice_bounds-drive-end-3 c = let m = (goal.at.slice_bounds-drive-end-3 c).After-mark in front_long _ (driven m) (rest m) (driven-long m)
+slice_bounds-drive-end-3 c = let s = (goal.at.slice_bounds-drive-end-3 c).Start in front_long _ c.mark.new.drive (rest s) (marks_long s c.mark.new.drive c.mark.auto.drive)
 
 pub slice_bounds-answer-end : goal.slice_bounds-answer-end
-slice_bounds-answer-end c = let m = (goal.at.slice_bounds-answer-end c).After-mark in sym (driven-lent m)
+slice_bounds-answer-end c = let s = (goal.at.slice_bounds-answer-end c).Start in sym (marks_lent s c.mark.new.drive c.mark.auto.drive)
 
 pub slice_bounds-potential-end-3 : goal.slice_bounds-potential-end-3
-slice_bounds-potential-end-3 c = let m = (goal.at.slice_bounds-potential-end-3 c).After-mark in front_long _ (possible m) (rest m) (possible-long m)
+slice_bounds-potential-end-3 c = let s = (goal.at.slice_bounds-potential-end-3 c).Start in front_long _ c.mark.new.potential (rest s) (marks_long s c.mark.new.potential c.mark.auto.potential)
 
 pub slice_bounds-answer-end-2 : goal.slice_bounds-answer-end-2
-slice_bounds-answer-end-2 c = let m = (goal.at.slice_bounds-answer-end-2 c).After-mark in sym (possible-lent m)
+slice_bounds-answer-end-2 c = let s = (goal.at.slice_bounds-answer-end-2 c).Start in sym (marks_lent s c.mark.new.potential c.mark.auto.potential)
 
 pub shape_of-regions : goal.shape_of-regions
 shape_of-regions c = c.put_regions.auto.regions
