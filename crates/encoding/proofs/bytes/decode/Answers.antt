@@ -19,7 +19,7 @@ loop-k-preserved c =
     let l = c.loop-k in
     let args = c.args in
     let (within, sized, done) = l.invariant in
-    let number = to_z-of_z {w = w64} (record { sfits = c.Signed-of.type-inv }) ∙ c.Signed-of.ensures ∙ ap signed c.word_at.ensures in (
+    let number = to_z-of_z {w = w64} (record { sfits = c.signed_of-number.type_inv }) ∙ c.signed_of-number.ensures ∙ ap signed c.word_at.ensures in (
       omega arith,
       simp length-set sized,
       rw (done, number, numbers_more) (laid_more (first_numbers args.bytes.now l.k) args.out.now l.k (length_numbers args.bytes.now l.k) _ (omega arith)),
