@@ -1,5 +1,6 @@
 // Reads a sheet from standard input, and writes its report or its refusal to standard output.
 #![tactic(auto)]
+
 mod program;
 
 use blocks::answer::put_refusal;

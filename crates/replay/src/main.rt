@@ -1,6 +1,7 @@
 // Reads recorded scenes and what the Rust answered to them from standard input, asks the list entries, and writes how many scenes there
 // were, how many recorded numbers were compared, and how many differ.
 #![tactic(auto)]
+
 mod answers;
 mod compare;
 mod input;

@@ -1,23 +1,18 @@
 -- `plotreport::main` stays within its buffers: a report that was printed has room, and so have the lines of any refusal.
 -- Assumes nothing.
 use mathlib.Core.Path.{sym}
-use Prim.Native.Nat.{◌≤◌}
 use native.Mathlib.Omega.{arith}
 use lib.Seq.{length-take-le}
 use Rattle.lines.proofs.Writing.{put_length}
 use Rattle.plotreport.proofs.Spoken.{printed_within, refusal_room}
 use Rattle.plotreport.proofs.main.Goals as goal
-use Rattle.plotreport.proofs.main.Goals.{In-Written-2}
 
 -- the report is within the buffer
-within : (c : In-Written-2) → c.in-Written.count ≤ 65536
-within c = printed_within c.report_sheet-printed.ensures c.in-Written.is
-
 pub slice_bounds-out-end : goal.slice_bounds-out-end
-slice_bounds-out-end c = omega (arith, within (goal.at.slice_bounds-out-end c).In-Written-2, c.report_sheet-printed.auto.out)
+slice_bounds-out-end c = omega (arith, printed_within c.report_sheet-printed.ensures c.in-Written.is, c.report_sheet-printed.auto.out)
 
 pub slice_bounds-write_all-end : goal.slice_bounds-write_all-end
-slice_bounds-write_all-end c = sym (length-take-le _ _ (omega (arith, within (goal.at.slice_bounds-write_all-end c).In-Written-2, c.report_sheet-printed.auto.out)))
+slice_bounds-write_all-end c = sym (length-take-le _ _ (omega (arith, printed_within c.report_sheet-printed.ensures c.in-Written.is, c.report_sheet-printed.auto.out)))
 
 pub put_refusal-count-requires : goal.put_refusal-count-requires
 put_refusal-count-requires c = refusal_room _

@@ -18,6 +18,6 @@ returns c =
     let p = parsed_by a.text.now in
     let report = c.report in
     record {
-      by = subst (λ (checks : Checked). PrintedBy checks (report_of (components_of p) (connections_of p) (frontiers_of p)) a.out.now report.new.1.1.1.1.1.0 report.result)
+      by = subst (λ (checks : Checked). PrintedBy checks (report_of (components_of p) (connections_of p) (frontiers_of p)) a.out.now report.new.out report.result)
           (sym (short_sheet a.text.now c.if-text-gt-BYTES.false)) report.ensures.printed;
     }

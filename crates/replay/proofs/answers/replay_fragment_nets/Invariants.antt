@@ -7,4 +7,4 @@ abbrev pub invariant-loop-f : goal.invariant-loop-f
 invariant-loop-f l = Unit {0}
 
 abbrev pub decreases-loop-f : goal.decreases-loop-f
-decreases-loop-f l = l.count - f
+decreases-loop-f l = l.count - l.f

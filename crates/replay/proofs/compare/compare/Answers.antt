@@ -34,17 +34,17 @@ returns-in-Of c =
     let a = c.args in
     let r = c.read_list-listed in
     let q = read_list a.word.now (drop a.tally.at a.text.now) in
-    let f = subst (ReadFrom (length a.text.now) q (replicate 4096 (pos 0)) r.new.1.1.1.0) c.in-Of.is r.ensures.1 in
+    let f = subst (ReadFrom (length a.text.now) q (replicate 4096 (pos 0)) r.new.out) c.in-Of.is r.ensures.read_from in
     c.counted.ensures
     ∙ ap (after_numbers a.tally c.in-Of.next c.in-Of.n) c.differences.ensures
-    ∙ ap (λ k. after_numbers a.tally c.in-Of.next c.in-Of.n (differing eq_n (take c.in-Of.n r.new.1.1.1.0) (take k a.answered.now))) c.least-m.ensures.value
-    ∙ compared_list eq_n 4096 (length a.text.now) (take (min a.count (length a.answered.now)) a.answered.now) a.tally (replicate 4096 (pos 0)) r.new.1.1.1.0 (length-replicate 4096 (pos 0)) q c.in-Of.n c.in-Of.next (listed_within _ _ r.ensures.0 c.in-Of.is) f
+    ∙ ap (λ k. after_numbers a.tally c.in-Of.next c.in-Of.n (differing eq_n (take c.in-Of.n r.new.out) (take k a.answered.now))) c.least-m.ensures.value
+    ∙ compared_list eq_n 4096 (length a.text.now) (take (min a.count (length a.answered.now)) a.answered.now) a.tally (replicate 4096 (pos 0)) r.new.out (length-replicate 4096 (pos 0)) q c.in-Of.n c.in-Of.next (listed_within _ _ r.ensures.at_most c.in-Of.is) f
 
 pub returns-in-Bad : goal.returns-in-Bad
 returns-in-Bad c =
     let a = c.args in
     let r = c.read_list-listed in
     let q = read_list a.word.now (drop a.tally.at a.text.now) in
-    let f = subst (ReadFrom (length a.text.now) q (replicate 4096 (pos 0)) r.new.1.1.1.0) c.in-Bad.is r.ensures.1 in
+    let f = subst (ReadFrom (length a.text.now) q (replicate 4096 (pos 0)) r.new.out) c.in-Bad.is r.ensures.read_from in
     c.counted-in-Bad.ensures
-    ∙ compared_none eq_n 4096 (length a.text.now) (take (min a.count (length a.answered.now)) a.answered.now) a.tally (replicate 4096 (pos 0)) r.new.1.1.1.0 (length-replicate 4096 (pos 0)) q f
+    ∙ compared_none eq_n 4096 (length a.text.now) (take (min a.count (length a.answered.now)) a.answered.now) a.tally (replicate 4096 (pos 0)) r.new.out (length-replicate 4096 (pos 0)) q f

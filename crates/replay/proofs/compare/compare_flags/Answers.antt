@@ -15,7 +15,7 @@ pub returns : goal.returns
 returns c =
     let a = c.args in
     let l = c.list_flags in
-    let e : l.new.1.0 ≡ flags_below a.set.words 1024 = l.ensures ∙ ap (flags_below a.set.words) (length-replicate {A = ℕ} 1024 0) in
+    let e : l.new.out ≡ flags_below a.set.words 1024 = l.ensures ∙ ap (flags_below a.set.words) (length-replicate {A = ℕ} 1024 0) in
     c.compare.ensures
     ∙ ap
     (λ (flags : List ℕ). compared eq_n 4096 (length a.text.now) (read_list a.word.now (drop a.tally.at a.text.now)) (take (min a.count (length flags)) flags) a.tally)

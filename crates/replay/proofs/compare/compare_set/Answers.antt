@@ -20,4 +20,4 @@ returns c =
     c.compare.ensures
     ∙ ap
     (λ (names : List ℕ). compared eq_n 4096 (length a.text.now) (read_list a.word.now (drop a.tally.at a.text.now)) names a.tally)
-    (front_taken (names_below a.keys.now a.set.words 1024) (replicate {A = ℕ} 1024 0) l.new.1.1.0 l.result l.ensures (omega (arith, few, length-replicate {A = ℕ} 1024 0)))
+    (front_taken (names_below a.keys.now a.set.words 1024) (replicate {A = ℕ} 1024 0) l.new.out l.result l.ensures (omega (arith, few, length-replicate {A = ℕ} 1024 0)))

@@ -31,16 +31,16 @@ returns-in-Of c =
     let a = c.args in
     let r = c.read_list-listed in
     let q = read_list a.word.now (drop a.tally.at a.text.now) in
-    let f = subst (ReadFrom (length a.text.now) q (replicate 20480 (pos 0)) r.new.1.1.1.0) c.in-Of.is r.ensures.1 in
+    let f = subst (ReadFrom (length a.text.now) q (replicate 20480 (pos 0)) r.new.out) c.in-Of.is r.ensures.read_from in
     c.counted.ensures
     ∙ ap (after_numbers a.tally c.in-Of.next c.in-Of.n) c.signed_differences.ensures
-    ∙ compared_list eq_z 20480 (length a.text.now) a.answered.now a.tally (replicate 20480 (pos 0)) r.new.1.1.1.0 (length-replicate 20480 (pos 0)) q c.in-Of.n c.in-Of.next (listed_within _ _ r.ensures.0 c.in-Of.is) f
+    ∙ compared_list eq_z 20480 (length a.text.now) a.answered.now a.tally (replicate 20480 (pos 0)) r.new.out (length-replicate 20480 (pos 0)) q c.in-Of.n c.in-Of.next (listed_within _ _ r.ensures.at_most c.in-Of.is) f
 
 pub returns-in-Bad : goal.returns-in-Bad
 returns-in-Bad c =
     let a = c.args in
     let r = c.read_list-listed in
     let q = read_list a.word.now (drop a.tally.at a.text.now) in
-    let f = subst (ReadFrom (length a.text.now) q (replicate 20480 (pos 0)) r.new.1.1.1.0) c.in-Bad.is r.ensures.1 in
+    let f = subst (ReadFrom (length a.text.now) q (replicate 20480 (pos 0)) r.new.out) c.in-Bad.is r.ensures.read_from in
     c.counted-in-Bad.ensures
-    ∙ compared_none eq_z 20480 (length a.text.now) a.answered.now a.tally (replicate 20480 (pos 0)) r.new.1.1.1.0 (length-replicate 20480 (pos 0)) q f
+    ∙ compared_none eq_z 20480 (length a.text.now) a.answered.now a.tally (replicate 20480 (pos 0)) r.new.out (length-replicate 20480 (pos 0)) q f

@@ -23,16 +23,14 @@ past : (c : After-next_member-m-in-loop-m) → c.loop-m.m + 1 ≤ c.next_member-
 past c = least_past _ _ _ (long c.before.before.before.before.before.before.before.before) c.next_member-m-in-loop-m.ensures (omega (arith, c.loop-m-test.true))
 
 pub loop-m-init : goal.loop-m-init
-loop-m-init c =
-    (
-      rw (names_least c.args.keys.now c.args.set.words c.next_member-m.ensures (omega arith), names_none c.args.keys.now c.args.set.words) (front_none _),
-      omega (arith, c.next_member-m.ensures.bound, long c.before.before.before.before),
-      λ h. (c.next_member-m.ensures.found (omega (arith, h, long c.before.before.before.before))).1,
-    )
+loop-m-init c = (
+  rw (names_least c.args.keys.now c.args.set.words c.next_member-m.ensures (omega arith), names_none c.args.keys.now c.args.set.words) (front_none _),
+  omega (arith, c.next_member-m.ensures.bound, long c.before.before.before.before),
+  λ h. (c.next_member-m.ensures.found (omega (arith, h, long c.before.before.before.before))).1,
+)
 
 pub loop-m-preserved : goal.loop-m-preserved
 loop-m-preserved c =
-    
     let a = c.args in
     let l = c.loop-m in (
       rw (names_least a.keys.now a.set.words c.next_member-m-in-loop-m.ensures (past c), names_more a.keys.now a.set.words l.m (l.invariant.2 c.loop-m-test.true), c.name_of.ensures)

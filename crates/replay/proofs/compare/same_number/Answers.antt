@@ -1,6 +1,7 @@
 -- `replay::compare::same_number` meets its contract.
 -- Assumes nothing.
-use borrow.Author.Rules.{sfits_of}
+use borrow.Author.Rules.{rules}
+use mir.Val.{SFits}
 use Rattle.replay.proofs.Reading.{negative_differs, not_negative, natural_same}
 use Rattle.lists.specs.Signed.{at}
 use lib.Signed.{non_neg}
@@ -14,12 +15,14 @@ use Rattle.replay.proofs.compare.same_number.Goals.{Else-recorded-i-lt0}
 positive : (c : Else-recorded-i-lt0) → T (non_neg (at c.args.recorded.now c.args.i))
 positive c =
     let a = c.args in
-    not_negative (at a.recorded.now a.i) (rw (to_z-of_z {w = w64} (sfits_of c.t6-1.given)) at c.if-recorded-i-lt0.false)
+    let fits : SFits w64 (at a.recorded.now a.i) = search rules in
+    not_negative (at a.recorded.now a.i) (rw (to_z-of_z fits) at c.if-recorded-i-lt0.false)
 
 pub returns-then-recorded-i-lt0 : goal.returns-then-recorded-i-lt0
 returns-then-recorded-i-lt0 c =
     let a = c.args in
-    negative_differs (at a.recorded.now a.i) (get_or a.answered.now a.i 0) (rw (to_z-of_z {w = w64} (sfits_of c.t6-1.given)) at c.if-recorded-i-lt0.true)
+    let fits : SFits w64 (at a.recorded.now a.i) = search rules in
+    negative_differs (at a.recorded.now a.i) (get_or a.answered.now a.i 0) (rw (to_z-of_z fits) at c.if-recorded-i-lt0.true)
 
 pub natural_at-requires : goal.natural_at-requires
 natural_at-requires c = (c.requires.0, positive c)

@@ -38,7 +38,7 @@ returns-in-To c =
     let e = sym c.read_count-head.ensures ∙ c.in-Is.is in
     let t = c.read_numbers-end in record {
       at_most = c.if-out-n.false;
-      read_from = list_read a.text.now a.word.now a.at a.out.now _ _ e t.new.1.1.0 c.if-out-n.false t.result c.in-To.p c.in-To.is t.ensures;
+      read_from = list_read a.text.now a.word.now a.at a.out.now _ _ e t.new.out c.if-out-n.false t.result c.in-To.p c.in-To.is t.ensures;
     }
 
 pub returns-in-No : goal.returns-in-No
@@ -47,5 +47,5 @@ returns-in-No c =
     let e = sym c.read_count-head.ensures ∙ c.in-Is.is in
     let t = c.read_numbers-end in record {
       at_most = tt;
-      read_from = list_unread a.text.now a.word.now a.at a.out.now _ _ e t.new.1.1.0 c.if-out-n.false t.result c.in-No.is t.ensures;
+      read_from = list_unread a.text.now a.word.now a.at a.out.now _ _ e t.new.out c.if-out-n.false t.result c.in-No.is t.ensures;
     }

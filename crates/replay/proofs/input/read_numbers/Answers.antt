@@ -1,5 +1,6 @@
 -- Answers for the goals that the search leaves.
-use borrow.Author.Rules.{sfits_of}
+use borrow.Author.Rules.{rules}
+use mir.Val.{SFits}
 use native.Mathlib.Omega.{arith}
 use Prim.Native.Nat.{◌<◌}
 use mathlib.Core.Path.{◌≡◌, refl, sym, ap, ◌∙◌}
@@ -25,7 +26,6 @@ full zs out e = ap (λ k. zs ++ drop k out) e ∙ ap (λ l. zs ++ l) (drop-lengt
 
 pub returns-in-Bad : goal.returns-in-Bad
 returns-in-Bad c =
-    
     let a = c.args in
     let e = sym c.read_number-line.ensures ∙ c.in-Bad.is in
     let f = fails a.text.now a.at (length a.out.now) c.loop-i.invariant.1 (omega (arith, c.loop-i-test.true, c.loop-i.invariant.3)) e in
@@ -33,14 +33,14 @@ returns-in-Bad c =
 
 pub loop-i-preserved : goal.loop-i-preserved
 loop-i-preserved c =
-    
     let a = c.args in
     let x = c.loop-i in
     let e = sym c.read_number-line.ensures ∙ c.in-Value.is in
+    let fits : SFits w64 c.in-Value.v = search rules in
     let t : x.i < length a.out.now = omega (arith, c.loop-i-test.true, x.invariant.3) in (
       x.invariant.0 ++ (c.in-Value.v ∷ []),
       step a.text.now a.at (length a.out.now) x.invariant.1 t c.in-Value.v c.in-Value.next e,
-      rw (to_z-of_z {w = w64} (sfits_of c.known_told-1.given.0.1), x.invariant.2) (laid_snoc x.invariant.0 a.out.now c.in-Value.v x.i x.invariant.1.count t),
+      rw (to_z-of_z fits, x.invariant.2) (laid_snoc x.invariant.0 a.out.now c.in-Value.v x.i x.invariant.1.count t),
       simp length-set x.invariant.3,
     )
 
