@@ -35,7 +35,7 @@ returns c =
     let count = c.list_crossings-count in
     let listed = take count.result count.new.keys in
     let laid = subst (λ (n : ℕ). LaidByFirst listed (take n out.new.out))
-        (lent _ _ _ count.new.keys count.ensures.0 c.requires.rows.1.1 count.auto.keys) out.ensures in
+    (lent _ _ _ count.new.keys count.ensures.0 c.requires.rows.1.1 count.auto.keys) out.ensures in
     record {
       few = omega (arith, out.auto.out, count.ensures.0, c.requires.rows.1.0);
       below = laid_below c.requires.rows.0 c.requires.indices count.ensures.1 laid.rearranged;

@@ -13,7 +13,6 @@ use Rattle.signals.proofs.inferred.flag_outside.Invariants.{outside}
 
 pub loop-i-init : goal.loop-i-init
 loop-i-init c =
-    
     let a = c.args in
     (omega arith, refl, rw c.clear_flags.ensures (by_none _ _ (length a.fed.now)))
 

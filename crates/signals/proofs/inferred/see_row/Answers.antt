@@ -36,7 +36,7 @@ loop-at-preserved c =
       omega arith,
       omega (arith, c.loop-at-test.true),
       λ test seen. elim c.if-labels-j.branch [
-        then-labels-j w ↦ rw w.found-is
+        | then-labels-j w ↦ rw w.found-is
             (row_key keys labels c.args.m c.requires.0 c.requires.1 l.at c.loop-at-test.true c.if-key-m.false
             (eq-eqb _ _ w.if-labels-j.true) test w.see-found.result
             (w.see-found.ensures (length labels) (passed keys labels c.args.m l.at test) below (l.invariant.2 test seen)))

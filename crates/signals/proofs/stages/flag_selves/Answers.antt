@@ -13,7 +13,6 @@ use Rattle.signals.proofs.stages.flag_selves.Goals as goal
 
 pub loop-i-init : goal.loop-i-init
 loop-i-init c =
-    
     let a = c.args in
     (omega arith, refl, rw c.clear_flags.ensures (by_none _ _ (length a.flags.now)))
 
