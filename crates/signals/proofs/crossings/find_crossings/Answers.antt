@@ -6,7 +6,7 @@ use Prim.Native.Nat.{ℕ, ◌/◌, ◌≤◌, ◌<◌}
 use native.Mathlib.Omega.{arith}
 use lib.ListN.{length, take}
 use lib.Seq.{length-take-le}
-use Rattle.tables.specs.Order.{All, Rearranged}
+use Rattle.tables.specs.Order.{Rearranged}
 use Rattle.tables.specs.Laws.{at_all}
 use Rattle.tables.specs.Pairs.{span}
 use Rattle.tables.specs.Radix.{LaidByFirst}

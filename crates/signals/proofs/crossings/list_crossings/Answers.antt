@@ -1,12 +1,10 @@
 -- Answers for the goals that the search leaves.
 use mathlib.Core.Path.{◌≡◌, refl, ◌∙◌}
 use mathlib.Core.Bool.{Bool, true, false}
-use Prim.Native.Nat.{ℕ, ◌/◌, ◌%◌, ◌≤◌, ◌<◌}
+use Prim.Native.Nat.{ℕ, ◌≤◌, ◌<◌}
 use native.Mathlib.Omega.{arith}
-use lib.ListN.{length, get_or, length-set}
-use Rattle.lists.specs.Limits.{component_limit}
+use lib.ListN.{length, length-set}
 use Rattle.tables.specs.Order.{one}
-use Rattle.tables.specs.Pairs.{span, pair}
 use Rattle.signals.specs.Crossings.{crosses}
 use Rattle.signals.proofs.Tested.{edges_first}
 use Rattle.signals.proofs.Crossed.{kept_none, kept_more}

@@ -8,7 +8,6 @@ use lib.ListN.{length, length-set}
 use lib.Seq.{get_or-set_same, get_or-set_other}
 use Rattle.lists.specs.Limits.{connection_limit}
 use Rattle.lists.specs.Records.{port_count}
-use Rattle.signals.specs.Keys.{signal_key}
 use Rattle.signals.proofs.Tabulated.{listed_keys}
 use Rattle.signals.proofs.edges.list_keys.Goals as goal
 use Rattle.signals.proofs.edges.list_keys.Goals.{In-loop-k}

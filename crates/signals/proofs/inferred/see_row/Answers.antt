@@ -1,9 +1,7 @@
 -- Answers for the goals that the search leaves.
-use Prim.Native.Nat.{◌%◌, ◌<◌}
 use native.Mathlib.Omega.{arith}
-use lib.ListN.{length, get_or}
+use lib.ListN.{length}
 use borrow.Author.Tests.{eq-eqb, ne_eqb}
-use Rattle.tables.specs.Pairs.{span}
 use Rattle.signals.proofs.Neighbours.{passed, row_none, row_below, row_key, row_other, row_all}
 use Rattle.signals.proofs.inferred.see_row.Goals as goal
 use Rattle.signals.proofs.inferred.see_row.Goals.{then-labels-j, else-labels-j}

@@ -1,11 +1,10 @@
 -- Answers for the goals that the search leaves.
 use mathlib.Core.Path.{◌≡◌, refl, ◌∙◌}
 use mathlib.Core.List.{List}
-use Prim.Native.Nat.{ℕ, ◌%◌, ◌<◌}
+use Prim.Native.Nat.{ℕ, ◌<◌}
 use native.Mathlib.Omega.{arith}
 use lib.Dec.{eqb}
 use lib.ListN.{length, get_or, length-set}
-use Rattle.tables.specs.Pairs.{span}
 use Rattle.signals.specs.Flags.{Indices}
 use Rattle.signals.proofs.Marks.{by_none, by_more}
 use Rattle.signals.proofs.Tested.{edge_flags}
