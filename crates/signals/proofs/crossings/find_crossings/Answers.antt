@@ -25,7 +25,12 @@ lay_by_first-requires c =
     let still : Rearranged listed listed = record { same = λ v. refl } in
     let below = laid_below c.requires.rows.0 c.requires.indices count.ensures.1 still in
     record {
-      keys_in_bounds = omega (arith, lent _ _ _ count.new.keys count.ensures.0 c.requires.rows.1.1 count.auto.keys, count.ensures.0, c.requires.rows.1.0);
+      keys_in_bounds = omega (
+        arith,
+        lent _ _ _ count.new.keys count.ensures.0 c.requires.rows.1.1 count.auto.keys,
+        count.ensures.0,
+        c.requires.rows.1.0,
+      );
       counts_len_bound = (omega arith, at_all (λ x. x / span < component_limit) listed below.first);
     }
 

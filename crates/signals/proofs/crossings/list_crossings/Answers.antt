@@ -25,7 +25,8 @@ loop-i-preserved c =
     let l = c.loop-i in
     let a = c.args in
     let step = most_one (differs a.forward.now a.labels.now l.i) c.one_if-at.result c.one_if-at.ensures in
-    let room : l.at < length l.keys = omega (arith, c.loop-i-test.true, c.edge_count-count.ensures.few, l.invariant.1, l.invariant.2, c.requires.rows.1) in (
+    let room : l.at < length l.keys =
+    omega (arith, c.loop-i-test.true, c.edge_count-count.ensures.few, l.invariant.1, l.invariant.2, c.requires.rows.1) in (
       omega (arith, c.loop-i-test.true),
       omega (arith, step, l.invariant.1),
       simp length-set l.invariant.2,

@@ -57,7 +57,10 @@ turned_keys-requires c =
     let long = c.sort_edges.auto.keys ∙ c.list_keys.auto.keys ∙ c.requires.forward_len.0 in
     let sorted = rw c.list_keys.ensures at c.sort_edges.ensures in
     record {
-      out_len = (omega (arith, long, c.requires.forward_len.1), omega (arith, long, c.requires.port_connections.0.few, c.sort_edges.auto.spare));
+      out_len = (
+        omega (arith, long, c.requires.forward_len.1),
+        omega (arith, long, c.requires.port_connections.0.few, c.sort_edges.auto.spare),
+      );
       ascending = (
         sorted.ascending,
         (
@@ -79,5 +82,6 @@ returns c cs ends =
       source_members = ends.source_members;
       sink_members = ends.sink_members;
       forward_keys = forward;
-      backward_keys = turned_keys_of forward (λ k h. omega (arith, (small k h).0)) (λ k h. omega (arith, (small k h).1)) c.turned_keys.ensures;
+      backward_keys =
+          turned_keys_of forward (λ k h. omega (arith, (small k h).0)) (λ k h. omega (arith, (small k h).1)) c.turned_keys.ensures;
     }

@@ -46,12 +46,14 @@ loop-r-preserved c =
         | else-sizes-r-ge2 w ↦ ap length w.flags-is ∙ l.invariant.1
       ],
       elim c.if-sizes-r-ge2.branch [
-        | then-sizes-r-ge2 w ↦ rw w.flags-is (set_more a.sizes.now a.flags.now l.flags l.r l.invariant.2 l.invariant.3 room w.if-sizes-r-ge2.true)
+        | then-sizes-r-ge2 w ↦ rw w.flags-is
+            (set_more a.sizes.now a.flags.now l.flags l.r l.invariant.2 l.invariant.3 room w.if-sizes-r-ge2.true)
         | else-sizes-r-ge2 w ↦ rw w.flags-is
             (left_more a.sizes.now a.flags.now l.flags l.r l.invariant.2 l.invariant.3 (omega (arith, w.if-sizes-r-ge2.false)))
       ],
       elim c.if-sizes-r-ge2.branch [
-        | then-sizes-r-ge2 w ↦ rw w.flags-is (λ j h. get_or-set_other l.flags l.r j true false (λ q. omega arith) ∙ l.invariant.3 j (omega arith))
+        | then-sizes-r-ge2 w ↦ rw w.flags-is
+            (λ j h. get_or-set_other l.flags l.r j true false (λ q. omega arith) ∙ l.invariant.3 j (omega arith))
         | else-sizes-r-ge2 w ↦ rw w.flags-is (λ j h. l.invariant.3 j (omega arith))
       ],
     )

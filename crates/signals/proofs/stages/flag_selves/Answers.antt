@@ -22,7 +22,8 @@ room {b = b} labels i h e = omega (arith, i.below b h)
 pub loop-i-preserved : goal.loop-i-preserved
 loop-i-preserved c =
     let l = c.loop-i in
-    let there = room c.args.labels.now c.requires.1 (c.edge_count-count.ensures.second l.i c.loop-i-test.true) (l.invariant.1 ∙ c.clear_flags.auto.flags) in
+    let there = room c.args.labels.now c.requires.1
+    (c.edge_count-count.ensures.second l.i c.loop-i-test.true) (l.invariant.1 ∙ c.clear_flags.auto.flags) in
     (omega (arith, c.loop-i-test.true), simp length-set l.invariant.1, by_more _ _ l.i l.invariant.2 _ _ refl refl there)
 
 pub returns : goal.returns
@@ -39,8 +40,10 @@ bounds-labels-key c = c.edge_count-count.ensures.second c.loop-i.i c.loop-i-test
 
 pub bounds-flags-r : goal.bounds-flags-r
 bounds-flags-r c =
-    room c.args.labels.now c.requires.1 (c.edge_count-count.ensures.second c.loop-i.i c.loop-i-test.true) (c.loop-i.invariant.1 ∙ c.clear_flags.auto.flags)
+    room c.args.labels.now c.requires.1
+    (c.edge_count-count.ensures.second c.loop-i.i c.loop-i-test.true) (c.loop-i.invariant.1 ∙ c.clear_flags.auto.flags)
 
 pub bounds-flags-r-in-loop-i : goal.bounds-flags-r-in-loop-i
 bounds-flags-r-in-loop-i c =
-    room c.args.labels.now c.requires.1 (c.edge_count-count.ensures.second c.loop-i.i c.loop-i-test.true) (c.loop-i.invariant.1 ∙ c.clear_flags.auto.flags)
+    room c.args.labels.now c.requires.1
+    (c.edge_count-count.ensures.second c.loop-i.i c.loop-i-test.true) (c.loop-i.invariant.1 ∙ c.clear_flags.auto.flags)
