@@ -3,7 +3,7 @@
  *
  *     cc -I include host.c target/staticlib/libcapi.a
  *
- * The archive is made by `rt staticlib capi` and is for x86-64. It needs
+ * The archive is made by `tools/build capi` and is for x86-64. It needs
  * nothing but memcpy and memset. examples/worked.c is a whole host.
  *
  *

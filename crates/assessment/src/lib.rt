@@ -1,5 +1,6 @@
 // Drive sources, source rows and verdict rows of a scene whose regions are known, and what is upstream of each region.
 #![tactic(auto)]
+
 pub mod slots;
 pub mod sources;
 pub mod upstream;

@@ -1,6 +1,7 @@
 // The entries for a host that calls through the C convention. Each list is lent as bytes, eight to a number, lowest first, and the answer
 // is one number.
 #![tactic(auto)]
+
 mod alive;
 
 ghost use Rattle.encoding.specs.Entry.{GroupsByBytes};

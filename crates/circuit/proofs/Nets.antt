@@ -7,12 +7,12 @@
 use mathlib.Core.Path.{◌≡◌, refl, sym, ap, ◌∙◌}
 use mathlib.Core.Bool.{Bool, true, false}
 use mathlib.Core.List.Memᴰ
-use mathlib.Core.List.{List, [], ◌∷◌, ◌++◌, Memᴰ}
-use mathlib.Core.Logic.{◌⊎◌, inl, inr, ⊎_elim, ◌↔◌}
+use mathlib.Core.List.{List, Memᴰ}
+use mathlib.Core.Logic.{⊎_elim, ◌↔◌}
 use Prim.Native.Nat.{ℕ, zero, suc, ◌≤◌, ◌<◌}
 use native.Mathlib.Omega.{arith}
 use lib.Dec.{leb}
-use lib.ListN.{length, get_or}
+use lib.ListN.{get_or}
 use lib.IntN.{ℤ}
 use borrow.Author.Tests.{leb-true, le-leb}
 use Rattle.lists.specs.Limits.{component_limit}
@@ -20,9 +20,8 @@ use Rattle.lists.specs.Records.{connection, component_count, connection_count}
 use Rattle.lists.specs.Ids.{place_of}
 use Rattle.lists.specs.declared.Found.{Found}
 use Rattle.lists.specs.declared.Found.TheVariants.{At, Nothing}
-use Rattle.circuit.specs.Forest.{Forest, root}
 use Rattle.circuit.specs.Connected.{Joined, PairsBelow}
-use Rattle.circuit.specs.Groups.{group_of, groups_of, roots_below}
+use Rattle.circuit.specs.Groups.{groups_of, roots_below}
 use Rattle.circuit.specs.Topology.{join_of, joins, joins_of, forest_of, net_kinds, fragment_kinds, nets_of, fragments_of}
 use Rattle.circuit.proofs.Numbering.{group_joined, group_below, group_onto, all_well_formed, joined_more, Stays, roots_stay}
 use Rattle.circuit.proofs.Roots.{groups_at}

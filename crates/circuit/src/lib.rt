@@ -1,5 +1,6 @@
 // The groups of a scene: nets and fragments, by union-find over the list places of its components.
 #![tactic(auto)]
+
 mod forest;
 pub mod settle;
 

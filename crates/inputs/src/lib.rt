@@ -1,5 +1,6 @@
 // The input query: the immediate sources of a port, and the inferred inputs among these and all upstream of them.
 #![tactic(auto)]
+
 pub mod asked;
 mod query;
 mod row;

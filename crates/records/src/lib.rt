@@ -1,6 +1,7 @@
 // The liveness entry over a lent list of records: their numbers are copied into the flat form, and the entry over that answers.
-// Only `record_at`, `copy_records` and `analyze_records` take the list of records, and these are proved by hand.
+// Only `record_at`, `copy_records` and `analyze_records` take the list of records.
 #![tactic(auto)]
+
 ghost use Rattle.std.specs.Prelude.{◌≡◌, List, ◌++◌, ◌+◌, ◌*◌, ◌<◌, ◌≤◌, length, get_or, take, drop};
 ghost use Rattle.lists.specs.Limits.{connection_limit};
 ghost use Rattle.liveness.specs.Entry.{Analyzed};
@@ -85,7 +86,7 @@ fn analyze_flat(
     )
 }
 
-// ---- proved by hand
+// ---- over the list of records
 
 fn record_at(list: &[PortRecord], i: usize) -> PortRecord
     requires { i < length list.now }

@@ -1,13 +1,13 @@
 //! For build scripts: links an archive of the proved library.
 //!
 //! The archive is `target/staticlib/libNAME.a` of the repository. It is made
-//! by `rt lib` in `crates/NAME`, which leaves it in that crate's `out`, when it
-//! is missing or older than the sources. An archive has no symbols but its exported functions, so two that share code
+//! by `tools/build NAME` when it is missing or older than the sources. An
+//! archive has no symbols but its exported functions, so two that share code
 //! can be linked side by side. Where a crate links one and depends on a crate
 //! that links another, cargo runs the scripts one after the other (`links`), so
 //! that no two `rt` work in the repository at once.
 
-use std::{env, fs};
+use std::env;
 use std::path::{Path, PathBuf};
 use std::process::Command;
 use std::time::SystemTime;
@@ -76,13 +76,7 @@ fn latest(path: &Path) -> Option<SystemTime> {
 
 /// Proves a library and writes its archive; the build ends where that fails.
 fn make(name: &str, root: &Path) {
-    let krate = root.join("crates").join(name);
-    let status = Command::new("rt").arg("lib").current_dir(&krate).status();
+    let status = Command::new(root.join("tools/build")).arg(name).status();
     let made = status.is_ok_and(|status| status.success());
-    assert!(made, "`rt lib` failed in crates/{name}");
-    let file = format!("lib{name}.a");
-    let folder = root.join("target/staticlib");
-    let copied = fs::create_dir_all(&folder)
-        .and_then(|()| fs::copy(krate.join("out").join(&file), folder.join(&file)));
-    assert!(copied.is_ok(), "{file} was not copied: {copied:?}");
+    assert!(made, "`tools/build {name}` failed in the repository's root");
 }

@@ -1,6 +1,5 @@
 //! The program `plotreport`, run on what a test hands it. It is made by
-//! `rt run` in its crate, which leaves it in the crate's `out`, when it is
-//! missing or older than the sources.
+//! `tools/build` when it is missing or older than the sources.
 
 use std::fs::{self, File};
 use std::io::{self, ErrorKind, Write};
@@ -49,22 +48,15 @@ fn made() -> Option<PathBuf> {
     if is_current(&program, &root) {
         return Some(program);
     }
-    let krate = root.join("crates/plotreport");
-    let status = Command::new("rt")
-        .arg("run")
-        .current_dir(&krate)
-        .stdin(Stdio::null())
+    let status = Command::new(root.join("tools/build"))
+        .arg("plotreport")
         .status();
-    if !status.is_ok_and(|status| status.success()) {
-        return None;
-    }
-    fs::create_dir_all(program.parent()?).ok()?;
-    fs::copy(krate.join("out/plotreport"), &program).ok()?;
-    Some(program)
+    let is_made = status.is_ok_and(|status| status.success());
+    is_made.then_some(program)
 }
 
 fn start(input: Stdio) -> io::Result<Child> {
-    const FAULT: &str = "`rt run` failed in crates/plotreport";
+    const FAULT: &str = "`tools/build plotreport` failed in the repository's root";
     static PROGRAM: OnceLock<Option<PathBuf>> = OnceLock::new();
     let program = PROGRAM.get_or_init(made);
     let program = program.as_ref().ok_or_else(|| io::Error::other(FAULT))?;

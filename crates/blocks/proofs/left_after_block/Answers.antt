@@ -18,7 +18,6 @@ nonzero_div-count c = omega (arith, c.width.ensures.1)
 
 pub loop-k-preserved : goal.loop-k-preserved
 loop-k-preserved c =
-    
     let rows = c.args.rows.now in
     let k = c.loop-k.k in
     let block = c.args.block in
@@ -28,7 +27,6 @@ loop-k-preserved c =
 
 pub returns : goal.returns
 returns c =
-    
     let rows = c.args.rows.now in
     let l = c.loop-k in
     let keys = block_keys c.args.block in
@@ -38,6 +36,6 @@ returns c =
     let first : c.count_length.result ≡ length count = c.count_length.ensures ∙ ap (λ (n : ℕ). length (line_of (count_name c.args.block) (pos (length rows / n)))) w in
     let sum : c.count_length.result + length (lines_from c.args.block rows 0) ≡ length (count ++ lines_from c.args.block rows 0) = omega (arith, length-append count (lines_from c.args.block rows 0)) in
     sym (left_none l.rest) ∙ ap (left_after l.rest) (sym none) ∙ l.invariant
-    ∙ ap (λ (r : Found). left_after r (length (lines_from c.args.block rows 0))) c.left_After.ensures
+    ∙ ap (λ (r : Found). left_after r (length (lines_from c.args.block rows 0))) c.left_after-rest.ensures
     ∙ left_then c.args.left c.count_length.result (length (lines_from c.args.block rows 0))
     ∙ ap (left_after c.args.left) sum

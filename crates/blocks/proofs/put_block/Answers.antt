@@ -1,7 +1,7 @@
 -- Answers for the goals that the search leaves.
 use mathlib.Core.Path.{◌≡◌, subst, ◌∙◌}
 use mathlib.Core.List.{List, ◌++◌}
-use Prim.Native.Nat.{ℕ, suc, ◌+◌, ◌/◌, ◌≤◌}
+use Prim.Native.Nat.{ℕ, suc, ◌+◌, ◌/◌, ◌≤◌, ◌<◌}
 use native.Mathlib.Numerals.{add-one}
 use native.Mathlib.Omega.{arith}
 use lib.IntN.{pos}
@@ -13,7 +13,6 @@ use Rattle.blocks.specs.Blocks.{block_keys, count_name, block_text}
 use Rattle.blocks.proofs.Going.{Going, goes_from, goes_room, goes_on, goes_done, goes_length}
 use Rattle.blocks.proofs.FieldText.{lines_from, line_at, fields_one, fields_none}
 use Rattle.blocks.proofs.put_block.Goals as goal
-use Rattle.blocks.proofs.put_block.Goals.{After-put_count-p, After-width, In-loop-k}
 
 -- the first line, by the width that was asked for
 abbrev count_line : ℕ → List ℕ → ℕ → List ℕ
@@ -22,55 +21,60 @@ count_line block rows width = line_of (count_name block) (pos (length rows / wid
 text : (block : ℕ) (rows : List ℕ) (width : ℕ) → width ≡ length (block_keys block) → count_line block rows width ++ lines_from block rows 0 ≡ block_text block rows
 text block rows width e = rw e
 
-room : (c : After-width) → c.args.at + length (count_line c.args.block c.args.rows.now c.width.result ++ lines_from c.args.block c.args.rows.now 0) ≤ length c.args.out.now
-room c =
-    rw (text c.args.block c.args.rows.now c.width.result c.width.ensures.0) c.requires
-
 -- the lines have room behind it
-lines-room : (c : After-put_count-p)
-    → c.put_count-p.result + length (lines_from c.args.block c.args.rows.now 0) ≤ length c.put_count-p.new.out
-lines-room c = put_room c.put_count-p.ensures _ (room c.before.before.before)
+module _ (block : ℕ) (rows : List ℕ) (width : ℕ) (e : width ≡ length (block_keys block)) (at : ℕ) (out : List ℕ) where
+  room : at + length (block_text block rows) ≤ length out → at + length (count_line block rows width ++ lines_from block rows 0) ≤ length out
+  room h = rw (text block rows width e) h
+
+  lines-room : {new : List ℕ} {n : ℕ} → at + length (block_text block rows) ≤ length out → Put at (count_line block rows width) out new n
+      → n + length (lines_from block rows 0) ≤ length new
+  lines-room h p = put_room p (lines_from block rows 0) (room h)
 
 -- line k is next
-next-line : (c : In-loop-k) → let l = c.loop-k in 
-    Going (lines_from c.args.block c.args.rows.now 0) c.put_count-p.result c.put_count-p.new.out
-    (line_at c.args.block c.args.rows.now l.k ++ lines_from c.args.block c.args.rows.now (suc l.k)) l.out l.p
-next-line c =
-    let l = c.loop-k in
-    subst (λ (t : List ℕ). Going (lines_from c.args.block c.args.rows.now 0) c.put_count-p.result c.put_count-p.new.out t l.out l.p)
-    (fields_one c.args.block c.args.rows.now l.k c.loop-k-test.true) l.invariant
+next-line : (block : ℕ) (rows : List ℕ) (at : ℕ) (old new : List ℕ) (p k : ℕ) → k < length rows
+    → Going (lines_from block rows 0) at old (lines_from block rows k) new p
+    → Going (lines_from block rows 0) at old (line_at block rows k ++ lines_from block rows (suc k)) new p
+next-line block rows at old new p k h g =
+    subst (λ (t : List ℕ). Going (lines_from block rows 0) at old t new p) (fields_one block rows k h) g
 
 pub nonzero_div-count : goal.nonzero_div-count
 nonzero_div-count c = omega (arith, c.width.ensures.1)
 
 pub put_count-p-requires : goal.put_count-p-requires
 put_count-p-requires c =
-    
-    let n = c.args.rows.now in
-    omega (arith, room (goal.at.put_count-p-requires c).After-width, length-append (count_line c.args.block n c.width.result) (lines_from c.args.block n 0))
+    let a = c.args in
+    omega (
+      arith,
+      room a.block a.rows.now c.width.result c.width.ensures.0 a.at a.out.now c.requires,
+      length-append (count_line a.block a.rows.now c.width.result) (lines_from a.block a.rows.now 0),
+    )
 
 pub loop-k-init : goal.loop-k-init
-loop-k-init c = goes_from (lines-room (goal.at.loop-k-init c).After-put_count-p)
+loop-k-init c =
+    let a = c.args in
+    goes_from (lines-room a.block a.rows.now c.width.result c.width.ensures.0 a.at a.out.now c.requires c.put_count-p.ensures)
 
 pub put_field-p-requires : goal.put_field-p-requires
 put_field-p-requires c =
-    
-    let k = c.loop-k.k in
-    goes_room (line_at c.args.block c.args.rows.now k) (lines_from c.args.block c.args.rows.now (suc k))
-    (lines-room (goal.at.put_field-p-requires c).After-put_count-p) (next-line (goal.at.put_field-p-requires c).In-loop-k)
+    let a = c.args in
+    let l = c.loop-k in
+    goes_room (line_at a.block a.rows.now l.k) (lines_from a.block a.rows.now (suc l.k))
+    (lines-room a.block a.rows.now c.width.result c.width.ensures.0 a.at a.out.now c.requires c.put_count-p.ensures)
+    (next-line a.block a.rows.now c.put_count-p.result c.put_count-p.new.out l.out l.p l.k c.loop-k-test.true l.invariant)
 
 pub loop-k-preserved : goal.loop-k-preserved
 loop-k-preserved c =
-    rw (add-one c.loop-k.k) (goes_on _ _ (next-line (goal.at.loop-k-preserved c).In-loop-k) c.put_field-p.ensures)
+    let a = c.args in
+    let l = c.loop-k in
+    rw (add-one l.k)
+    (goes_on _ _ (next-line a.block a.rows.now c.put_count-p.result c.put_count-p.new.out l.out l.p l.k c.loop-k-test.true l.invariant) c.put_field-p.ensures)
 
 pub shape_of-out : goal.shape_of-out
 shape_of-out c = goes_length c.loop-k.invariant ∙ put_length c.put_count-p.ensures
 
 pub returns : goal.returns
 returns c =
-    
     let l = c.loop-k in
-    
     let rows = c.args.rows.now in
     let last = subst (λ (t : List ℕ). Going (lines_from c.args.block rows 0) c.put_count-p.result c.put_count-p.new.out t l.out l.p)
     (fields_none c.args.block rows l.k c.loop-k-test.false) l.invariant in

@@ -13,7 +13,6 @@ in-turn e f g = cc
 -- the check of the bytes, by the definition
 answer : (c : After-or_else-whole) → c.or_else-whole.result ≡ groups_whole c.args.components.now c.args.connections.now
 answer c =
-    
     in-turn c.or_else-whole.ensures (c.refuse_at.ensures ∙ ap (refuse 1 0) c.not_whole-first.ensures)
     (c.refuse_at-2.ensures ∙ ap (refuse 1 1) c.not_whole-second.ensures)
 
@@ -24,7 +23,6 @@ pack-requires c =
 
 pub returns-in_default : goal.returns-in_default
 returns-in_default c =
-    
     part_laid _ _ _ _ _ _ (sym (answer (goal.at.returns-in_default c).After-or_else-whole) ∙ c.in_default.is) (c.pack.ensures ∙ ap packed c.in_default.is)
 
 pub of_bytes-requires : goal.of_bytes-requires

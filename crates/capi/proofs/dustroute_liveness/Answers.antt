@@ -25,7 +25,6 @@ pack-requires c =
 
 pub returns-in_default : goal.returns-in_default
 returns-in_default c =
-    
     part_alive _ _ _ _ _ _ _ _ _ _ (sym (answer (goal.at.returns-in_default c).After-or_else-whole) ∙ c.in_default.is) (c.pack.ensures ∙ ap packed c.in_default.is)
 
 pub of_bytes-requires : goal.of_bytes-requires

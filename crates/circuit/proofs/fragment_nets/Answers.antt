@@ -36,7 +36,6 @@ inside c =
 
 pub loop-v-preserved : goal.loop-v-preserved
 loop-v-preserved c =
-    
     let l = c.loop-v in
     let a = c.args in (
       omega (arith, inside (goal.at.loop-v-preserved c).In-loop-v),
@@ -56,13 +55,13 @@ returns c net h =
     rw all at (l.invariant.1 net h)
 
 pub offset_bounds-fragments-v : goal.offset_bounds-fragments-v
-offset_bounds-fragments-v c = omega (arith, inside c, c.well-formed.1.0.1)
+offset_bounds-fragments-v c = omega (arith, inside (goal.at.offset_bounds-fragments-v c).In-loop-v)
 
 pub bounds-fragments-v : goal.bounds-fragments-v
 bounds-fragments-v c = (inside (goal.at.bounds-fragments-v c).In-loop-v).1
 
 pub offset_bounds-nets-v : goal.offset_bounds-nets-v
-offset_bounds-nets-v c = omega (arith, inside (goal.at.offset_bounds-nets-v c).In-loop-v, c.well_formed.0.1)
+offset_bounds-nets-v c = omega (arith, inside (goal.at.offset_bounds-nets-v c).In-loop-v)
 
 pub bounds-nets-v : goal.bounds-nets-v
 bounds-nets-v c = (inside (goal.at.bounds-nets-v c).In-loop-v).0

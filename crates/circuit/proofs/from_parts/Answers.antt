@@ -15,70 +15,72 @@ use Rattle.checks.proofs.Accepted.{GroupingScene, grouping_accept, room_places}
 use Rattle.circuit.specs.declared.Counts.{Counts}
 use Rattle.circuit.specs.declared.Grouping.TheVariants.{Groups}
 use Rattle.circuit.proofs.from_parts.Goals as goal
-use Rattle.circuit.proofs.from_parts.Goals.{After-grouping_lists-checked, In-Accepted}
+use Rattle.circuit.proofs.from_parts.Goals.{After-grouping_lists-checked}
 
 same_counts : {r : Counts} {nets fragments : ℕ} → r.nets ≡ nets → r.fragments ≡ fragments → Groups r ≡ Groups (record { nets = nets; fragments = fragments })
 same_counts {r} e f = rw (← e, ← f)
 
 -- the answer of the checks, by the definition
 answer : (c : After-grouping_lists-checked)
-    → 
+    →
     c.grouping_lists-checked.result
     ≡ grouping_refusal c.args.components.now c.args.connections.now (length c.args.nets.now) (length c.args.fragments.now)
 answer c =
     c.grouping_lists-checked.ensures.answer
     ∙ rw (c.room_for-2.ensures, c.room_for.ensures)
 
-abbrev enough : In-Accepted → Bool
+abbrev enough : After-grouping_lists-checked → Bool
 enough c =
     room_for (component_count c.args.components.now) 1 (length c.args.nets.now)
     && room_for (component_count c.args.components.now) 1 (length c.args.fragments.now)
 
 -- an accepted scene
-accepted : (c : In-Accepted) → grouping_refusal c.args.components.now c.args.connections.now (length c.args.nets.now) (length c.args.fragments.now) ≡ Accepted
-accepted c = sym (answer c.before.before.before.before) ∙ c.in-Accepted.is
+accepted : (c : After-grouping_lists-checked) → c.grouping_lists-checked.result ≡ Accepted
+    → grouping_refusal c.args.components.now c.args.connections.now (length c.args.nets.now) (length c.args.fragments.now) ≡ Accepted
+accepted c e = sym (answer c) ∙ e
 
-scene : (c : In-Accepted) → GroupingScene c.args.components.now c.args.connections.now [] (enough c)
-scene c = grouping_accept _ _ _ _ (accepted c)
+scene : (c : After-grouping_lists-checked) → c.grouping_lists-checked.result ≡ Accepted → GroupingScene c.args.components.now c.args.connections.now [] (enough c)
+scene c e = grouping_accept _ _ _ _ (accepted c e)
 
-room : (c : In-Accepted)
+room : (c : After-grouping_lists-checked) → c.grouping_lists-checked.result ≡ Accepted
     → (component_count c.args.components.now ≤ length c.args.nets.now)
     × (component_count c.args.components.now ≤ length c.args.fragments.now)
-room c =
+room c e =
     let n = component_count c.args.components.now in
     let nets = length c.args.nets.now in
     let fragments = length c.args.fragments.now in
-    let tests = both (room_for n 1 nets) (room_for n 1 fragments) (scene c).scene.lengths.room in
+    let tests = both (room_for n 1 nets) (room_for n 1 fragments) (scene c e).scene.lengths.room in
     (room_places n nets tests.0, room_places n fragments tests.1)
 
 -- the table of ids at the front of the keys
-long : (c : In-Accepted)
+long : (c : After-grouping_lists-checked) → c.grouping_lists-checked.result ≡ Accepted
     → let n = component_count c.args.components.now in
     (n ≤ length c.grouping_lists-checked.new.keys) × (length (take n c.grouping_lists-checked.new.keys) ≡ n)
-long c =
+long c e =
     let keys = c.grouping_lists-checked.new.keys in
-    let h : component_count c.args.components.now ≤ length keys = omega (arith, (scene c).components.few, c.grouping_lists-checked.auto.keys) in
+    let h : component_count c.args.components.now ≤ length keys = omega (arith, (scene c e).components.few, c.grouping_lists-checked.auto.keys) in
     (h, length-take-le _ keys h)
 
 pub slice_bounds-keys-end : goal.slice_bounds-keys-end
-slice_bounds-keys-end c = (long c).0
+slice_bounds-keys-end c = (long (goal.at.slice_bounds-keys-end c).After-grouping_lists-checked c.in-Accepted.is).0
 
 pub slice_bounds-group-end : goal.slice_bounds-group-end
-slice_bounds-group-end c = sym (long (goal.at.slice_bounds-group-end c).In-Accepted).1
+slice_bounds-group-end c = sym (long (goal.at.slice_bounds-group-end c).After-grouping_lists-checked c.in-Accepted.is).1
 
 pub group-requires : goal.group-requires
 group-requires c =
-    
-    let n = (long (goal.at.group-requires c).In-Accepted).1 in
+    let now = (goal.at.group-requires c).After-grouping_lists-checked in
+    let n = (long now c.in-Accepted.is).1 in
+    let s = scene now c.in-Accepted.is in
+    let places = room now c.in-Accepted.is in
     let table = c.grouping_lists-checked.ensures.table c.in-Accepted.is in record {
-      connections = (scene (goal.at.group-requires c).In-Accepted).connections;
+      connections = s.connections;
       id_table = (c.args.components.now, table);
-      keys_len_bound = (omega (arith, n, (scene (goal.at.group-requires c).In-Accepted).components.few), (omega (arith, n, room (goal.at.group-requires c).In-Accepted), omega (arith, n, room (goal.at.group-requires c).In-Accepted)));
+      keys_len_bound = (omega (arith, n, s.components.few), (omega (arith, n, places), omega (arith, n, places)));
     }
 
 pub returns-in-Refused : goal.returns-in-Refused
 returns-in-Refused c =
-    
     let e = sym (answer (goal.at.returns-in-Refused c).After-grouping_lists-checked) ∙ c.in-Refused.is in
     record { answer = rw e; numbers = rw e; nets_left = rw e; fragments_left = rw e }
 
@@ -90,10 +92,9 @@ shape_of-fragments c = c.group.auto.fragments
 
 pub returns-in-Accepted : goal.returns-in-Accepted
 returns-in-Accepted c =
-    
     let table = c.grouping_lists-checked.ensures.table c.in-Accepted.is in
     let g = c.group.ensures c.args.components.now table in
-    let e = accepted (goal.at.returns-in-Accepted c).In-Accepted in
+    let e = accepted (goal.at.returns-in-Accepted c).After-grouping_lists-checked c.in-Accepted.is in
     record {
       answer = rw e (same_counts g.net_count_lem g.fragment_count_lem);
       numbers = rw e (ap₂ (λ (nets fragments : ℕ). 0 ∷ nets ∷ fragments ∷ []) g.net_count_lem g.fragment_count_lem);

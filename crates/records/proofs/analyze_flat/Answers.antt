@@ -19,7 +19,6 @@ use Rattle.records.specs.Records.{flatten, room, taken}
 use Rattle.records.proofs.Filled.{length_flatten}
 use Rattle.records.proofs.Limit.{analyzed_over}
 use Rattle.records.proofs.analyze_flat.Goals as goal
-use Rattle.records.proofs.analyze_flat.Goals.{After-taken_of-n}
 
 taken_few : (n : ℕ) → n ≤ connection_limit → taken n ≡ n * port_width
 taken_few n h = rw (le-leb n connection_limit h)
@@ -48,14 +47,11 @@ module _ {cs fs : List ℤ} {regions regions' sources sources' inputs inputs' st
       analyzed_over long (omega (arith, length_flatten rs)) a)
       (order? n connection_limit)
 
-fits : (c : After-taken_of-n) → c.Taken-of.result ≤ length c.args.flat.now
-fits c = omega (arith, c.Taken-of.ensures, taken_fits c.args.count, c.requires)
+pub slice_bounds-analyze_signal_liveness-end : goal.slice_bounds-analyze_signal_liveness-end
+slice_bounds-analyze_signal_liveness-end c =
+    let fits : c.taken_of-n.result ≤ length c.args.flat.now = omega (arith, c.taken_of-n.ensures, taken_fits c.args.count, c.requires) in
+    sym (length-take-le _ _ fits)
 
 pub returns : goal.returns
 returns c rs all front =
-    
-    
-    of_records c.args.flat.now c.args.count c.Taken-of.result c.requires c.Taken-of.ensures rs all front c.analyze_signal_liveness.ensures
-
-pub slice_bounds-analyze_signal_liveness-end : goal.slice_bounds-analyze_signal_liveness-end
-slice_bounds-analyze_signal_liveness-end c = sym (length-take-le _ _ (fits (goal.at.slice_bounds-analyze_signal_liveness-end c).After-slice_known-4-1))
+    of_records c.args.flat.now c.args.count c.taken_of-n.result c.requires c.taken_of-n.ensures rs all front c.analyze_signal_liveness.ensures

@@ -1,5 +1,6 @@
 -- `records::put_record` meets its contract. The stores do not change the length.
 -- Assumes nothing.
+use borrow.Author.Rules.{rules}
 use mathlib.Core.Path.{◌≡◌}
 use Prim.Native.Nat.{suc, ◌+◌, ◌*◌}
 use native.Mathlib.Omega.{arith}
@@ -28,11 +29,11 @@ pub returns : goal.returns
 unfolding put_fields
 returns c =
     let a = c.args in
-    let z0 = to_z-of_z {w = w64} {z = a.r.source} (record { sfits = c.struct_told-5-1.given.0.1 }) in
-    let z1 = to_z-of_z {w = w64} {z = a.r.source_port} (record { sfits = c.struct_told-5-1.given.1.0.1 }) in
-    let z2 = to_z-of_z {w = w64} {z = a.r.sink} (record { sfits = c.struct_told-5-1.given.1.1.0.1 }) in
-    let z3 = to_z-of_z {w = w64} {z = a.r.sink_port} (record { sfits = c.struct_told-5-1.given.1.1.1.0.1 }) in
-    let z4 = to_z-of_z {w = w64} {z = a.r.transfer} (record { sfits = c.struct_told-5-1.given.1.1.1.1.0.1 }) in
+    let z0 = to_z-of_z {w = w64} {z = a.r.source} (search rules) in
+    let z1 = to_z-of_z {w = w64} {z = a.r.source_port} (search rules) in
+    let z2 = to_z-of_z {w = w64} {z = a.r.sink} (search rules) in
+    let z3 = to_z-of_z {w = w64} {z = a.r.sink_port} (search rules) in
+    let z4 = to_z-of_z {w = w64} {z = a.r.transfer} (search rules) in
     let p1 : a.i * 5 + 1 ≡ suc (a.i * 5) = omega arith in
     let p2 : a.i * 5 + 2 ≡ suc (suc (a.i * 5)) = omega arith in
     let p3 : a.i * 5 + 3 ≡ suc (suc (suc (a.i * 5))) = omega arith in

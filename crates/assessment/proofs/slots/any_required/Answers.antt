@@ -21,7 +21,6 @@ natural_at-kind-requires c = (omega (arith, within c), field_non_neg c.requires 
 
 pub loop-p-preserved : goal.loop-p-preserved
 loop-p-preserved c =
-    
     let l = c.loop-p in
     let zero = sym (c.required_count.ensures.0 ∙ ap required_count c.natural_at-kind.ensures) ∙ c.if-required_count-ne0.false in (
       omega (arith, c.loop-p-test.true),

@@ -1,6 +1,6 @@
 -- Answers for the goals that the search leaves.
 use mathlib.Core.Path.{◌≡◌, sym, ap, ◌∙◌}
-use Prim.Native.Nat.{◌/◌, ◌<◌}
+use Prim.Native.Nat.{◌/◌}
 use native.Mathlib.Omega.{arith}
 use lib.ListN.{length, length-set, length-replicate}
 use Rattle.assessment.proofs.Places.{slots_none, slots_more}
@@ -28,7 +28,11 @@ loop-k-preserved c =
     let l = c.loop-k in
     let r = l.invariant.1 in (
       omega (arith, c.loop-k-test.true),
-      record { fed_room = simp length-set r.fed_room; driven_room = simp length-set r.driven_room; possible_room = simp length-set r.possible_room },
+      record {
+        fed_room = simp length-set r.fed_room;
+        driven_room = simp length-set r.driven_room;
+        possible_room = simp length-set r.possible_room;
+      },
       slots_more _ _ _ _ _ l.k l.invariant.2 r c.slot_at-j.result c.slot_at-j.ensures.0 c.slot_at-j.ensures.1
           c.mark_at.result c.mark_at-in-loop-k.result c.mark_at.ensures c.mark_at-in-loop-k.ensures,
     )

@@ -20,21 +20,16 @@ status_at-status-requires c =
 
 pub put_verdict-place-requires : goal.put_verdict-place-requires
 put_verdict-place-requires c =
-    
     omega (arith, c.loop-k.invariant.1.full, c.loop-k.invariant.1.long, c.requires.at_in_bounds, c.required_count-count.ensures.1, c.loop-k-test.true)
 
 pub loop-k-preserved : goal.loop-k-preserved
-loop-k-preserved c =
-    
-    
-    (
-      omega (arith, c.loop-k-test.true),
-      ports_more _ _ _ _ _ (omega (arith, c.requires.at_in_bounds)) c.loop-k.invariant.1 c.status_at-status.result c.status_at-status.ensures c.put_verdict-place.ensures c.put_verdict-place.auto.out,
-    )
+loop-k-preserved c = (
+  omega (arith, c.loop-k-test.true),
+  ports_more _ _ _ _ _ (omega (arith, c.requires.at_in_bounds)) c.loop-k.invariant.1 c.status_at-status.result c.status_at-status.ensures c.put_verdict-place.ensures c.put_verdict-place.auto.out,
+)
 
 pub returns : goal.returns
 returns c =
-    
     ports_all _ _ _ _ _ (first_required c.args.kind) (required_count c.args.kind) c.first_required-first.ensures.0
     (let e = c.required_count-count.ensures.0 in omega (arith, c.loop-k.invariant.0, c.loop-k-test.false)) c.loop-k.invariant.1
 

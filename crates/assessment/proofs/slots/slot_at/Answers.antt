@@ -24,7 +24,6 @@ natural_at-port-requires s =
 
 pub natural_at-requires : goal.natural_at-requires
 natural_at-requires c =
-    
     (omega (arith, within c.before), field_non_neg c.requires.port_connections.0 c.args.k 4 c.requires.port_connections.1 (omega arith) refl)
 
 pub returns-then-natural_at-eq-SUPPORT : goal.returns-then-natural_at-eq-SUPPORT
@@ -39,7 +38,6 @@ signal c = is_signal_lem c.args.ports.now c.args.k _ c.natural_at.ensures c.if-n
 pub returns-then-port-ge-PLACES : goal.returns-then-port-ge-PLACES
 unfolding slot_at
 returns-then-port-ge-PLACES c =
-    
     let a = c.args in
     let past : 8 ≤ (port_connection a.ports.now a.k).sink_port_of = omega (arith, c.natural_at-port.ensures, c.if-port-ge-PLACES.true) in
     (rw (signal (goal.at.returns-then-port-ge-PLACES c).Else-natural_at-eq-SUPPORT, le-ltb (port_connection a.ports.now a.k).sink_port_of 8 past), omega arith)
@@ -47,7 +45,6 @@ returns-then-port-ge-PLACES c =
 pub returns : goal.returns
 unfolding slot_at
 returns c =
-    
     let read = c.natural_at-port.ensures in
     let here : (port_connection c.args.ports.now c.args.k).sink_port_of < 8 = omega (arith, read, c.if-port-ge-PLACES.false) in (
       rw (signal (goal.at.returns c).Else-natural_at-eq-SUPPORT, lt-ltb (port_connection c.args.ports.now c.args.k).sink_port_of 8 here) (ap (slot_of c.args.sink) read),

@@ -25,7 +25,6 @@ sinks-below s =
 -- no rows, and none are written
 pub returns-then-not-any_required : goal.returns-then-not-any_required
 returns-then-not-any_required c fs live =
-    
     let none = c.any_required.ensures (c.if-not-any_required.true) in
     subst (λ (l : List ℕ). Scanned l 3 c.args.out.now c.args.out.now 0)
     (sym (no_rows c.args.components.now c.args.ports.now fs none _ (omega arith)))
@@ -52,7 +51,6 @@ room c = record {
   fed_room = c.mark_slots.auto.fed ∙ simp length-replicate;
   driven_room = c.mark_slots.auto.driven ∙ simp length-replicate;
   possible_room = c.mark_slots.auto.possible ∙ simp length-replicate;
-
 }
 
 pub put_rows-requires : goal.put_rows-requires
@@ -64,8 +62,6 @@ put_rows-requires c =
 
 pub returns : goal.returns
 returns c fs live =
-    
-    
     subst (λ (l : List ℕ). Scanned l 3 c.args.out.now c.put_rows.new.out c.put_rows.result)
     (verdicts_are c.requires.components.0.few c.requires.settled.0 c.requires.settled.1 c.requires.components.1.1 c.requires.numbers.0 c.mark_slots.ensures (room (goal.at.returns c).After-mark_slots) fs live)
     c.put_rows.ensures

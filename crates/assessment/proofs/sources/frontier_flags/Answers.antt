@@ -8,7 +8,6 @@ use Rattle.assessment.proofs.sources.frontier_flags.Goals as goal
 
 pub loop-j-init : goal.loop-j-init
 loop-j-init c =
-    
     (omega arith, refl, rw c.clear_flags.ensures (frontier_none c.args.components.now c.args.frontiers.now _ c.requires.components_in_bounds))
 
 pub flag_first-requires : goal.flag_first-requires
@@ -20,7 +19,6 @@ flag_first-requires c =
 
 pub loop-j-preserved : goal.loop-j-preserved
 loop-j-preserved c =
-    
     let l = c.loop-j in
     let a = c.args in (
       omega (arith, c.loop-j-test.true),

@@ -20,7 +20,8 @@ natural_at-requires c =
     (omega (arith, within), field_non_neg c.requires.0 c.args.p 4 c.requires.1 (omega arith) refl)
 
 -- the kind that was looked up
-kind : (found : Found) (cs : List ℤ) (p n : ℕ) → found ≡ source_kind n → n ≡ (component cs p).kind → found ≡ source_kind (component cs p).kind
+kind : (found : Found) (cs : List ℤ) (p n : ℕ) → found ≡ source_kind n → n ≡ (component cs p).kind
+    → found ≡ source_kind (component cs p).kind
 kind found cs p n e f = e ∙ ap source_kind f
 
 pub returns-in-At : goal.returns-in-At

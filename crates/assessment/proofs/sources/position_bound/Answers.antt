@@ -1,10 +1,8 @@
 -- Answers for the goals that the search leaves.
 use mathlib.Core.Path.{sym, ◌∙◌}
-use mathlib.Core.Bool.{true, false}
 use Prim.Native.Nat.{ℕ, ◌+◌, ◌-◌, ◌/◌, ◌<◌}
 use native.Mathlib.Omega.{arith}
 use Rattle.lists.specs.Records.{component_count}
-use Rattle.signals.specs.Sources.{before_position}
 use Rattle.assessment.proofs.Positions.{before_all, before_none}
 use Rattle.assessment.proofs.sources.position_bound.Goals as goal
 use Rattle.assessment.proofs.sources.position_bound.Goals.{In-loop-low}
@@ -21,7 +19,6 @@ inside c = omega (arith, c.loop-low-test.true, c.loop-low.invariant.within)
 
 pub loop-low-preserved-then-before_position : goal.loop-low-preserved-then-before_position
 loop-low-preserved-then-before_position c =
-    
     let l = c.loop-low in
     record {
       order = omega (arith, c.loop-low-test.true);
@@ -32,7 +29,6 @@ loop-low-preserved-then-before_position c =
 
 pub loop-low-preserved : goal.loop-low-preserved
 loop-low-preserved c =
-    
     let l = c.loop-low in
     record {
       order = omega arith;

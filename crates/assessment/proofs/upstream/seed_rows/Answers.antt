@@ -11,8 +11,7 @@ loop-k-init c = (omega arith, refl, seeded_none c.args.labels.now c.args.flags.n
 
 pub put_member-requires : goal.put_member-requires
 put_member-requires c =
-    let l = c.loop-k in
-    (
+    let l = c.loop-k in (
       l.invariant.1 ∙ c.requires.rows_len.0,
       (c.requires.indices.0.below l.k c.loop-k-test.true, omega (arith, c.loop-k-test.true, c.requires.indices.1.0)),
     )
@@ -22,11 +21,11 @@ loop-k-preserved c =
     let l = c.loop-k in (
       omega (arith, c.loop-k-test.true),
       elim c.if-flags-k.branch [
-        then-flags-k w ↦ ap length w.rows-is ∙ w.put_member.auto.rows ∙ l.invariant.1
+        | then-flags-k w ↦ ap length w.rows-is ∙ w.put_member.auto.rows ∙ l.invariant.1
         | else-flags-k w ↦ ap length w.rows-is ∙ l.invariant.1
       ],
       elim c.if-flags-k.branch [
-        then-flags-k w ↦ rw w.rows-is (seeded_more l.k l.invariant.2 w.if-flags-k.true w.put_member.ensures)
+        | then-flags-k w ↦ rw w.rows-is (seeded_more l.k l.invariant.2 w.if-flags-k.true w.put_member.ensures)
         | else-flags-k w ↦ rw w.rows-is (seeded_skip l.k l.invariant.2 w.if-flags-k.false)
       ],
     )

@@ -13,12 +13,10 @@ use Rattle.assessment.proofs.verdicts.slot_fed.Goals as goal
 
 pub returns-then-keys-at : goal.returns-then-keys-at
 returns-then-keys-at c =
-    
     sym (fed_past c.args.keys.now c.args.slot c.requires.ascending.0 c.requires.lower_bound (λ h. absurd (omega (arith, c.if-keys-at.true))))
 
 pub returns : goal.returns
 returns c =
-    
     let keys = c.args.keys.now in
     let slot = c.args.slot in
     let at = c.args.at in

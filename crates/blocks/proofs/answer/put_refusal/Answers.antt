@@ -12,7 +12,6 @@ use Rattle.lines.specs.Decimal.{line_of}
 use Rattle.lines.proofs.Writing.{put_room, put_put}
 use Rattle.blocks.specs.Lines.{refusal_lines}
 use Rattle.blocks.proofs.answer.put_refusal.Goals as goal
-use Rattle.blocks.proofs.answer.put_refusal.Goals.{After-put_natural-a, Start}
 
 abbrev answer_line : Refusal → List ℕ
 answer_line r = line_of (ascii "answer") (pos r.number)
@@ -27,29 +26,27 @@ lines_are : (r : Refusal) → refusal_lines r ≡ answer_line r ++ (list_line r 
 unfolding refusal_lines
 lines_are r = refl
 
-room : (s : Start) → s.args.at + length (answer_line s.args.refusal ++ (list_line s.args.refusal ++ item_line s.args.refusal)) ≤ length s.args.out.now
-room s = subst (λ (t : List ℕ). s.args.at + length t ≤ length s.args.out.now) (lines_are s.args.refusal) s.requires
-
-behind : (c : After-put_natural-a) → let r = c.args.refusal in c.put_natural-a.result + length (list_line r ++ item_line r) ≤ length c.put_natural-a.new.out
-behind c = put_room c.put_natural-a.ensures _ (room c.before.before.before.before)
+room : (at : ℕ) (r : Refusal) (out : List ℕ) → at + length (refusal_lines r) ≤ length out → at + length (answer_line r ++ (list_line r ++ item_line r)) ≤ length out
+room at r out h = subst (λ (t : List ℕ). at + length t ≤ length out) (lines_are r) h
 
 pub put_natural-a-requires : goal.put_natural-a-requires
 put_natural-a-requires c =
-    
     let r = c.args.refusal in
-    omega (arith, room (goal.at.put_natural-a-requires c).After-slice_known-1, length-append (answer_line r) (list_line r ++ item_line r))
+    omega (arith, room c.args.at r c.args.out.now c.requires, length-append (answer_line r) (list_line r ++ item_line r))
 
 pub put_natural-b-requires : goal.put_natural-b-requires
 put_natural-b-requires c =
-    
     let r = c.args.refusal in
-    omega (arith, behind (goal.at.put_natural-b-requires c).After-out-1, length-append (list_line r) (item_line r))
+    let behind = put_room c.put_natural-a.ensures (list_line r ++ item_line r) (room c.args.at r c.args.out.now c.requires) in
+    omega (arith, behind, length-append (list_line r) (item_line r))
 
 pub put_natural-requires : goal.put_natural-requires
-put_natural-requires c = put_room c.put_natural-b.ensures _ (behind (goal.at.put_natural-requires c).After-slice_known-2-1)
+put_natural-requires c =
+    let r = c.args.refusal in
+    let behind = put_room c.put_natural-a.ensures (list_line r ++ item_line r) (room c.args.at r c.args.out.now c.requires) in
+    put_room c.put_natural-b.ensures (item_line r) behind
 
 pub returns : goal.returns
 returns c =
-    
     rw (lines_are c.args.refusal)
     (put_put c.put_natural-a.ensures (put_put c.put_natural-b.ensures c.put_natural.ensures))

@@ -27,12 +27,10 @@ loop-m-init c = left_from _ _ (words_long c.before.before.before.before.before) 
 
 pub overflow_add-m : goal.overflow_add-m
 overflow_add-m c =
-    
     omega (arith, c.requires, c.loop-m-test.true)
 
 pub loop-m-smaller : goal.loop-m-smaller
 loop-m-smaller c =
-    
     let t = c.loop-m-test.true in
     let past = least_past c.args.set.words _ _ _ (omega (arith, t)) (words_long c.before.before.before.before.before.before.before.before.before.before.before) c.next_member-next.ensures in
     omega (arith, past, t)
@@ -43,9 +41,8 @@ loop-m-preserved c =
 
 pub returns : goal.returns
 returns c =
-    
     let ids = ids_in c.args.keys.now c.args.set.words in
     left_done _ _ c.loop-m-test.false c.loop-m.invariant
-    ∙ ap (λ (r : Found). left_after r (length (spaced ids))) c.left_After.ensures
+    ∙ ap (λ (r : Found). left_after r (length (spaced ids))) c.left_after-rest.ensures
     ∙ left_then c.args.left (length c.args.key.now + 2) (length (spaced ids))
     ∙ ap (left_after c.args.left) (line_long c.args.key.now ids)

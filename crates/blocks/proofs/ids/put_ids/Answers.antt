@@ -31,7 +31,6 @@ room c = put_room c.put_key-p.ensures _ (whole c.before.before.before.before.bef
 
 pub put_key-p-requires : goal.put_key-p-requires
 put_key-p-requires c =
-    
     omega (arith, whole c.before.before.before.before.before, length-append (c.args.key.now ++ (61 ∷ [])) (listed c.args.keys.now c.args.set.words))
 
 pub loop-m-init : goal.loop-m-init
@@ -40,7 +39,6 @@ loop-m-init c =
 
 pub overflow_add-m : goal.overflow_add-m
 overflow_add-m c =
-    
     omega (arith, c.requires.keys_len_bound, c.loop-m-test.true)
 
 pub put_id-p-requires : goal.put_id-p-requires
@@ -49,7 +47,6 @@ put_id-p-requires c =
 
 pub loop-m-smaller : goal.loop-m-smaller
 loop-m-smaller c =
-    
     let t = c.loop-m-test.true in
     let past = least_past c.args.set.words _ _ _ (omega (arith, t)) (words_long c.before.before.before.before.before.before.before.before.before.before.before.before.before.before.before.before.before) c.next_member-next.ensures in
     omega (arith, past, t)
@@ -66,7 +63,6 @@ shape_of-out c = put_length c.put_sign.ensures ∙ goes_length c.loop-m.invarian
 
 pub returns : goal.returns
 returns c =
-    
     subst (λ (t : List ℕ). Put c.args.at t c.args.out.now c.put_sign.new.out c.put_sign.result)
     (parts c.args.key.now (listed c.args.keys.now c.args.set.words))
     (put_put c.put_key-p.ensures (ids_done _ _ c.loop-m-test.false c.loop-m.invariant c.put_sign.ensures))

@@ -6,7 +6,6 @@ use Rattle.blocks.proofs.keys.count_length.Goals as goal
 
 pub put_count-requires : goal.put_count-requires
 put_count-requires c =
-    
     count_short c.args.block c.args.count c.ranges.count.fits
 
 pub returns : goal.returns

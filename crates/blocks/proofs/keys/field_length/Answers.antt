@@ -6,7 +6,6 @@ use Rattle.blocks.proofs.keys.field_length.Goals as goal
 
 pub put_field-requires : goal.put_field-requires
 put_field-requires c =
-    
     field_short c.args.block c.args.k c.args.value c.ranges.value.fits
 
 pub returns : goal.returns

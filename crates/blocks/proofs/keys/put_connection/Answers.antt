@@ -6,29 +6,23 @@ use Rattle.blocks.proofs.keys.put_connection.Goals as goal
 
 pub put_natural-requires : goal.put_natural-requires
 put_natural-requires c =
-    
     rw c.in-0.is at c.requires.value_in_bounds
 
 pub put_natural-requires-in-1 : goal.put_natural-requires-in-1
 put_natural-requires-in-1 c =
-    
     rw c.in-1.is at c.requires.value_in_bounds
 
 pub put_natural-requires-in-2 : goal.put_natural-requires-in-2
 put_natural-requires-in-2 c =
-    
     rw c.in-2.is at c.requires.value_in_bounds
 
 pub put_natural-requires-in-3 : goal.put_natural-requires-in-3
 put_natural-requires-in-3 c =
-    
     rw c.in-3.is at c.requires.value_in_bounds
 
 pub put_natural-requires-in_default : goal.put_natural-requires-in_default
 put_natural-requires-in_default c =
-    
-    let r = c.in_default.rest in
-    let e : c.args.j ≡ 4 = omega (arith, c.requires.j_bound, r.0.0.0.1, r.0.0.1, r.0.1, r.1) in
+    let e : c.args.j ≡ 4 = omega arith in
     rw e at c.requires.value_in_bounds
 
 pub returns-in-0 : goal.returns-in-0
@@ -45,7 +39,5 @@ returns-in-3 c = rw c.in-3.is c.put_natural-in-3.ensures
 
 pub returns-in_default : goal.returns-in_default
 returns-in_default c =
-    
-    let r = c.in_default.rest in
-    let e : c.args.j ≡ 4 = omega (arith, c.requires.j_bound, r.0.0.0.1, r.0.0.1, r.0.1, r.1) in
+    let e : c.args.j ≡ 4 = omega arith in
     rw e c.put_natural-in_default.ensures

@@ -34,10 +34,12 @@ put_source-requires c =
 
 pub put_verdict-requires : goal.put_verdict-requires
 put_verdict-requires c =
-    
-    let r = c.in_default.rest in record {
+    let n0 = ne_eqb c.args.block 0 (λ e. omega arith) in
+    let n1 = ne_eqb c.args.block 1 (λ e. omega arith) in
+    let n2 = ne_eqb c.args.block 2 (λ e. omega arith) in
+    let n3 = ne_eqb c.args.block 3 (λ e. omega arith) in record {
       j_bound = omega arith;
-      value_in_bounds = rw (ne_eqb _ _ r.0.0.0.1, ne_eqb _ _ r.0.0.1, ne_eqb _ _ r.0.1, ne_eqb _ _ r.1) at c.requires;
+      value_in_bounds = rw (n0, n1, n2, n3) at c.requires;
     }
 
 pub returns-in-0 : goal.returns-in-0
@@ -54,5 +56,8 @@ returns-in-3 c = rw c.in-3.is c.put_source.ensures
 
 pub returns-in_default : goal.returns-in_default
 returns-in_default c =
-    let r = c.in_default.rest in
-    rw (ne_eqb _ _ r.0.0.0.1, ne_eqb _ _ r.0.0.1, ne_eqb _ _ r.0.1, ne_eqb _ _ r.1) c.put_verdict.ensures
+    let n0 = ne_eqb c.args.block 0 (λ e. omega arith) in
+    let n1 = ne_eqb c.args.block 1 (λ e. omega arith) in
+    let n2 = ne_eqb c.args.block 2 (λ e. omega arith) in
+    let n3 = ne_eqb c.args.block 3 (λ e. omega arith) in
+    rw (n0, n1, n2, n3) c.put_verdict.ensures

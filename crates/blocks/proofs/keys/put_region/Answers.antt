@@ -6,14 +6,11 @@ use Rattle.blocks.proofs.keys.put_region.Goals as goal
 
 pub put_natural-requires : goal.put_natural-requires
 put_natural-requires c =
-    
     rw c.in-0.is at c.requires.value_in_bounds
 
 pub put_natural-requires-in_default : goal.put_natural-requires-in_default
 put_natural-requires-in_default c =
-    
-    let r = c.in_default.rest in
-    let e : c.args.j ≡ 1 = omega (arith, c.requires.j_bound, r.1) in
+    let e : c.args.j ≡ 1 = omega arith in
     rw e at c.requires.value_in_bounds
 
 pub returns-in-0 : goal.returns-in-0
@@ -21,7 +18,5 @@ returns-in-0 c = rw c.in-0.is c.put_natural.ensures
 
 pub returns-in_default : goal.returns-in_default
 returns-in_default c =
-    
-    let r = c.in_default.rest in
-    let e : c.args.j ≡ 1 = omega (arith, c.requires.j_bound, r.1) in
+    let e : c.args.j ≡ 1 = omega arith in
     rw e c.put_natural-in_default.ensures

@@ -19,5 +19,8 @@ returns-in-3 c = rw c.in-3.is (refl, omega arith)
 
 pub returns-in_default : goal.returns-in_default
 returns-in_default c =
-    let r = c.in_default.rest in
-    rw (ne_eqb _ _ r.0.0.0.1, ne_eqb _ _ r.0.0.1, ne_eqb _ _ r.0.1, ne_eqb _ _ r.1) (refl, omega arith)
+    let n0 = ne_eqb c.args.block 0 (λ e. omega arith) in
+    let n1 = ne_eqb c.args.block 1 (λ e. omega arith) in
+    let n2 = ne_eqb c.args.block 2 (λ e. omega arith) in
+    let n3 = ne_eqb c.args.block 3 (λ e. omega arith) in
+    rw (n0, n1, n2, n3) (refl, omega arith)

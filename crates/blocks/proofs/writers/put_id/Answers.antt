@@ -20,18 +20,15 @@ room at id n more h = rw (parts id more) h
 
 pub put_decimal-p-requires : goal.put_decimal-p-requires
 put_decimal-p-requires c =
-    
     let a = c.args in
     omega (arith, room a.at a.id (length a.out.now) a.more c.requires, length-append (digits a.id []) (blank_if a.more))
 
 pub returns-then-not-more : goal.returns-then-not-more
 returns-then-not-more c =
-    
     rw (c.if-not-more.true) c.put_decimal-p.ensures
 
 pub put_sign-requires : goal.put_sign-requires
 put_sign-requires c =
-    
     let a = c.args in
     let m = c.if-not-more.false in
     put_room c.put_decimal-p.ensures (32 ∷ [])
@@ -39,6 +36,5 @@ put_sign-requires c =
 
 pub returns : goal.returns
 returns c =
-    
     let a = c.args in
     rw (c.if-not-more.false, ← parts a.id true) (put_put c.put_decimal-p.ensures c.put_sign.ensures)

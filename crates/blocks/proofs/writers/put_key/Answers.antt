@@ -8,7 +8,6 @@ use Rattle.blocks.proofs.writers.put_key.Goals as goal
 
 pub put_text-p-requires : goal.put_text-p-requires
 put_text-p-requires c =
-    
     omega (arith, c.requires, length-append c.args.key.now (61 ∷ []))
 
 pub put_sign-requires : goal.put_sign-requires

@@ -25,7 +25,6 @@ room-front s = omega (arith, room s, length-append (front s.args.key.now s.args.
 
 pub put_key-a-requires : goal.put_key-a-requires
 put_key-a-requires c =
-    
     omega (arith, room-front c.before.before.before.before, length-append (c.args.key.now ++ (61 ∷ [])) (digits c.args.value []))
 
 pub put_decimal-b-requires : goal.put_decimal-b-requires
@@ -37,6 +36,5 @@ put_sign-requires c =
 
 pub returns : goal.returns
 returns c =
-    
     rw (← parts c.args.key.now c.args.value)
     (put_put (put_put c.put_key-a.ensures c.put_decimal-b.ensures) c.put_sign.ensures)

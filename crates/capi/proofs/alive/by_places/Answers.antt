@@ -11,53 +11,40 @@ use Rattle.encoding.specs.Bytes.{number_bytes}
 use Rattle.capi.specs.Liveness.{set_count}
 use Rattle.capi.proofs.LivenessLaws.{by_room, alive_as}
 use Rattle.capi.proofs.alive.by_places.Goals as goal
-use Rattle.capi.proofs.alive.by_places.Goals.{After-places-pair_places}
 
 -- as many rows as were asked for
 rows : (m n : ℕ) → n ≤ m → length {A = ℕ} (take n (replicate m 0)) ≡ n
 rows m n h = length-take-le n (replicate m 0) (omega (arith, length-replicate {A = ℕ} m 0))
 
-module _ (c : After-places-pair_places) where
-  region_rows : length {A = ℕ} (take c.places-region_places.result (replicate component_limit 0)) ≡ c.places-region_places.result
-  region_rows = rows component_limit c.places-region_places.result (omega (arith, c.places-region_places.ensures))
-  source_rows : length {A = ℕ} (take c.places-source_places.result (replicate (4 * component_limit) 0)) ≡ c.places-source_places.result
-  source_rows = rows (4 * component_limit) c.places-source_places.result (omega (arith, c.places-source_places.ensures))
-  input_rows : length {A = ℕ} (take c.places-input_places.result (replicate (12 * component_limit) 0)) ≡ c.places-input_places.result
-  input_rows = rows (12 * component_limit) c.places-input_places.result (omega (arith, c.places-input_places.ensures))
-  pairs : length {A = ℕ} (take c.places-pair_places.result (replicate (2 * component_limit) 0)) ≡ c.places-pair_places.result
-  pairs = rows (2 * component_limit) c.places-pair_places.result (omega (arith, c.places-pair_places.ensures))
-
 pub by_rows-requires : goal.by_rows-requires
 by_rows-requires c =
-    
     let sets = c.args.sets.now in
     record {
-      regions_fit = omega (arith, region_rows (goal.at.by_rows-requires c).After-places-pair_places, c.places-region_places.ensures);
-      sources_fit = omega (arith, source_rows (goal.at.by_rows-requires c).After-places-pair_places, c.places-source_places.ensures);
-      inputs_fit = omega (arith, input_rows (goal.at.by_rows-requires c).After-places-pair_places, c.places-input_places.ensures);
+      regions_fit = omega (arith, rows component_limit c.places-region_places.result (omega (arith, c.places-region_places.ensures)), c.places-region_places.ensures);
+      sources_fit = omega (arith, rows (4 * component_limit) c.places-source_places.result (omega (arith, c.places-source_places.ensures)), c.places-source_places.ensures);
+      inputs_fit = omega (arith, rows (12 * component_limit) c.places-input_places.result (omega (arith, c.places-input_places.ensures)), c.places-input_places.ensures);
       sets_fit = omega (arith, leb-true set_count (length sets / number_bytes / word_count) c.requires.number_bytes_value);
-      sources_few = omega (arith, source_rows (goal.at.by_rows-requires c).After-places-pair_places, c.places-source_places.ensures);
-      inputs_few = omega (arith, input_rows (goal.at.by_rows-requires c).After-places-pair_places, c.places-input_places.ensures);
+      sources_few = omega (arith, rows (4 * component_limit) c.places-source_places.result (omega (arith, c.places-source_places.ensures)), c.places-source_places.ensures);
+      inputs_few = omega (arith, rows (12 * component_limit) c.places-input_places.result (omega (arith, c.places-input_places.ensures)), c.places-input_places.ensures);
     }
 
 pub returns : goal.returns
 returns c =
-    
     let a = c.args in
     alive_as
     (by_room a.components.now a.ports.now a.frontiers.now _ _ _ _ (length a.regions.now) (length a.sources.now) (length a.inputs.now) (length a.sets.now) (length a.stack.now)
     c.requires.components_bound c.requires.number_bytes_value
-    (region_rows (goal.at.returns c).After-places-pair_places ∙ c.places-region_places.ensures) (source_rows (goal.at.returns c).After-places-pair_places ∙ c.places-source_places.ensures) (input_rows (goal.at.returns c).After-places-pair_places ∙ c.places-input_places.ensures) (pairs (goal.at.returns c).After-places-pair_places ∙ c.places-pair_places.ensures))
+    (rows component_limit c.places-region_places.result (omega (arith, c.places-region_places.ensures)) ∙ c.places-region_places.ensures) (rows (4 * component_limit) c.places-source_places.result (omega (arith, c.places-source_places.ensures)) ∙ c.places-source_places.ensures) (rows (12 * component_limit) c.places-input_places.result (omega (arith, c.places-input_places.ensures)) ∙ c.places-input_places.ensures) (rows (2 * component_limit) c.places-pair_places.result (omega (arith, c.places-pair_places.ensures)) ∙ c.places-pair_places.ensures))
     c.by_rows.ensures
 
 pub slice_bounds-by_rows-end : goal.slice_bounds-by_rows-end
-slice_bounds-by_rows-end c = sym (region_rows (goal.at.slice_bounds-by_rows-end c).After-places-pair_places)
+slice_bounds-by_rows-end c = sym (rows component_limit c.places-region_places.result (omega (arith, c.places-region_places.ensures)))
 
 pub slice_bounds-by_rows-end-2 : goal.slice_bounds-by_rows-end-2
-slice_bounds-by_rows-end-2 c = sym (source_rows (goal.at.slice_bounds-by_rows-end-2 c).After-places-pair_places)
+slice_bounds-by_rows-end-2 c = sym (rows (4 * component_limit) c.places-source_places.result (omega (arith, c.places-source_places.ensures)))
 
 pub slice_bounds-by_rows-end-3 : goal.slice_bounds-by_rows-end-3
-slice_bounds-by_rows-end-3 c = sym (input_rows (goal.at.slice_bounds-by_rows-end-3 c).After-places-pair_places)
+slice_bounds-by_rows-end-3 c = sym (rows (12 * component_limit) c.places-input_places.result (omega (arith, c.places-input_places.ensures)))
 
 pub slice_bounds-by_rows-end-4 : goal.slice_bounds-by_rows-end-4
-slice_bounds-by_rows-end-4 c = sym (pairs (goal.at.slice_bounds-by_rows-end-4 c).After-places-pair_places)
+slice_bounds-by_rows-end-4 c = sym (rows (2 * component_limit) c.places-pair_places.result (omega (arith, c.places-pair_places.ensures)))

@@ -18,10 +18,10 @@ pub returns : goal.returns
 returns c =
     let args = c.args in
     let old = args.out.now in
-    let drive = args.t1.words in
-    let potential = args.t2.words in
-    let cyclic = args.t3.words in
-    let has_drive = args.t4.words in
+    let drive = args.drive.words in
+    let potential = args.potential.words in
+    let cyclic = args.cyclic.words in
+    let has_drive = args.has_drive.words in
     let one : length drive ≡ word_count = search rules in
     let two : length potential ≡ word_count = search rules in
     let three : length cyclic ≡ word_count = search rules in

@@ -1,54 +1,41 @@
 -- `capi::alive::write_answer` meets its contract: each list of rows is cut to those that were found, and written as bytes. Assumes nothing.
-use mathlib.Core.Path.{◌≡◌, sym}
-use Prim.Native.Nat.{◌*◌}
+use mathlib.Core.Path.{sym}
 use native.Mathlib.Omega.{arith}
-use lib.ListN.{length, take}
 use lib.Seq.{length-take-le}
 use Rattle.capi.proofs.alive.write_answer.Goals as goal
-use Rattle.capi.proofs.alive.write_answer.Goals.{Start}
 
-module _ (s : Start) where
-  regions_taken : length (take s.args.count s.args.region_rows_lem.now) ≡ s.args.count
-  regions_taken = length-take-le _ s.args.region_rows_lem.now s.requires.regions_there
-  sources_taken : length (take (s.args.analysis.sources * 2) s.args.source-rows.now) ≡ s.args.analysis.sources * 2
-  sources_taken = length-take-le _ s.args.source-rows.now s.requires.sources_there
-  inputs_taken : length (take (s.args.analysis.inputs * 3) s.args.input-rows.now) ≡ s.args.analysis.inputs * 3
-  inputs_taken = length-take-le _ s.args.input-rows.now s.requires.inputs_there
+pub slice_bounds-encode-end : goal.slice_bounds-encode-end
+slice_bounds-encode-end c = sym (length-take-le _ _ c.requires.regions_there)
+
+pub slice_bounds-encode-end-2 : goal.slice_bounds-encode-end-2
+slice_bounds-encode-end-2 c = sym (length-take-le _ _ c.requires.sources_there)
+
+pub slice_bounds-encode-end-3 : goal.slice_bounds-encode-end-3
+slice_bounds-encode-end-3 c = sym (length-take-le _ _ c.requires.inputs_there)
 
 pub encode-requires : goal.encode-requires
 encode-requires c =
-    omega (arith, regions_taken c.before.before.before.before.before.before.before.before.before.before, c.requires.regions_there, c.requires.rows.regions_fit)
+    omega (arith, length-take-le _ _ c.requires.regions_there, c.requires.regions_there, c.requires.rows.regions_fit)
 
 pub encode-requires-2 : goal.encode-requires-2
 encode-requires-2 c =
-    omega (arith, sources_taken c.before.before.before.before.before.before.before.before.before.before.before.before.before.before.before, c.requires.sources_there, c.requires.rows.sources_fit)
+    omega (arith, length-take-le _ _ c.requires.sources_there, c.requires.sources_there, c.requires.rows.sources_fit)
 
 pub encode-requires-3 : goal.encode-requires-3
 encode-requires-3 c =
-    omega (arith, inputs_taken c.before.before.before.before.before.before.before.before.before.before.before.before.before.before.before.before.before.before.before.before, c.requires.inputs_there, c.requires.rows.inputs_fit)
+    omega (arith, length-take-le _ _ c.requires.inputs_there, c.requires.inputs_there, c.requires.rows.inputs_fit)
 
 pub pack_counts-requires : goal.pack_counts-requires
 pack_counts-requires c =
-    
     (c.requires.regions_few, (omega (arith, c.requires.sources_there, c.requires.rows.sources_few), omega (arith, c.requires.inputs_there, c.requires.rows.inputs_few)))
 
 pub returns : goal.returns
 returns c =
     record {
-  regions_are = c.encode.ensures;
-  sources_are = c.encode-2.ensures;
-  inputs_are = c.encode-3.ensures;
-  sets_are = c.put_sets.ensures;
-  stack_is = c.wipe.ensures;
-  counts_are = c.pack_counts.ensures;
-
-}
-
-pub slice_bounds-encode-end : goal.slice_bounds-encode-end
-slice_bounds-encode-end c = sym (regions_taken c.before.before.before.before.before.before.before.before.before)
-
-pub slice_bounds-encode-end-2 : goal.slice_bounds-encode-end-2
-slice_bounds-encode-end-2 c = sym (sources_taken c.before.before.before.before.before.before.before.before.before.before.before.before.before.before)
-
-pub slice_bounds-encode-end-3 : goal.slice_bounds-encode-end-3
-slice_bounds-encode-end-3 c = sym (inputs_taken c.before.before.before.before.before.before.before.before.before.before.before.before.before.before.before.before.before.before.before)
+      regions_are = c.encode.ensures;
+      sources_are = c.encode-2.ensures;
+      inputs_are = c.encode-3.ensures;
+      sets_are = c.put_sets.ensures;
+      stack_is = c.wipe.ensures;
+      counts_are = c.pack_counts.ensures;
+    }

@@ -2,10 +2,10 @@
 use native.Mathlib.Omega.{arith}
 use Prim.Native.Nat.{zero-le}
 use mathlib.Core.Path.{◌≡◌, refl}
-use mathlib.Core.Logic.{⊎_elim}
 use lib.ListN.{length-set}
 use Rattle.circuit.proofs.Roots.{numbers_none, numbers_more, count_none, count_root, count_other}
 use Rattle.circuit.proofs.forest.number_roots.Goals as goal
+use Rattle.circuit.proofs.forest.number_roots.Goals.{then-parents-v, else-parents-v}
 
 pub loop-v-init : goal.loop-v-init
 loop-v-init c = (zero-le, refl, numbers_none _ _, count_none _)
@@ -17,10 +17,10 @@ loop-v-preserved c =
       omega arith,
       simp length-set sized,
       numbers_more _ _ _ counted _ (omega arith) numbers,
-      ⊎_elim
-          (λ w. rw w.1 (count_root _ _ _ counted (omega arith) w.0.taken))
-          (λ w. rw w.1 (count_other _ _ _ counted (omega arith) w.0.left))
-          c.if-parents-v.branch,
+      elim c.if-parents-v.branch [
+        | then-parents-v w ↦ rw w.count-is (count_root _ _ _ counted (omega arith) w.if-parents-v.true)
+        | else-parents-v w ↦ rw w.count-is (count_other _ _ _ counted (omega arith) w.if-parents-v.false)
+      ],
     )
 
 pub returns : goal.returns

@@ -20,7 +20,6 @@ returns-then-top-parent c = near_found c.args.parents.now c.args.ranks.now c.arg
 
 pub returns-then-parents-top : goal.returns-then-parents-top
 returns-then-parents-top c =
-    
     let ps = c.args.parents.now in
     let rs = c.args.ranks.now in
     parent_found ps ps rs c.args.v _ c.requires.0 c.requires.1 (near_found ps rs (get_or ps c.args.v 0) (below c.before.before.before.before.before.before) c.requires.1 c.if-parents-top.true)

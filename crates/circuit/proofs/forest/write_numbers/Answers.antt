@@ -16,7 +16,6 @@ root_of-root-requires c =
 
 pub loop-v-preserved : goal.loop-v-preserved
 loop-v-preserved c =
-    
     let at = c.loop-v in
     let (within, sized, laid-so-far) = at.invariant in (
       omega arith,

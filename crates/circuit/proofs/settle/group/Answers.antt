@@ -5,14 +5,14 @@ use native.Mathlib.Omega.{arith}
 use Prim.Native.Nat.{ℕ, ◌≤◌}
 use mathlib.Core.List.{List}
 use lib.ListN.{length}
-use Rattle.lists.specs.Limits.{component_limit, connection_limit}
+use Rattle.lists.specs.Limits.{component_limit}
 use Rattle.lists.specs.Records.{component_count, connection_count}
 use Rattle.lists.proofs.Table.{table_long}
 use Rattle.circuit.specs.Topology.{net_kinds, fragment_kinds, joins_of}
 use Rattle.circuit.specs.Settled.{settled_joins, Ends}
 use Rattle.circuit.proofs.Settling.{joins_settled, ends_settled}
 use Rattle.circuit.proofs.settle.group.Goals as goal
-use Rattle.circuit.proofs.settle.group.Goals.{After-settle, After-settle-2}
+use Rattle.circuit.proofs.settle.group.Goals.{After-settle-2}
 
 pub settle-requires : goal.settle-requires
 settle-requires c =
@@ -29,17 +29,11 @@ settle-requires-2 c =
     }
 
 -- both arrays keep their length
-sources_long : (c : After-settle) → connection_limit ≡ length c.settle.new.places
-sources_long c = sym c.settle.auto.places
-
-sinks_long : (c : After-settle-2) → connection_limit ≡ length c.settle-2.new.places
-sinks_long c = sym c.settle-2.auto.places
-
 pub slice_bounds-groups-end : goal.slice_bounds-groups-end
-slice_bounds-groups-end c = sources_long (goal.at.slice_bounds-groups-end c).After-settle
+slice_bounds-groups-end c = sym c.settle.auto.places
 
 pub slice_bounds-groups-end-2 : goal.slice_bounds-groups-end-2
-slice_bounds-groups-end-2 c = sinks_long (goal.at.slice_bounds-groups-end-2 c).After-settle-2
+slice_bounds-groups-end-2 c = sym c.settle-2.auto.places
 
 abbrev sources : After-settle-2 → List ℕ
 sources c = c.settle.new.places
@@ -55,8 +49,8 @@ ends c =
     let cs = c.requires.id_table.0 in
     let t = c.requires.id_table.1 in
     let ps = c.args.connections.now in
-    let first = ends_settled cs ps 0 (sources c) (omega (arith, c.requires.connections.few, sources_long c.before.before.before.before.before)) (c.settle.ensures cs t) in
-    let second = ends_settled cs ps 1 (sinks c) (omega (arith, c.requires.connections.few, sinks_long c)) (c.settle-2.ensures cs t) in
+    let first = ends_settled cs ps 0 (sources c) (omega (arith, c.requires.connections.few, c.settle.auto.places)) (c.settle.ensures cs t) in
+    let second = ends_settled cs ps 1 (sinks c) (omega (arith, c.requires.connections.few, c.settle-2.auto.places)) (c.settle-2.ensures cs t) in
     rw (table_long t) (first, second)
 
 pub groups-net_count-requires : goal.groups-net_count-requires
@@ -68,10 +62,10 @@ groups-net_count-requires c =
     }
 
 pub slice_bounds-groups-end-3 : goal.slice_bounds-groups-end-3
-slice_bounds-groups-end-3 c = sources_long (goal.at.slice_bounds-groups-end-3 c).After-settle
+slice_bounds-groups-end-3 c = sym c.settle.auto.places
 
 pub slice_bounds-groups-end-4 : goal.slice_bounds-groups-end-4
-slice_bounds-groups-end-4 c = sinks_long (goal.at.slice_bounds-groups-end-4 c).After-settle-2
+slice_bounds-groups-end-4 c = sym c.settle-2.auto.places
 
 pub groups-fragment_count-requires : goal.groups-fragment_count-requires
 groups-fragment_count-requires c =
@@ -89,7 +83,6 @@ shape_of-fragments c = c.groups-fragment_count.auto.out
 
 pub returns : goal.returns
 returns c cs t =
-    
     let ps = c.args.connections.now in
     let few : component_count cs ≤ component_limit = omega (arith, table_long t, c.requires.keys_len_bound.0) in
     let same : (top : ℕ) → settled_joins ps (sources (goal.at.returns c).After-settle-2) (sinks (goal.at.returns c).After-settle-2) top (connection_count ps) ≡ joins_of cs ps top =

@@ -1,8 +1,6 @@
 -- `circuit::settle::groups` meets its contract: the connections joined from single places, then the numbers of the forest.
 -- Assumes nothing.
 use native.Mathlib.Omega.{arith}
-use lib.ListN.{replicate}
-use Rattle.lists.specs.Limits.{component_limit}
 use Rattle.lists.specs.Records.{connection_count}
 use Rattle.circuit.specs.Forest.{Represents, singletons, unite_all}
 use Rattle.circuit.specs.Settled.{settled_joins}
@@ -11,30 +9,25 @@ use Rattle.circuit.proofs.Link.{singletons_represents}
 use Rattle.circuit.proofs.Numbering.{roots_stay}
 use Rattle.circuit.proofs.Settling.{settled_below}
 use Rattle.circuit.proofs.settle.groups.Goals as goal
-use Rattle.circuit.proofs.settle.groups.Goals.{After-join_all, After-own_places-parents}
+use Rattle.circuit.proofs.settle.groups.Goals.{After-join_all}
 
--- the arrays at first stand for single places
-first : (c : After-own_places-parents) → Represents c.own_places-parents.result (replicate component_limit 0) singletons
-first c = rw c.own_places-parents.ensures singletons_represents
-
--- and then for the forest of the joins
+-- the arrays stand for single places at first, and then for the forest of the joins
 joined : (c : After-join_all)
-    → 
+    →
     Represents c.join_all.new.parents c.join_all.new.ranks
     (unite_all singletons (settled_joins c.args.connections.now c.args.sources.now c.args.sinks.now c.args.top (connection_count c.args.connections.now)))
-joined c = c.join_all.ensures singletons (first c.before.before.before.before)
+joined c = c.join_all.ensures singletons (rw c.own_places-parents.ensures singletons_represents)
 
 pub join_all-requires : goal.join_all-requires
 join_all-requires c =
     record {
       connections = c.requires.connections;
       connections_in_bounds = (c.requires.ends.0.long, c.requires.ends.1.long);
-      forest = (singletons, first (goal.at.join_all-requires c).After-own_places-parents);
+      forest = (singletons, rw c.own_places-parents.ensures singletons_represents);
     }
 
 pub number_groups-requires : goal.number_groups-requires
 number_groups-requires c =
-    
     let pairs = settled_below c.args.connections.now c.args.sources.now c.args.sinks.now c.args.top c.args.n c.requires.ends.0 c.requires.ends.1 (connection_count c.args.connections.now) (omega arith) in
     let stays = roots_stay c.args.n c.requires.n_le_component_limit.0 _ pairs in
     record {

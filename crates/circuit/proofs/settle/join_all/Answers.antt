@@ -23,19 +23,16 @@ within c = record_within c.loop-k.k _ 3 c.loop-k-test.true
 
 pub natural_at-requires : goal.natural_at-requires
 natural_at-requires c =
-    
     (omega (arith, within c), field_non_neg c.requires.connections c.loop-k.k 2 c.loop-k-test.true (omega arith) refl)
 
 pub join_one-requires : goal.join_one-requires
 join_one-requires c =
-    
     let forest = c.requires.forest in
     (_, c.loop-k.invariant.1 forest.0 forest.1)
 
 pub loop-k-preserved : goal.loop-k-preserved
 unfolding settled_joins
 loop-k-preserved c =
-    
     let kind = c.natural_at.ensures in (
       omega (arith, c.loop-k-test.true),
       λ f r. rw (add-one, unite_then) (rw kind at (c.join_one.ensures _ (c.loop-k.invariant.1 f r))),

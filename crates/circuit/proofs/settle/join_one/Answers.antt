@@ -27,14 +27,12 @@ one_of false a b n r e p q = omega arith
 
 pub union-requires : goal.union-requires
 union-requires c =
-    
     let e = ends (goal.at.union-requires c).Then-source-sink in
     let a = c.args in
     (e.0, one_of a.counts a.sink a.source component_limit _ c.sink_or_source-other.ensures e.1 e.0, c.requires)
 
 pub returns-then-source-sink : goal.returns-then-source-sink
 returns-then-source-sink c f r =
-    
     let a = c.args in
     subst (λ (g : Forest). Represents c.union.new.parents c.union.new.ranks g)
     (joined_one a.counts f a.source a.sink c.sink_or_source-other.result c.sink_or_source-other.ensures c.if-source-sink.true) (c.union.ensures f r)

@@ -6,7 +6,6 @@ use native.Mathlib.Omega.{arith}
 use Prim.Native.Nat.{◌+◌, ◌*◌, ◌≤◌, ◌<◌}
 use lib.ListN.{length, length-set}
 use lib.Seq.{get_or-set_same, get_or-set_other}
-use Rattle.lists.specs.Records.{natural_at}
 use Rattle.lists.specs.Ids.{place_of}
 use Rattle.lists.proofs.Search.{record_within}
 use Rattle.lists.proofs.Fields.{field_non_neg, field_most}
@@ -21,12 +20,10 @@ within c = record_within c.loop-k.k _ 3 c.loop-k-test.true
 
 pub natural_at-requires : goal.natural_at-requires
 natural_at-requires c =
-    
     (omega (arith, within c, c.requires.f_bound.0), field_non_neg c.requires.connections c.loop-k.k c.args.f c.loop-k-test.true (omega (arith, c.requires.f_bound.0)) (end_range c.args.f c.requires.f_bound.0).0)
 
 pub place_near-requires : goal.place_near-requires
 place_near-requires c =
-    
     let range = end_range c.args.f c.requires.f_bound.0 in
     omega (arith, c.natural_at.ensures, field_most c.requires.connections c.loop-k.k c.args.f c.loop-k-test.true (omega (arith, c.requires.f_bound.0)) 4294967295 range.0 range.1)
 
@@ -42,7 +39,6 @@ bounds-places-k c = room (goal.at.bounds-places-k c).In-loop-k
 
 pub loop-k-preserved : goal.loop-k-preserved
 loop-k-preserved c =
-    
     let l = c.loop-k in
     let here = room (goal.at.loop-k-preserved c).In-loop-k in (
       omega (arith, c.loop-k-test.true),

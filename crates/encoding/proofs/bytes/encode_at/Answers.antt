@@ -5,6 +5,5 @@ use Rattle.encoding.proofs.bytes.encode_at.Goals as goal
 
 pub returns : goal.returns
 returns c =
-    
     let args = c.args in
     rest_back args.at args.out.now c.encode.new.out (bytes_of args.values.now) c.encode.ensures

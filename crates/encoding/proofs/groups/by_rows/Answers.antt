@@ -27,6 +27,7 @@ module _ {cs ps : List ℤ} {nets nets' fragments fragments' : List ℕ} {r : Gr
   -- the checks of the lists, and how many components there are
   abbrev checked : Checked
   checked = grouping_refusal cs ps (length nets) (length fragments)
+
   abbrev count : ℕ
   count = component_count cs
 
@@ -38,18 +39,23 @@ module _ {cs ps : List ℤ} {nets nets' fragments fragments' : List ℕ} {r : Gr
   module _ {counts : Counts} (is : r ≡ Groups counts) where
     accepted : Counted checked (net_count cs ps) (fragment_count cs ps) counts
     accepted = counted checked _ _ _ (sym is ∙ g.answer)
+
     room : Room cs (length nets) (length fragments)
     room = accepted_room _ _ _ _ accepted.accepted
+
     net_rows : length nets' ≡ length nets → (count ≤ length nets') × (length (take count nets') ≡ count)
     net_rows same =
         let h : count ≤ length nets' = omega (arith, room.net_places, same) in
         (h, length-take-le _ nets' h)
+
     fragment_rows : length fragments' ≡ length fragments → (count ≤ length fragments') × (length (take count fragments') ≡ count)
     fragment_rows same =
         let h : count ≤ length fragments' = omega (arith, room.fragment_places, same) in
         (h, length-take-le _ fragments' h)
+
     nets_are : take count nets' ≡ nets_of cs ps
     nets_are = rows_front checked _ _ _ count (length_groups (forest_of cs ps net_kinds) count) accepted.accepted g.nets_left
+
     fragments_are : take count fragments' ≡ fragments_of cs ps
     fragments_are = rows_front checked _ _ _ count (length_groups (forest_of cs ps fragment_kinds) count) accepted.accepted g.fragments_left
 

@@ -1,6 +1,6 @@
 -- `encoding::groups::of_bytes` meets its contract: lists that are whole and within their limits have room in the local arrays, and are read
 -- whole. Assumes nothing.
-use mathlib.Core.Path.{◌≡◌, sym, ap, ◌∙◌}
+use mathlib.Core.Path.{sym, ap, ◌∙◌}
 use Prim.Native.Nat.{◌/◌}
 use native.Mathlib.Omega.{arith}
 use lib.ListN.{length}

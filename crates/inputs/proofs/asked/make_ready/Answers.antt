@@ -12,6 +12,7 @@ use lib.IntN.{ℤ}
 use Rattle.lists.specs.Limits.{component_limit, connection_limit}
 use Rattle.lists.specs.Records.{component_count, port_count}
 use Rattle.lists.proofs.Table.{table_long}
+use Rattle.signals.specs.Regions.{labels}
 use Rattle.signals.specs.Flags.{Indices}
 use Rattle.signals.proofs.Lent.{front, front_long, front_length}
 use Rattle.signals.proofs.Within.{labels_under}
@@ -19,7 +20,7 @@ use Rattle.liveness.proofs.Inferring.{regions_of_lem, crossings_of}
 use Rattle.inputs.proofs.Inputs.{fed_scene}
 use Rattle.inputs.proofs.Asking.{rows_as}
 use Rattle.inputs.proofs.asked.make_ready.Goals as goal
-use Rattle.inputs.proofs.asked.make_ready.Goals.{After-find_inputs, Start}
+use Rattle.inputs.proofs.asked.make_ready.Goals.{Start}
 
 abbrev cs : Start → List ℤ
 cs s = s.args.components.now
@@ -53,76 +54,70 @@ flags-lent s = length-take-le _ _ (nodes-few s)
 
 pub find_inputs-requires : goal.find_inputs-requires
 find_inputs-requires c =
-    
+    let s = (goal.at.find_inputs-requires c).Start in
     let room = c.requires.fed_len in record {
       scene = c.requires.scene;
       inputs_room = record {
         forward_room = room.0;
-        backward_room = keys-lent c.before.before.before.before.before.before.before.before.before.before.before.before.before;
+        backward_room = keys-lent s;
         labels_room = room.1.0;
-        inferred_room = flags-lent c.before.before.before.before.before.before.before.before.before.before.before.before.before ∙ all c.before.before.before.before.before.before.before.before.before.before.before.before.before;
+        inferred_room = flags-lent s ∙ all s;
         stack_room = room.1.1;
       };
     }
 
-abbrev labelled : After-find_inputs → List ℕ
-labelled c = c.find_inputs.new.labels
+-- the flags of the nodes, lent from the front of an array
+abbrev flags_rest : Start → List Bool
+flags_rest s = drop (nodes s) (replicate component_limit false)
 
-abbrev flags : After-find_inputs → List Bool
-flags c = c.find_inputs.new.inferred
-
-abbrev flags-rest : After-find_inputs → List Bool
-flags-rest c = drop (nodes c.before.before.before.before.before.before.before.before.before.before.before.before.before.before) (replicate component_limit false)
-
-flags_long : (c : After-find_inputs) → length (flags c) ≡ nodes c.before.before.before.before.before.before.before.before.before.before.before.before.before.before
-flags_long c = c.find_inputs.auto.inferred ∙ flags-lent c.before.before.before.before.before.before.before.before.before.before.before.before.before.before
-
-labels_long : (c : After-find_inputs) → length (labelled c) ≡ component_count (cs c.before.before.before.before.before.before.before.before.before.before.before.before.before.before)
-labels_long c = c.find_inputs.auto.labels ∙ c.requires.fed_len.1.0
+flags_long : (s : Start) (flags : List Bool) → length flags ≡ length (take (nodes s) (replicate component_limit false)) → length flags ≡ nodes s
+flags_long s flags e = e ∙ flags-lent s
 
 -- the array of which the edges backward had the front
-abbrev lent : After-find_inputs → List ℕ
-lent c = c.find_inputs.new.backward ++ drop (edge_count c.before.before.before.before.before.before.before.before.before.before.before.before.before.before) (replicate connection_limit 0)
+abbrev lent : Start → List ℕ → List ℕ
+lent s backward = backward ++ drop (edge_count s) (replicate connection_limit 0)
 
-lent-long : (c : After-find_inputs) → length (lent c) ≡ connection_limit
-lent-long c =
+lent_long : (s : Start) (backward : List ℕ) → length backward ≡ length {A = ℕ} (take (edge_count s) (replicate connection_limit 0))
+    → length (lent s backward) ≡ connection_limit
+lent_long s backward e =
     let rest : List ℕ = replicate connection_limit 0 in
-    omega (arith, length-append c.find_inputs.new.backward (drop (edge_count c.before.before.before.before.before.before.before.before.before.before.before.before.before.before) rest), c.find_inputs.auto.backward, keys-lent c.before.before.before.before.before.before.before.before.before.before.before.before.before.before, edges_few c.before.before.before.before.before.before.before.before.before.before.before.before.before.before, length-drop (edge_count c.before.before.before.before.before.before.before.before.before.before.before.before.before.before) rest)
+    omega (arith, length-append backward (drop (edge_count s) rest), keys-lent s, edges_few s, length-drop (edge_count s) rest)
 
-labels-below : (c : After-find_inputs) → Indices (length (labelled c)) component_limit (labelled c)
-labels-below c =
-    subst (λ (l : List ℕ). Indices (length l) component_limit l) (sym c.find_inputs.ensures.prepared.labels_are)
-    (labels_under (cs c.before.before.before.before.before.before.before.before.before.before.before.before.before.before) (ps c.before.before.before.before.before.before.before.before.before.before.before.before.before.before) c.requires.scene.0.ends component_limit (few c.before.before.before.before.before.before.before.before.before.before.before.before.before.before))
+labels_below : (s : Start) (labelled : List ℕ) → labelled ≡ labels (cs s) (ps s) → Indices (length labelled) component_limit labelled
+labels_below s labelled e =
+    subst (λ (l : List ℕ). Indices (length l) component_limit l) (sym e)
+    (labels_under (cs s) (ps s) s.requires.scene.0.ends component_limit (few s))
 
 pub find_crossings-count-requires : goal.find_crossings-count-requires
 find_crossings-count-requires c =
-    
+    let s = (goal.at.find_crossings-count-requires c).Start in
     let r = regions_of_lem c.requires.scene.0 c.find_inputs.ensures.prepared in record {
-      rows = (r.rows, (omega (arith, r.few, lent-long (goal.at.find_crossings-count-requires c).After-inferred-1), r.few));
-      indices = labels-below (goal.at.find_crossings-count-requires c).After-inferred-1;
+      rows = (r.rows, (omega (arith, r.few, lent_long s c.find_inputs.new.backward c.find_inputs.auto.backward), r.few));
+      indices = labels_below s c.find_inputs.new.labels c.find_inputs.ensures.prepared.labels_are;
     }
 
 pub build_fed-requires : goal.build_fed-requires
 build_fed-requires c =
-    
+    let s = (goal.at.build_fed-requires c).Start in
     let p = c.find_inputs.ensures.prepared in record {
-      port_connections = (c.requires.scene.0.connections, (cs c.before.before.before.before.before.before.before.before.before.before.before.before.before.before.before.before.before.before.before.before.before.before.before.before.before.before, (few c.before.before.before.before.before.before.before.before.before.before.before.before.before.before.before.before.before.before.before.before.before.before.before.before.before.before, (p.tables.source_members, p.tables.sink_members))));
+      port_connections = (c.requires.scene.0.connections, (cs s, (few s, (p.tables.source_members, p.tables.sink_members))));
       ports_in_bounds = (p.sources_long, (p.sinks_long, c.find_inputs.auto.forward ∙ c.requires.fed_len.0));
     }
 
 pub upstream_rows-requires : goal.upstream_rows-requires
 upstream_rows-requires c =
+    let s = (goal.at.upstream_rows-requires c).Start in
     record {
       indices = (
-        labels-below (goal.at.upstream_rows-requires c).After-find_inputs-arg-2-1,
-        (omega (arith, labels_long (goal.at.upstream_rows-requires c).After-find_inputs-arg-2-1, few c.before.before.before.before.before.before.before.before.before.before.before.before.before.before.before.before.before.before.before.before.before.before.before.before.before.before.before.before.before.before.before.before), omega (arith, labels_long (goal.at.upstream_rows-requires c).After-find_inputs-arg-2-1, all c.before.before.before.before.before.before.before.before.before.before.before.before.before.before.before.before.before.before.before.before.before.before.before.before.before.before.before.before.before.before.before.before, front_length _ (flags (goal.at.upstream_rows-requires c).After-find_inputs-arg-2-1) (flags-rest (goal.at.upstream_rows-requires c).After-find_inputs-arg-2-1) (flags_long (goal.at.upstream_rows-requires c).After-find_inputs-arg-2-1))),
+        labels_below s c.find_inputs.new.labels c.find_inputs.ensures.prepared.labels_are,
+        (omega (arith, c.find_inputs.auto.labels, c.requires.fed_len.1.0, few s), omega (arith, c.find_inputs.auto.labels, c.requires.fed_len.1.0, all s, front_length _ c.find_inputs.new.inferred (flags_rest s) (flags_long s c.find_inputs.new.inferred c.find_inputs.auto.inferred))),
       );
       keys_below = (c.find_crossings-count.ensures.below, c.requires.upstream_len);
     }
 
 pub returns : goal.returns
 returns c =
-    
+    let s = (goal.at.returns c).Start in
     let e = c.find_inputs.ensures in
     let p = e.prepared in
     let crossed = c.find_crossings-count in
@@ -130,28 +125,38 @@ returns c =
       record {
         fed_scene = fed_scene c.requires.scene.0 p c.build_fed.ensures;
         labels_are = p.labels_are;
-        keys = take crossed.result crossed.new.1.1.0;
+        keys = take crossed.result crossed.new.keys;
         pairs = crossings_of (regions_of_lem c.requires.scene.0 p) crossed.ensures.pairs;
-        rows = rows_as p.labels_are (front _ (flags (goal.at.returns c).After-find_inputs-arg-2-1) (flags-rest (goal.at.returns c).After-find_inputs-arg-2-1) (flags_long (goal.at.returns c).After-find_inputs-arg-2-1) ∙ e.inferred_are) up.ensures;
-        rows_long = up.auto.1.1.1.0 ∙ c.requires.upstream_len.0;
+        rows = rows_as p.labels_are (front _ c.find_inputs.new.inferred (flags_rest s) (flags_long s c.find_inputs.new.inferred c.find_inputs.auto.inferred) ∙ e.inferred_are) up.ensures;
+        rows_long = up.auto.rows ∙ c.requires.upstream_len.0;
       },
       e.stack_zeros,
     )
 
 pub slice_bounds-pairs-end : goal.slice_bounds-pairs-end
-slice_bounds-pairs-end c = edges_few c.before.before.before.before.before.before.before.before.before
+slice_bounds-pairs-end c =
+    let s = (goal.at.slice_bounds-pairs-end c).Start in
+    edges_few s
 
 pub slice_bounds-find_inputs-end : goal.slice_bounds-find_inputs-end
-slice_bounds-find_inputs-end c = sym (keys-lent c.before.before.before.before.before.before.before.before.before.before)
+slice_bounds-find_inputs-end c =
+    let s = (goal.at.slice_bounds-find_inputs-end c).Start in
+    sym (keys-lent s)
 
 pub slice_bounds-inferred-end : goal.slice_bounds-inferred-end
-slice_bounds-inferred-end c = nodes-few c.before.before.before.before.before.before.before.before.before.before.before
+slice_bounds-inferred-end c =
+    let s = (goal.at.slice_bounds-inferred-end c).Start in
+    nodes-few s
 
 pub slice_bounds-find_inputs-end-2 : goal.slice_bounds-find_inputs-end-2
-slice_bounds-find_inputs-end-2 c = sym (flags-lent c.before.before.before.before.before.before.before.before.before.before.before.before)
+slice_bounds-find_inputs-end-2 c =
+    let s = (goal.at.slice_bounds-find_inputs-end-2 c).Start in
+    sym (flags-lent s)
 
 pub slice_bounds-find_crossings-end : goal.slice_bounds-find_crossings-end
-slice_bounds-find_crossings-end c = sym (lent-long (goal.at.slice_bounds-find_crossings-end c).After-inferred-1)
+slice_bounds-find_crossings-end c =
+    let s = (goal.at.slice_bounds-find_crossings-end c).Start in
+    sym (lent_long s c.find_inputs.new.backward c.find_inputs.auto.backward)
 
 pub slice_bounds-pairs-end-2 : goal.slice_bounds-pairs-end-2
 slice_bounds-pairs-end-2 c = c.find_crossings-count.ensures.few
@@ -160,10 +165,14 @@ pub slice_bounds-upstream_rows-end : goal.slice_bounds-upstream_rows-end
 slice_bounds-upstream_rows-end c = sym (length-take-le _ _ c.find_crossings-count.ensures.few)
 
 pub slice_bounds-inferred-end-2 : goal.slice_bounds-inferred-end-2
-slice_bounds-inferred-end-2 c = let f = (goal.at.slice_bounds-inferred-end-2 c).After-find_inputs-arg-2-1 in front_long _ (flags f) (flags-rest f) (flags_long f)
+slice_bounds-inferred-end-2 c =
+    let s = (goal.at.slice_bounds-inferred-end-2 c).Start in
+    front_long _ c.find_inputs.new.inferred (flags_rest s) (flags_long s c.find_inputs.new.inferred c.find_inputs.auto.inferred)
 
 pub slice_bounds-upstream_rows-end-2 : goal.slice_bounds-upstream_rows-end-2
-slice_bounds-upstream_rows-end-2 c = let f = (goal.at.slice_bounds-upstream_rows-end-2 c).After-find_inputs-arg-2-1 in front_length _ (flags f) (flags-rest f) (flags_long f)
+slice_bounds-upstream_rows-end-2 c =
+    let s = (goal.at.slice_bounds-upstream_rows-end-2 c).Start in
+    front_length _ c.find_inputs.new.inferred (flags_rest s) (flags_long s c.find_inputs.new.inferred c.find_inputs.auto.inferred)
 
 pub shape_of-fed : goal.shape_of-fed
 shape_of-fed c = c.build_fed.auto.fed ∙ c.find_inputs.auto.forward

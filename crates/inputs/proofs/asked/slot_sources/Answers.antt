@@ -25,12 +25,10 @@ insert-immediate-requires c = omega (arith, node c, c.requires.indices.1.0)
 
 pub add_row-inferred-requires : goal.add_row-inferred-requires
 add_row-inferred-requires c =
-    
     (c.requires.indices.1.1, c.requires.indices.0.below _ (node (goal.at.add_row-inferred-requires c).Else-key-slot))
 
 pub loop-at-preserved : goal.loop-at-preserved
 loop-at-preserved c =
-    
     let l = c.loop-at in
     let a = c.args in (
       omega (arith, l.invariant.0),
@@ -40,14 +38,12 @@ loop-at-preserved c =
 
 pub returns-then-key-slot : goal.returns-then-key-slot
 returns-then-key-slot c =
-    
     let r = c.answer_of.ensures in
     slot_sets c.requires.ascending.0 c.lower_bound-at.ensures c.requires.indices.1.0 c.loop-at.invariant.1 c.loop-at.invariant.0 (λ h. c.if-key-slot.true)
     r.0 (ap (λ (x : ComponentSet). x.words) r.1.0) (ap (λ (x : ComponentSet). x.words) r.1.1)
 
 pub returns : goal.returns
 returns c =
-    
     let r = c.answer_of-2.ensures in
     slot_sets c.requires.ascending.0 c.lower_bound-at.ensures c.requires.indices.1.0 c.loop-at.invariant.1 c.loop-at.invariant.0 (λ h. absurd (omega (arith, c.loop-at-test.false)))
     r.0 (ap (λ (x : ComponentSet). x.words) r.1.0) (ap (λ (x : ComponentSet). x.words) r.1.1)

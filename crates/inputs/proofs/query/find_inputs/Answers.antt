@@ -9,7 +9,6 @@ use Rattle.inputs.proofs.query.find_inputs.Goals.{Start}
 
 pub prepare-requires : goal.prepare-requires
 prepare-requires c =
-    
     let room = c.requires.inputs_room in record {
       scene = c.requires.scene;
       prepared_room = record {
@@ -29,19 +28,21 @@ scene s p = record { scene = s.requires.scene.0; sources = s.args.source_at.now;
 
 pub inferred_members-requires : goal.inferred_members-requires
 inferred_members-requires c =
+    let s = (goal.at.inferred_members-requires c).Start in
     record {
-      prepared_scene = (c.args.ports.now, scene c.before.before.before.before.before.before.before.before.before.before.before.before.before.before.before.before.before.before.before.before.before.before.before.before.before.before.before.before.before.before.before.before.before c.prepare.ensures.prepared);
+      prepared_scene = (c.args.ports.now, scene s c.prepare.ensures.prepared);
       inferred_len = c.requires.inputs_room.inferred_room;
     }
 
 pub returns : goal.returns
 returns c =
+    let s = (goal.at.returns c).Start in
     let p = c.prepare in
     record {
-      members = p.new.1.1.1.1.1.1.1.1.0;
-      region_of = p.new.1.1.1.1.1.1.1.1.1.0;
+      members = p.new.members;
+      region_of = p.new.region_at;
       prepared = p.ensures.prepared;
-      inferred_are = c.inferred_members.ensures c.args.ports.now (scene c.before.before.before.before.before.before.before.before.before.before.before.before.before.before.before.before.before.before.before.before.before.before.before.before.before.before.before.before.before.before.before.before.before.before.before.before p.ensures.prepared);
+      inferred_are = c.inferred_members.ensures c.args.ports.now (scene s p.ensures.prepared);
       stack_zeros = p.ensures.stack_zeros;
     }
 

@@ -6,20 +6,17 @@ use lib.ListN.{length, get_or, length-set}
 use Rattle.tables.specs.Pairs.{span}
 use Rattle.inputs.proofs.Inputs.{flagged_none, flagged_more, flagged_all}
 use Rattle.inputs.proofs.query.immediate_flags.Goals as goal
-use Rattle.inputs.proofs.query.immediate_flags.Goals.{At-loop-at, Else-key-slot}
+use Rattle.inputs.proofs.query.immediate_flags.Goals.{Else-key-slot}
 
 pub loop-at-init : goal.loop-at-init
 loop-at-init c =
     let a = c.args in
     (omega arith, refl, rw c.clear_flags.ensures (flagged_none a.keys.now a.slot c.lower_bound-at.result (length a.flags.now)))
 
--- the list is as long as it was
-same : (c : At-loop-at) → length c.loop-at.flags ≡ length c.args.flags.now
-same c = c.loop-at.invariant.1 ∙ c.clear_flags.auto.flags
-
 -- a key of the slot has a flag
 room : (c : Else-key-slot) → get_or c.args.keys.now c.loop-at.at 0 % span < length c.loop-at.flags
-room c = omega (arith, same c.before.before.before.before, c.requires.slot_within.0.below c.loop-at.at c.loop-at-test.true c.if-key-slot.false)
+room c =
+    omega (arith, c.loop-at.invariant.1 ∙ c.clear_flags.auto.flags, c.requires.slot_within.0.below c.loop-at.at c.loop-at-test.true c.if-key-slot.false)
 
 pub loop-at-preserved : goal.loop-at-preserved
 loop-at-preserved c =
@@ -28,22 +25,20 @@ loop-at-preserved c =
 
 pub returns-then-key-slot : goal.returns-then-key-slot
 returns-then-key-slot c =
-    
-    flagged_all c.requires.ascending.0 c.lower_bound-at.ensures c.loop-at.invariant.2 c.loop-at.invariant.0 (λ h. c.if-key-slot.true) (same (goal.at.returns-then-key-slot c).At-loop-at) c.requires.slot_within.1
+    flagged_all c.requires.ascending.0 c.lower_bound-at.ensures c.loop-at.invariant.2 c.loop-at.invariant.0 (λ h. c.if-key-slot.true) (c.loop-at.invariant.1 ∙ c.clear_flags.auto.flags) c.requires.slot_within.1
 
 pub returns : goal.returns
 returns c =
-    
-    flagged_all c.requires.ascending.0 c.lower_bound-at.ensures c.loop-at.invariant.2 c.loop-at.invariant.0 (λ h. absurd (omega (arith, c.loop-at-test.false))) (same (goal.at.returns c).At-loop-at) c.requires.slot_within.1
+    flagged_all c.requires.ascending.0 c.lower_bound-at.ensures c.loop-at.invariant.2 c.loop-at.invariant.0 (λ h. absurd (omega (arith, c.loop-at-test.false))) (c.loop-at.invariant.1 ∙ c.clear_flags.auto.flags) c.requires.slot_within.1
 
 pub overflow_mul-slot : goal.overflow_mul-slot
 overflow_mul-slot c = omega (arith, c.requires.ascending.1)
 
 pub shape_of-flags-then-key-slot : goal.shape_of-flags-then-key-slot
-shape_of-flags-then-key-slot c = same (goal.at.shape_of-flags-then-key-slot c).At-loop-at
+shape_of-flags-then-key-slot c = c.loop-at.invariant.1 ∙ c.clear_flags.auto.flags
 
 pub bounds-flags-key : goal.bounds-flags-key
 bounds-flags-key c = room c
 
 pub shape_of-flags : goal.shape_of-flags
-shape_of-flags c = same (goal.at.shape_of-flags c).At-loop-at
+shape_of-flags c = c.loop-at.invariant.1 ∙ c.clear_flags.auto.flags

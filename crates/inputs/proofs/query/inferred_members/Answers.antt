@@ -14,7 +14,6 @@ cs s = s.args.components.now
 
 pub flag_drive-requires : goal.flag_drive-requires
 flag_drive-requires c =
-    
     let scene = c.requires.prepared_scene.1 in
     let few = scene.scene.components.few in record {
       scene = (c.requires.prepared_scene.0, (scene.scene, scene.prepared.regions_are));
@@ -30,16 +29,16 @@ flag_inferred-requires c =
 
 pub gather-requires : goal.gather-requires
 gather-requires c =
-    
+    let s = (goal.at.gather-requires c).Start in
     let scene = c.requires.prepared_scene.1 in
-    (indices_same (sym c.requires.inferred_len) (members_below (cs c.before.before.before.before.before.before.before.before.before.before.before.before.before.before.before.before.before.before.before.before.before.before) scene.prepared.members_are), omega (arith, scene.scene.components.few, c.flag_inferred.auto.inferred))
+    (indices_same (sym c.requires.inferred_len) (members_below (cs s) scene.prepared.members_are), omega (arith, scene.scene.components.few, c.flag_inferred.auto.inferred))
 
 pub returns : goal.returns
 returns c ps r =
-    
+    let s = (goal.at.returns c).Start in
     let d = c.flag_drive.ensures ps r.prepared.regions_are in
     let i = c.flag_inferred.ensures ps c.args.frontiers.now r d.region_flags in
-    marks_are (cs c.before.before.before.before.before.before.before.before.before.before.before.before.before.before.before.before.before.before.before.before.before.before.before.before.before) r.prepared.members_are i (c.gather.auto.out ∙ c.requires.inferred_len) c.gather.ensures
+    marks_are (cs s) r.prepared.members_are i (c.gather.auto.out ∙ c.requires.inferred_len) c.gather.ensures
 
 pub shape_of-inferred : goal.shape_of-inferred
 shape_of-inferred c = c.gather.auto.out

@@ -9,7 +9,7 @@ use lib.ListN.{length, take, drop, replicate}
 use lib.Seq.{length-take-le}
 use lib.IntN.{ℤ}
 use Rattle.lists.specs.Limits.{component_limit, connection_limit}
-use Rattle.lists.specs.Records.{component_count, port_count}
+use Rattle.lists.specs.Records.{component, component_count, port_count}
 use Rattle.lists.specs.Ids.{smaller_ids, member_of}
 use Rattle.lists.proofs.Table.{table_long}
 use Rattle.lists.proofs.Search.{record_within}
@@ -20,7 +20,7 @@ use Rattle.signals.proofs.Lent.{front, front_long, front_length}
 use Rattle.inputs.specs.Inputs.{SlotOf, Walkable}
 use Rattle.inputs.proofs.Inputs.{walk_as, id_small, inputs_stack}
 use Rattle.inputs.proofs.query.input_sources.Goals as goal
-use Rattle.inputs.proofs.query.input_sources.Goals.{After-member_of, After-walk_tables, Start}
+use Rattle.inputs.proofs.query.input_sources.Goals.{Start}
 
 abbrev cs : Start → List ℤ
 cs s = s.args.components.now
@@ -46,136 +46,160 @@ keys-lent s = length-take-le _ _ (edges_few s)
 flags-lent : (s : Start) → length (take (nodes s) (replicate component_limit false)) ≡ nodes s
 flags-lent s = length-take-le _ _ (nodes-few s)
 
-abbrev fed : After-walk_tables → List ℕ
-fed c = c.walk_tables.new.fed
+-- the edges and the flags of the nodes, lent from the front of arrays
+abbrev keys_rest : Start → List ℕ
+keys_rest s = drop (edge_count s) (replicate connection_limit 0)
 
-abbrev backward : After-walk_tables → List ℕ
-backward c = c.walk_tables.new.backward
+abbrev flags_rest : Start → List Bool
+flags_rest s = drop (nodes s) (replicate component_limit false)
 
-abbrev flags : After-walk_tables → List Bool
-flags c = c.walk_tables.new.inferred
+keys_long : (s : Start) (keys : List ℕ) → length keys ≡ length {A = ℕ} (take (edge_count s) (replicate connection_limit 0)) → length keys ≡ edge_count s
+keys_long s keys e = e ∙ keys-lent s
 
-abbrev keys-rest : After-walk_tables → List ℕ
-keys-rest c = drop (edge_count c.before.before.before.before.before.before.before.before.before.before) (replicate connection_limit 0)
-
-abbrev flags-rest : After-walk_tables → List Bool
-flags-rest c = drop (nodes c.before.before.before.before.before.before.before.before.before.before) (replicate component_limit false)
-
-fed-long : (c : After-walk_tables) → length (fed c) ≡ edge_count c.before.before.before.before.before.before.before.before.before.before
-fed-long c = c.walk_tables.auto.fed ∙ keys-lent c.before.before.before.before.before.before.before.before.before.before
-
-backward-long : (c : After-walk_tables) → length (backward c) ≡ edge_count c.before.before.before.before.before.before.before.before.before.before
-backward-long c = c.walk_tables.auto.backward ∙ keys-lent c.before.before.before.before.before.before.before.before.before.before
-
-flags_long : (c : After-walk_tables) → length (flags c) ≡ nodes c.before.before.before.before.before.before.before.before.before.before
-flags_long c = c.walk_tables.auto.inferred ∙ flags-lent c.before.before.before.before.before.before.before.before.before.before
-
--- the stack is as long as it was
-stack-long : (c : After-walk_tables) → length c.walk_tables.new.stack ≡ length c.args.stack.now
-stack-long c = c.walk_tables.auto.stack
+flags_long : (s : Start) (flags : List Bool) → length flags ≡ length (take (nodes s) (replicate component_limit false)) → length flags ≡ nodes s
+flags_long s flags e = e ∙ flags-lent s
 
 -- ---- the port by its slot
 pub natural_at-requires : goal.natural_at-requires
 natural_at-requires c =
-    
     let h = c.requires.p_bound.0 in
     (omega (arith, record_within c.args.p _ 8 h), first_non_neg c.requires.scene.0.components c.args.p h (omega arith) refl)
 
 pub member_of-requires : goal.member_of-requires
 member_of-requires c =
-    
     omega (arith, c.natural_at.ensures, id_small c.requires.scene.0.components c.args.p c.requires.p_bound.0)
 
-member_is : (c : After-member_of) → c.member_of.result ≡ member_of (cs c.before.before.before.before.before.before.before.before.before.before.before.before.before.before.before.before.before) c.args.p
-member_is c = c.member_of.ensures (cs c.before.before.before.before.before.before.before.before.before.before.before.before.before.before.before.before.before) c.requires.scene.1.0 ∙ ap (smaller_ids (cs c.before.before.before.before.before.before.before.before.before.before.before.before.before.before.before.before.before)) c.natural_at.ensures
+member_is : (s : Start) {m id : ℕ} → m ≡ smaller_ids (cs s) id → id ≡ (component (cs s) s.args.p).id → m ≡ member_of (cs s) s.args.p
+member_is s e d = e ∙ ap (smaller_ids (cs s)) d
 
-member-small : (c : After-member_of) → c.member_of.result < component_limit
-member-small c =
-    omega (arith, member_is c, member_below (cs c.before.before.before.before.before.before.before.before.before.before.before.before.before.before.before.before.before) c.args.p c.requires.p_bound.0, c.requires.scene.0.components.few)
+member_small : (s : Start) {m : ℕ} → m ≡ member_of (cs s) s.args.p → m < component_limit
+member_small s e = omega (arith, member_below (cs s) s.args.p s.requires.p_bound.0, s.requires.scene.0.components.few)
 
-walk_is : (c : After-member_of)
-    → 
-    Walkable (cs c.before.before.before.before.before.before.before.before.before.before.before.before.before.before.before.before.before) c.args.ports.now c.args.frontiers.now (take (edge_count c.before.before.before.before.before.before.before.before.before.before.before.before.before.before.before.before.before) (fed c.before.before.before.before.before.before.before.before ++ keys-rest c.before.before.before.before.before.before.before.before)) (take (edge_count c.before.before.before.before.before.before.before.before.before.before.before.before.before.before.before.before.before) (backward c.before.before.before.before.before.before.before.before ++ keys-rest c.before.before.before.before.before.before.before.before)) (take (nodes c.before.before.before.before.before.before.before.before.before.before.before.before.before.before.before.before.before) (flags c.before.before.before.before.before.before.before.before ++ flags-rest c.before.before.before.before.before.before.before.before))
-walk_is c =
-    walk_as (front _ (fed c.before.before.before.before.before.before.before.before) (keys-rest c.before.before.before.before.before.before.before.before) (fed-long c.before.before.before.before.before.before.before.before)) (front _ (backward c.before.before.before.before.before.before.before.before) (keys-rest c.before.before.before.before.before.before.before.before) (backward-long c.before.before.before.before.before.before.before.before)) (front _ (flags c.before.before.before.before.before.before.before.before) (flags-rest c.before.before.before.before.before.before.before.before) (flags_long c.before.before.before.before.before.before.before.before)) c.walk_tables.ensures.0
+walk_is : (s : Start) {fed backward : List ℕ} {flags : List Bool} → length fed ≡ length {A = ℕ} (take (edge_count s) (replicate connection_limit 0)) → length backward ≡ length {A = ℕ} (take (edge_count s) (replicate connection_limit 0)) → length flags ≡ length (take (nodes s) (replicate component_limit false))
+    → Walkable (cs s) s.args.ports.now s.args.frontiers.now fed backward flags
+    → Walkable (cs s) s.args.ports.now s.args.frontiers.now (take (edge_count s) (fed ++ keys_rest s)) (take (edge_count s) (backward ++ keys_rest s))
+    (take (nodes s) (flags ++ flags_rest s))
+walk_is s {fed} {backward} {flags} e f g w =
+    walk_as (front _ fed (keys_rest s) (keys_long s fed e)) (front _ backward (keys_rest s) (keys_long s backward f))
+    (front _ flags (flags_rest s) (flags_long s flags g)) w
 
-slot_at : (c : After-member_of)
-    → 
-    SlotOf (cs c.before.before.before.before.before.before.before.before.before.before.before.before.before.before.before.before.before) c.args.ports.now c.args.p c.args.port (take (edge_count c.before.before.before.before.before.before.before.before.before.before.before.before.before.before.before.before.before) (fed c.before.before.before.before.before.before.before.before ++ keys-rest c.before.before.before.before.before.before.before.before)) (slot c.member_of.result c.args.port)
-slot_at c =
+slot_at : (s : Start) {m : ℕ} {fed backward : List ℕ} {flags : List Bool} → m ≡ member_of (cs s) s.args.p
+    → Walkable (cs s) s.args.ports.now s.args.frontiers.now fed backward flags
+    → SlotOf (cs s) s.args.ports.now s.args.p s.args.port fed (slot m s.args.port)
+slot_at s e w =
     record {
-      fed_scene = (walk_is c).fed_scene;
-      place = c.requires.p_bound.0;
-      port_small = c.requires.p_bound.1.0;
-      slot_is = ap (λ (m : ℕ). slot m c.args.port) (member_is c);
+      fed_scene = w.fed_scene;
+      place = s.requires.p_bound.0;
+      port_small = s.requires.p_bound.1.0;
+      slot_is = ap (λ (m : ℕ). slot m s.args.port) e;
     }
 
 pub row_sources-requires : goal.row_sources-requires
 row_sources-requires c =
-    
-    
-    let a = c.args in record {
-      by_index = (cs c.before.before.before.before.before.before.before.before.before.before.before.before.before.before.before.before.before.before.before.before.before, a.ports.now, a.frontiers.now, a.p, a.port, (walk_is (goal.at.row_sources-requires c).After-member_of, slot_at (goal.at.row_sources-requires c).After-member_of));
-      inferred_in_bounds = (omega (arith, front_length _ (flags (goal.at.row_sources-requires c).After-walk_tables) (flags-rest (goal.at.row_sources-requires c).After-walk_tables) (flags_long (goal.at.row_sources-requires c).After-walk_tables), all c.before.before.before.before.before.before.before.before.before.before.before.before.before.before.before.before.before.before.before.before.before, c.requires.p_bound.1.1, stack-long (goal.at.row_sources-requires c).After-walk_tables), c.walk_tables.ensures.1);
+    let s = (goal.at.row_sources-requires c).Start in
+    let a = c.args in
+    let w = c.walk_tables in
+    let m = member_is s (c.member_of.ensures (cs s) s.requires.scene.1.0) c.natural_at.ensures in
+    let walk = walk_is s w.auto.fed w.auto.backward w.auto.inferred w.ensures.0 in
+    record {
+      by_index = (cs s, a.ports.now, a.frontiers.now, a.p, a.port, (walk, slot_at s m walk));
+      inferred_in_bounds = (
+        omega (arith, front_length _ w.new.inferred (flags_rest s) (flags_long s w.new.inferred w.auto.inferred), all s, s.requires.p_bound.1.1, w.auto.stack),
+        w.ensures.1,
+      );
     }
 
 pub returns : goal.returns
 returns c =
-    
-    
+    let s = (goal.at.returns c).Start in
     let a = c.args in
-    inputs_stack (stack-long (goal.at.returns c).After-walk_tables) (c.row_sources.ensures (cs c.before.before.before.before.before.before.before.before.before.before.before.before.before.before.before.before.before.before.before.before.before.before.before.before) a.ports.now a.frontiers.now a.p a.port (walk_is (goal.at.returns c).After-member_of) (slot_at (goal.at.returns c).After-member_of))
+    let w = c.walk_tables in
+    let m = member_is s (c.member_of.ensures (cs s) s.requires.scene.1.0) c.natural_at.ensures in
+    let walk = walk_is s w.auto.fed w.auto.backward w.auto.inferred w.ensures.0 in
+    inputs_stack w.auto.stack (c.row_sources.ensures (cs s) a.ports.now a.frontiers.now a.p a.port walk (slot_at s m walk))
 
 pub slice_bounds-fed-end : goal.slice_bounds-fed-end
-slice_bounds-fed-end c = edges_few c.before.before.before.before.before
+slice_bounds-fed-end c =
+    let s = (goal.at.slice_bounds-fed-end c).Start in
+    edges_few s
 
 pub slice_bounds-walk_tables-end : goal.slice_bounds-walk_tables-end
-slice_bounds-walk_tables-end c = sym (keys-lent c.before.before.before.before.before.before)
+slice_bounds-walk_tables-end c =
+    let s = (goal.at.slice_bounds-walk_tables-end c).Start in
+    sym (keys-lent s)
 
 pub slice_bounds-backward-end : goal.slice_bounds-backward-end
-slice_bounds-backward-end c = edges_few c.before.before.before.before.before.before
+slice_bounds-backward-end c =
+    let s = (goal.at.slice_bounds-backward-end c).Start in
+    edges_few s
 
 pub slice_bounds-walk_tables-end-2 : goal.slice_bounds-walk_tables-end-2
-slice_bounds-walk_tables-end-2 c = sym (keys-lent c.before.before.before.before.before.before.before)
+slice_bounds-walk_tables-end-2 c =
+    let s = (goal.at.slice_bounds-walk_tables-end-2 c).Start in
+    sym (keys-lent s)
 
 pub slice_bounds-inferred-end : goal.slice_bounds-inferred-end
-slice_bounds-inferred-end c = nodes-few c.before.before.before.before.before.before.before
+slice_bounds-inferred-end c =
+    let s = (goal.at.slice_bounds-inferred-end c).Start in
+    nodes-few s
 
 pub slice_bounds-walk_tables-end-3 : goal.slice_bounds-walk_tables-end-3
-slice_bounds-walk_tables-end-3 c = sym (flags-lent c.before.before.before.before.before.before.before.before)
+slice_bounds-walk_tables-end-3 c =
+    let s = (goal.at.slice_bounds-walk_tables-end-3 c).Start in
+    sym (flags-lent s)
 
 pub walk_tables-requires : goal.walk_tables-requires
-walk_tables-requires c = let s = c.before.before.before.before.before.before.before.before.before in record {
+walk_tables-requires c =
+    let s = (goal.at.walk_tables-requires c).Start in
+    record {
       scene = s.requires.scene;
       fed_len = (keys-lent s, (keys-lent s, (flags-lent s ∙ all s, s.requires.p_bound.1.1)));
     }
 
 pub overflow_mul-p : goal.overflow_mul-p
-overflow_mul-p c = let s = c.before.before.before.before.before.before.before.before.before.before.before.before.before.before.before in omega (arith, s.requires.p_bound.0, s.pre.0.0.components.few)
+overflow_mul-p c =
+    let s = (goal.at.overflow_mul-p c).Start in
+    omega (arith, s.requires.p_bound.0, s.requires.scene.0.components.few)
 
 pub overflow_mul-slot : goal.overflow_mul-slot
-overflow_mul-slot c = omega (arith, member-small c)
+overflow_mul-slot c =
+    let s = (goal.at.overflow_mul-slot c).Start in
+    omega (arith, member_small s (member_is s (c.member_of.ensures (cs s) c.requires.scene.1.0) c.natural_at.ensures))
 
 pub overflow_add-slot : goal.overflow_add-slot
-overflow_add-slot c = omega (arith, member-small c, (c.before.before.before.before.before.before.before.before.before.before.before.before.before.before.before.before.before).requires.p_bound.1.0)
+overflow_add-slot c =
+    let s = (goal.at.overflow_add-slot c).Start in
+    omega (arith, member_small s (member_is s (c.member_of.ensures (cs s) c.requires.scene.1.0) c.natural_at.ensures), (s).requires.p_bound.1.0)
 
 pub slice_bounds-fed-end-2 : goal.slice_bounds-fed-end-2
-slice_bounds-fed-end-2 c = let r = (goal.at.slice_bounds-fed-end-2 c).After-walk_tables in front_long _ (fed r) (keys-rest r) (fed-long r)
+slice_bounds-fed-end-2 c =
+    let s = (goal.at.slice_bounds-fed-end-2 c).Start in
+    front_long _ c.walk_tables.new.fed (keys_rest s) (keys_long s c.walk_tables.new.fed c.walk_tables.auto.fed)
 
 pub slice_bounds-row_sources-end : goal.slice_bounds-row_sources-end
-slice_bounds-row_sources-end c = let r = (goal.at.slice_bounds-row_sources-end c).After-walk_tables in front_length _ (fed r) (keys-rest r) (fed-long r)
+slice_bounds-row_sources-end c =
+    let s = (goal.at.slice_bounds-row_sources-end c).Start in
+    front_length _ c.walk_tables.new.fed (keys_rest s) (keys_long s c.walk_tables.new.fed c.walk_tables.auto.fed)
 
 pub slice_bounds-backward-end-2 : goal.slice_bounds-backward-end-2
-slice_bounds-backward-end-2 c = let r = (goal.at.slice_bounds-backward-end-2 c).After-walk_tables in front_long _ (backward r) (keys-rest r) (backward-long r)
+slice_bounds-backward-end-2 c =
+    let s = (goal.at.slice_bounds-backward-end-2 c).Start in
+    front_long _ c.walk_tables.new.backward (keys_rest s) (keys_long s c.walk_tables.new.backward c.walk_tables.auto.backward)
 
 pub slice_bounds-row_sources-end-2 : goal.slice_bounds-row_sources-end-2
-slice_bounds-row_sources-end-2 c = let r = (goal.at.slice_bounds-row_sources-end-2 c).After-walk_tables in front_length _ (backward r) (keys-rest r) (backward-long r)
+slice_bounds-row_sources-end-2 c =
+    let s = (goal.at.slice_bounds-row_sources-end-2 c).Start in
+    front_length _ c.walk_tables.new.backward (keys_rest s) (keys_long s c.walk_tables.new.backward c.walk_tables.auto.backward)
 
 pub slice_bounds-inferred-end-2 : goal.slice_bounds-inferred-end-2
-slice_bounds-inferred-end-2 c = let r = (goal.at.slice_bounds-inferred-end-2 c).After-walk_tables in front_long _ (flags r) (flags-rest r) (flags_long r)
+slice_bounds-inferred-end-2 c =
+    let s = (goal.at.slice_bounds-inferred-end-2 c).Start in
+    front_long _ c.walk_tables.new.inferred (flags_rest s) (flags_long s c.walk_tables.new.inferred c.walk_tables.auto.inferred)
 
 pub slice_bounds-row_sources-end-3 : goal.slice_bounds-row_sources-end-3
-slice_bounds-row_sources-end-3 c = let r = (goal.at.slice_bounds-row_sources-end-3 c).After-walk_tables in front_length _ (flags r) (flags-rest r) (flags_long r)
+slice_bounds-row_sources-end-3 c =
+    let s = (goal.at.slice_bounds-row_sources-end-3 c).Start in
+    front_length _ c.walk_tables.new.inferred (flags_rest s) (flags_long s c.walk_tables.new.inferred c.walk_tables.auto.inferred)
 
 pub shape_of-stack : goal.shape_of-stack
-shape_of-stack c = c.row_sources.auto.stack ∙ stack-long (goal.at.shape_of-stack c).After-walk_tables
+shape_of-stack c = c.row_sources.auto.stack ∙ c.walk_tables.auto.stack

@@ -8,9 +8,8 @@ use Rattle.inputs.proofs.query.no_sources.Goals as goal
 pub returns : goal.returns
 returns c cs ps fs port stack zeros =
     record {
-  answer = refl;
-  stack_left = zeros_cleared stack zeros;
-  immediate_set = none_set (λ k. refl) c.empty.ensures;
-  inferred_set = none_set (λ k. refl) c.empty-2.ensures;
-
-}
+      answer = refl;
+      stack_left = zeros_cleared stack zeros;
+      immediate_set = none_set (λ k. refl) c.empty.ensures;
+      inferred_set = none_set (λ k. refl) c.empty-2.ensures;
+    }

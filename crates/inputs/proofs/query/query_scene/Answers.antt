@@ -1,37 +1,28 @@
 -- `inputs::query::query_scene` meets its contract: the port's sets where it has a row, else 8.
 -- Assumes nothing.
-use mathlib.Core.Path.{◌≡◌, sym, ◌∙◌}
-use Rattle.inputs.specs.Query.{row_place}
+use mathlib.Core.Path.{sym, ◌∙◌}
 use Rattle.inputs.proofs.Inputs.{row_found, inputs_found}
 use Rattle.inputs.proofs.query.query_scene.Goals as goal
-use Rattle.inputs.proofs.query.query_scene.Goals.{After-row_place-place}
-
--- what the search for the row says
-looked : (c : After-row_place-place) → let a = c.args in c.row_place_lem.result ≡ row_place a.components.now a.id a.port
-looked c = c.row_place_lem.ensures
 
 pub input_sources-requires : goal.input_sources-requires
 input_sources-requires c =
-    
-    let f = row_found c.args.components.now c.args.id c.args.port (sym (looked (goal.at.input_sources-requires c).After-row_place-place) ∙ c.in-At.is) in record {
+    let f = row_found c.args.components.now c.args.id c.args.port (sym c.row_place-place.ensures ∙ c.in-At.is) in record {
       scene = c.requires.scene;
       p_bound = (f.below, (f.port_small, c.requires.components_in_bounds));
     }
 
 pub returns-in-At : goal.returns-in-At
 returns-in-At c =
-    
-    inputs_found c.args.id (sym (looked (goal.at.returns-in-At c).After-row_place-place) ∙ c.in-At.is) c.input_sources.ensures
+    inputs_found c.args.id (sym c.row_place-place.ensures ∙ c.in-At.is) c.input_sources.ensures
 
 pub returns-in-Nothing : goal.returns-in-Nothing
 returns-in-Nothing c =
-    
     let a = c.args in
-    inputs_found a.id (sym (looked (goal.at.returns-in-Nothing c).After-row_place-place) ∙ c.in-Nothing.is)
+    inputs_found a.id (sym c.row_place-place.ensures ∙ c.in-Nothing.is)
     (c.refused_input.ensures a.components.now a.ports.now a.frontiers.now _ a.port a.stack.now)
 
 pub row_place-place-requires : goal.row_place-place-requires
-row_place-place-requires c = let s = c.before.before.before.before.before in (s.requires.0.0.components, s.requires.scene.1.0)
+row_place-place-requires c = (c.requires.scene.0.components, c.requires.scene.1.0)
 
 pub shape_of-stack : goal.shape_of-stack
 shape_of-stack c = c.input_sources.auto.stack

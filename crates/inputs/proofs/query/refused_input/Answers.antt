@@ -7,9 +7,8 @@ use Rattle.inputs.proofs.query.refused_input.Goals as goal
 pub returns : goal.returns
 returns c cs ps fs place port stack =
     record {
-  answer = refl;
-  stack_left = refl;
-  immediate_set = empty_set _ c.empty.ensures;
-  inferred_set = empty_set _ c.empty-2.ensures;
-
-}
+      answer = refl;
+      stack_left = refl;
+      immediate_set = empty_set _ c.empty.ensures;
+      inferred_set = empty_set _ c.empty-2.ensures;
+    }

@@ -14,7 +14,7 @@ use Rattle.signals.proofs.Lent.{front, front_long}
 use Rattle.inputs.specs.Inputs.{SlotOf, Walkable}
 use Rattle.inputs.proofs.Inputs.{walk_nodes, slot_asked, none_fed, immediate_set, inferred_set}
 use Rattle.inputs.proofs.query.row_sources.Goals as goal
-use Rattle.inputs.proofs.query.row_sources.Goals.{After-immediate_flags, Start}
+use Rattle.inputs.proofs.query.row_sources.Goals.{Start}
 
 abbrev nodes : Start → ℕ
 nodes s = length s.args.inferred.now
@@ -35,74 +35,91 @@ lent s = length-take-le _ _ (small s)
 -- nothing feeds the slot
 pub returns-then-not-is_fed : goal.returns-then-not-is_fed
 returns-then-not-is_fed c cs ps fs p port w q =
-    
     none_fed w q (sym c.is_fed.ensures ∙ c.if-not-is_fed.true) (c.no_sources.ensures cs ps fs port c.args.stack.now c.requires.inferred_in_bounds.1)
 
-abbrev flags : After-immediate_flags → List Bool
-flags c = c.immediate_flags.new.flags
+-- the flags of the nodes, lent from the front of an array
+abbrev rest : Start → List Bool
+rest s = drop (nodes s) (replicate component_limit false)
 
-abbrev rest : After-immediate_flags → List Bool
-rest c = drop (nodes c.before.before.before.before.before.before.before.before.before) (replicate component_limit false)
+long : (s : Start) (flags : List Bool) → length flags ≡ length (take (nodes s) (replicate component_limit false)) → length flags ≡ nodes s
+long s flags e = e ∙ lent s
 
-long : (c : After-immediate_flags) → length (flags c) ≡ nodes c.before.before.before.before.before.before.before.before.before
-long c = c.immediate_flags.auto.flags ∙ lent c.before.before.before.before.before.before.before.before.before
+front_is : (s : Start) (flags : List Bool) → length flags ≡ length (take (nodes s) (replicate component_limit false))
+    → take (nodes s) (flags ++ rest s) ≡ flags
+front_is s flags e = front _ flags (rest s) (long s flags e)
 
-front_is : (c : After-immediate_flags) → take (nodes c.before.before.before.before.before.before.before.before.before) (flags c ++ rest c) ≡ flags c
-front_is c = front _ (flags c) (rest c) (long c)
-
-front_length : (c : After-immediate_flags) → length (take (nodes c.before.before.before.before.before.before.before.before.before) (flags c ++ rest c)) ≡ nodes c.before.before.before.before.before.before.before.before.before
-front_length c = ap length (front_is c) ∙ long c
+front_length : (s : Start) (flags : List Bool) → length flags ≡ length (take (nodes s) (replicate component_limit false))
+    → length (take (nodes s) (flags ++ rest s)) ≡ nodes s
+front_length s flags e = ap length (front_is s flags e) ∙ long s flags e
 
 pub of_flags-requires : goal.of_flags-requires
 of_flags-requires c =
-    (omega (arith, front_length (goal.at.of_flags-requires c).After-immediate_flags), small c.before.before.before.before.before.before.before.before.before.before.before)
+    let s = (goal.at.of_flags-requires c).Start in
+    (omega (arith, front_length s c.immediate_flags.new.flags c.immediate_flags.auto.flags), small s)
 
 pub upstream_inputs-requires : goal.upstream_inputs-requires
 upstream_inputs-requires c =
-    
+    let s = (goal.at.upstream_inputs-requires c).Start in
     record {
-      keys_rise = (walk c.before.before.before.before.before.before.before.before.before.before.before.before.before.before).rising;
-      few = small c.before.before.before.before.before.before.before.before.before.before.before.before.before.before;
-      immediate_room = front_length (goal.at.upstream_inputs-requires c).After-immediate_flags;
+      keys_rise = (walk s).rising;
+      few = small s;
+      immediate_room = front_length s c.immediate_flags.new.flags c.immediate_flags.auto.flags;
       stack_room = c.requires.inferred_in_bounds.0;
       stack_zeros = c.requires.inferred_in_bounds.1;
     }
 
 pub returns : goal.returns
 returns c cs ps fs p port w q =
-    
+    let s = (goal.at.returns c).Start in
     let u = c.upstream_inputs in
-    let given = rw (lent c.before.before.before.before.before.before.before.before.before.before.before.before.before.before.before.before.before) at c.immediate_flags.ensures in
+    let given = rw (lent s) at c.immediate_flags.ensures in
     record {
       answer = refl;
-      stack_left = zeros_cleared _ u.ensures.stack_zeros ∙ ap (λ (k : ℕ). replicate k 0) u.auto.1.1.1.0;
-      immediate_set = immediate_set w q (long (goal.at.returns c).After-immediate_flags) given (front_is (goal.at.returns c).After-immediate_flags) c.of_flags.ensures;
-      inferred_set = inferred_set w q (long (goal.at.returns c).After-immediate_flags) given (front_is (goal.at.returns c).After-immediate_flags) u.ensures;
+      stack_left = zeros_cleared _ u.ensures.stack_zeros ∙ ap (λ (k : ℕ). replicate k 0) u.auto.stack;
+      immediate_set = immediate_set w q (long s c.immediate_flags.new.flags c.immediate_flags.auto.flags) given (front_is s c.immediate_flags.new.flags c.immediate_flags.auto.flags) c.of_flags.ensures;
+      inferred_set = inferred_set w q (long s c.immediate_flags.new.flags c.immediate_flags.auto.flags) given (front_is s c.immediate_flags.new.flags c.immediate_flags.auto.flags) u.ensures;
     }
 
 pub is_fed-requires : goal.is_fed-requires
-is_fed-requires c = let s = c.before.before.before.before.before in (slot_asked (asked s) _ (walk_nodes (walk s))).0
+is_fed-requires c =
+    let s = (goal.at.is_fed-requires c).Start in
+    (slot_asked (asked s) _ (walk_nodes (walk s))).0
 
 pub slice_bounds-immediate-end : goal.slice_bounds-immediate-end
-slice_bounds-immediate-end c = small c.before.before.before.before.before.before.before
+slice_bounds-immediate-end c =
+    let s = (goal.at.slice_bounds-immediate-end c).Start in
+    small s
 
 pub slice_bounds-immediate_flags-end : goal.slice_bounds-immediate_flags-end
-slice_bounds-immediate_flags-end c = sym (lent c.before.before.before.before.before.before.before.before)
+slice_bounds-immediate_flags-end c =
+    let s = (goal.at.slice_bounds-immediate_flags-end c).Start in
+    sym (lent s)
 
 pub immediate_flags-requires : goal.immediate_flags-requires
-immediate_flags-requires c = let s = c.before.before.before.before.before.before.before.before in slot_asked (asked s) _ (lent s ∙ walk_nodes (walk s))
+immediate_flags-requires c =
+    let s = (goal.at.immediate_flags-requires c).Start in
+    let q = slot_asked (asked s) _ (lent s ∙ walk_nodes (walk s)) in
+    record { ascending = q.0; slot_within = q.1 }
 
 pub slice_bounds-immediate-end-2 : goal.slice_bounds-immediate-end-2
-slice_bounds-immediate-end-2 c = let f = (goal.at.slice_bounds-immediate-end-2 c).After-immediate_flags in front_long _ (flags f) (rest f) (long f)
+slice_bounds-immediate-end-2 c =
+    let s = (goal.at.slice_bounds-immediate-end-2 c).Start in
+    front_long _ c.immediate_flags.new.flags (rest s) (long s c.immediate_flags.new.flags c.immediate_flags.auto.flags)
 
 pub slice_bounds-of_flags-end : goal.slice_bounds-of_flags-end
-slice_bounds-of_flags-end c = sym (front_length (goal.at.slice_bounds-of_flags-end c).After-immediate_flags)
+slice_bounds-of_flags-end c =
+    let s = (goal.at.slice_bounds-of_flags-end c).Start in
+    sym (front_length s c.immediate_flags.new.flags c.immediate_flags.auto.flags)
 
 pub slice_bounds-immediate-end-3 : goal.slice_bounds-immediate-end-3
-slice_bounds-immediate-end-3 c = let f = (goal.at.slice_bounds-immediate-end-3 c).After-immediate_flags in front_long _ (flags f) (rest f) (long f)
+slice_bounds-immediate-end-3 c =
+    let s = (goal.at.slice_bounds-immediate-end-3 c).Start in
+    front_long _ c.immediate_flags.new.flags (rest s) (long s c.immediate_flags.new.flags c.immediate_flags.auto.flags)
 
 pub slice_bounds-upstream_inputs-end : goal.slice_bounds-upstream_inputs-end
-slice_bounds-upstream_inputs-end c = sym (front_length (goal.at.slice_bounds-upstream_inputs-end c).After-immediate_flags)
+slice_bounds-upstream_inputs-end c =
+    let s = (goal.at.slice_bounds-upstream_inputs-end c).Start in
+    sym (front_length s c.immediate_flags.new.flags c.immediate_flags.auto.flags)
 
 pub shape_of-stack : goal.shape_of-stack
 shape_of-stack c = c.upstream_inputs.auto.stack

@@ -27,13 +27,13 @@ labels-lent s = length-take-le _ _ (nodes-few s)
 
 pub find_inputs-requires : goal.find_inputs-requires
 find_inputs-requires c =
-    
+    let s = (goal.at.find_inputs-requires c).Start in
     let room = c.requires.fed_len in record {
       scene = c.requires.scene;
       inputs_room = record {
         forward_room = room.0;
         backward_room = room.1.0;
-        labels_room = labels-lent c.before.before.before.before.before.before.before.before.before.before.before.before.before ∙ all c.before.before.before.before.before.before.before.before.before.before.before.before.before;
+        labels_room = labels-lent s ∙ all s;
         inferred_room = room.1.1.0;
         stack_room = room.1.1.1;
       };
@@ -41,7 +41,6 @@ find_inputs-requires c =
 
 pub build_fed-requires : goal.build_fed-requires
 build_fed-requires c =
-    
     let p = c.find_inputs.ensures.prepared in record {
       port_connections = (c.requires.scene.0.connections, (c.args.components.now, (c.requires.scene.0.components.few, (p.tables.source_members, p.tables.sink_members))));
       ports_in_bounds = (p.sources_long, (p.sinks_long, c.find_inputs.auto.forward ∙ c.requires.fed_len.0));
@@ -49,7 +48,6 @@ build_fed-requires c =
 
 pub returns : goal.returns
 returns c =
-    
     let e = c.find_inputs.ensures in
     let t = e.prepared.tables in (
       record {
@@ -62,10 +60,14 @@ returns c =
     )
 
 pub slice_bounds-labels-end : goal.slice_bounds-labels-end
-slice_bounds-labels-end c = nodes-few c.before.before.before.before.before.before.before.before.before.before
+slice_bounds-labels-end c =
+    let s = (goal.at.slice_bounds-labels-end c).Start in
+    nodes-few s
 
 pub slice_bounds-find_inputs-end : goal.slice_bounds-find_inputs-end
-slice_bounds-find_inputs-end c = sym (labels-lent c.before.before.before.before.before.before.before.before.before.before.before)
+slice_bounds-find_inputs-end c =
+    let s = (goal.at.slice_bounds-find_inputs-end c).Start in
+    sym (labels-lent s)
 
 pub shape_of-fed : goal.shape_of-fed
 shape_of-fed c = c.build_fed.auto.fed ∙ c.find_inputs.auto.forward

@@ -10,7 +10,6 @@ use Rattle.inputs.proofs.row.row_place.Goals.{After-place_of-place}
 
 pub returns-then-id-ge-IDS : goal.returns-then-id-ge-IDS
 returns-then-id-ge-IDS c =
-    
     sym (row_place_lem c.args.components.now c.args.id c.args.port (id_past _ c.requires.0 c.args.id (omega (arith, c.if-id-ge-IDS.true))))
 
 -- what the lookup says of the id
@@ -19,15 +18,12 @@ looked c = c.place_of-place.ensures c.args.components.now c.requires.1
 
 pub with_row-requires : goal.with_row-requires
 with_row-requires c =
-    
     (c.requires.0, place_below_lem c.args.components.now c.args.id (sym (looked (goal.at.with_row-requires c).After-place_of-place) ∙ c.in-At.is))
 
 pub returns-in-At : goal.returns-in-At
 returns-in-At c =
-    
     c.with_row.ensures ∙ sym (row_place_lem c.args.components.now c.args.id c.args.port (sym (looked (goal.at.returns-in-At c).After-place_of-place) ∙ c.in-At.is))
 
 pub returns-in-Nothing : goal.returns-in-Nothing
 returns-in-Nothing c =
-    
     sym (row_place_lem c.args.components.now c.args.id c.args.port (sym (looked (goal.at.returns-in-Nothing c).After-place_of-place) ∙ c.in-Nothing.is))

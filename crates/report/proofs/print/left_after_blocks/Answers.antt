@@ -28,5 +28,5 @@ returns c =
     c.left_after_block.ensures
     ∙ left_more c.left_after_block-c.result t₂ t₃ c.left_after_block-d.ensures
     ∙ left_more c.left_after_block-b.result t₁ (t₂ ++ t₃) c.left_after_block-c.ensures
-    ∙ left_more c.left_After.result t₀ (t₁ ++ (t₂ ++ t₃)) c.left_after_block-b.ensures
-    ∙ left_more a.left first (t₀ ++ (t₁ ++ (t₂ ++ t₃))) (c.left_After.ensures ∙ ap (left_after a.left) first_long)
+    ∙ left_more c.left_after-a.result t₀ (t₁ ++ (t₂ ++ t₃)) c.left_after_block-b.ensures
+    ∙ left_more a.left first (t₀ ++ (t₁ ++ (t₂ ++ t₃))) (c.left_after-a.ensures ∙ ap (left_after a.left) first_long)

@@ -4,131 +4,120 @@ use mathlib.Core.Path.{◌≡◌, sym, ap, subst, ◌∙◌}
 use mathlib.Core.List.{List}
 use Prim.Native.Nat.{ℕ, ◌*◌, ◌≤◌}
 use native.Mathlib.Omega.{arith}
+use lib.IntN.{ℤ, pos}
 use lib.ListN.{length, take, length-map}
-use lib.IntN.{pos}
 use lib.Seq.{length-take-le}
-use Rattle.lists.specs.Limits.{component_limit}
+use Rattle.lists.specs.Limits.{component_limit, connection_limit, port_width}
 use Rattle.lists.specs.Records.{component_count}
+use Rattle.lists.specs.Slices.{laid}
 use Rattle.lists.proofs.Table.{table_long}
 use Rattle.scene.specs.Kept.{kept_rows}
 use Rattle.liveness.specs.Scene.{Scene}
+use Rattle.liveness.specs.declared.Analysis.{Analysis}
 use Rattle.report.specs.Report.{all_rows}
-use Rattle.report.specs.Printing.{component_row_by, region_row_by}
+use Rattle.report.specs.Printing.{component_row_by, region_row_by, Accepts, Gathered, Analyzed}
 use Rattle.report.specs.Entry.{fits, PrintedBy}
-use Rattle.report.specs.Printing.{Accepts, Gathered}
 use Rattle.report.proofs.Scenes.{front_is, nets_long, fragments_long, regions_long, regions_few, kept_fit}
 use Rattle.report.proofs.Assembled.{component_count_lem, region_pairs, assembled}
 use Rattle.report.proofs.print.print_analysis.Goals as goal
-use Rattle.report.proofs.print.print_analysis.Goals.{After-fill_regions, Start}
 
--- what is known of the scene
-abbrev accepts : (s : Start) → Accepts s.args.scene.now s.requires.0 s.requires.1 s.args.keys.now
-accepts s = s.requires.2.0
+-- the rows that are printed are the fronts of the arrays
+components_inside : {cs ps kept fs : List ℤ} {keys : List ℕ} (rows : List ℕ) → Accepts cs ps fs keys → Scene cs kept → length rows ≡ 6 * component_limit
+    → 6 * length keys ≤ length rows
+components_inside rows a scene long = omega (arith, table_long a.table, scene.components.few, long)
 
-abbrev gathered : (s : Start) → Gathered s.args.scene.now s.requires.0 s.args.ports.now s.args.nets.now s.args.fragments.now
-gathered s = s.requires.2.1.0
+connections_inside : {cs ps kept : List ℤ} {nets fragments : List ℕ} (rows : List ℕ) → Gathered cs ps kept nets fragments → Scene cs kept
+    → length rows ≡ port_width * connection_limit → length kept ≤ length rows
+connections_inside rows g scene long = omega (arith, kept_fit g scene, long)
 
-scene : (s : Start) → Scene s.args.scene.now s.args.ports.now
-scene s = s.requires.2.1.1.1.fed_scene.scene
+regions_fit : {cs kept fs : List ℤ} {regions sources inputs : List ℕ} {r : Analysis} → Analyzed cs kept fs regions sources inputs r → Scene cs kept
+    → 2 * r.regions ≤ 2 * component_limit
+regions_fit a scene = omega (arith, regions_few a scene, scene.components.few)
 
-keys-long : (s : Start) → length s.args.keys.now ≡ component_count s.args.scene.now
-keys-long s = table_long (accepts s).table
-
-regions_fit : (s : Start) → 2 * s.args.found.regions ≤ 2 * component_limit
-regions_fit s = omega (arith, regions_few s.requires.2.1.1.0 (scene s), (scene s).components.few)
+regions_inside : {cs kept fs : List ℤ} {regions sources inputs : List ℕ} {r : Analysis} (rows : List ℕ) → Analyzed cs kept fs regions sources inputs r → Scene cs kept
+    → length rows ≡ 2 * component_limit → 2 * r.regions ≤ length rows
+regions_inside rows a scene long = omega (arith, regions_fit a scene, long)
 
 pub fill_components-requires : goal.fill_components-requires
 fill_components-requires c =
-    
-    let g = gathered c.before.before.before.before.before.before.before.before.before.before.before.before.before.before.before.before in record {
-      components = ((scene c.before.before.before.before.before.before.before.before.before.before.before.before.before.before.before.before).components, (accepts c.before.before.before.before.before.before.before.before.before.before.before.before.before.before.before.before).table);
-      components_in_bounds = (nets_long g, (fragments_long g, regions_long c.requires.2.1.1.0));
-      components_in_bounds_2 = omega (arith, (scene c.before.before.before.before.before.before.before.before.before.before.before.before.before.before.before.before).components.few);
+    let known = c.requires.2 in
+    let scene = known.1.1.1.fed_scene.scene in
+    record {
+      components = (scene.components, known.0.table);
+      components_in_bounds = (nets_long known.1.0, (fragments_long known.1.0, regions_long known.1.1.0));
+      components_in_bounds_2 = omega (arith, scene.components.few);
     }
 
 pub fill_connections-requires : goal.fill_connections-requires
 fill_connections-requires c =
-    
-    let g = gathered c.before.before.before.before.before.before.before.before.before.before.before.before.before.before.before.before.before.before.before in
-    ((kept_rows c.args.scene.now c.requires.0, g.kept_are), kept_fit g (scene c.before.before.before.before.before.before.before.before.before.before.before.before.before.before.before.before.before.before.before))
+    let known = c.requires.2 in
+    ((kept_rows c.args.scene.now c.requires.0, known.1.0.kept_are), kept_fit known.1.0 known.1.1.1.fed_scene.scene)
 
 pub fill_regions-requires : goal.fill_regions-requires
-fill_regions-requires c =
-    regions_fit c.before.before.before.before.before.before.before.before.before.before.before.before.before.before.before.before.before.before.before.before.before.before
-
-components-inside : (c : After-fill_regions) → 6 * length c.args.keys.now ≤ length c.fill_components.new.rows
-components-inside c = omega (arith, keys-long c.before.before.before.before.before.before.before.before.before.before.before.before.before.before.before.before.before.before.before.before.before.before.before, (scene c.before.before.before.before.before.before.before.before.before.before.before.before.before.before.before.before.before.before.before.before.before.before.before).components.few, c.fill_components.auto.rows)
-
-connections-inside : (c : After-fill_regions) → length c.args.ports.now ≤ length c.fill_connections.new.rows
-connections-inside c = omega (arith, kept_fit (gathered c.before.before.before.before.before.before.before.before.before.before.before.before.before.before.before.before.before.before.before.before.before.before.before) (scene c.before.before.before.before.before.before.before.before.before.before.before.before.before.before.before.before.before.before.before.before.before.before.before), c.fill_connections.auto.rows)
-
-regions-inside : (c : After-fill_regions) → 2 * c.args.found.regions ≤ length c.fill_regions.new.rows
-regions-inside c = omega (arith, regions_fit c.before.before.before.before.before.before.before.before.before.before.before.before.before.before.before.before.before.before.before.before.before.before.before, c.fill_regions.auto.rows)
+fill_regions-requires c = let known = c.requires.2 in regions_fit known.1.1.0 known.1.1.1.fed_scene.scene
 
 pub slice_bounds-components-end : goal.slice_bounds-components-end
-slice_bounds-components-end c = components-inside (goal.at.slice_bounds-components-end c).After-fill_regions
+slice_bounds-components-end c =
+    let known = c.requires.2 in
+    components_inside c.fill_components.new.rows known.0 known.1.1.1.fed_scene.scene c.fill_components.auto.rows
 
 pub slice_bounds-print_rows-end : goal.slice_bounds-print_rows-end
 slice_bounds-print_rows-end c =
-    
-    sym (length-take-le _ c.fill_components.new.rows (components-inside (goal.at.slice_bounds-print_rows-end c).After-fill_regions))
+    let known = c.requires.2 in
+    sym (length-take-le _ c.fill_components.new.rows (components_inside c.fill_components.new.rows known.0 known.1.1.1.fed_scene.scene c.fill_components.auto.rows))
 
 pub slice_bounds-kept-end : goal.slice_bounds-kept-end
-slice_bounds-kept-end c = connections-inside (goal.at.slice_bounds-kept-end c).After-fill_regions
+slice_bounds-kept-end c =
+    let known = c.requires.2 in
+    connections_inside c.fill_connections.new.rows known.1.0 known.1.1.1.fed_scene.scene c.fill_connections.auto.rows
 
 pub slice_bounds-print_rows-end-2 : goal.slice_bounds-print_rows-end-2
 slice_bounds-print_rows-end-2 c =
-    
-    sym (length-take-le _ c.fill_connections.new.rows (connections-inside (goal.at.slice_bounds-print_rows-end-2 c).After-fill_regions))
+    let known = c.requires.2 in
+    sym (length-take-le _ c.fill_connections.new.rows (connections_inside c.fill_connections.new.rows known.1.0 known.1.1.1.fed_scene.scene c.fill_connections.auto.rows))
 
 pub overflow_mul-marks : goal.overflow_mul-marks
-overflow_mul-marks c =
-    omega (arith, regions_fit c.before.before.before.before.before.before.before.before.before.before.before.before.before.before.before.before.before.before.before.before.before.before.before.before.before.before)
+overflow_mul-marks c = let known = c.requires.2 in omega (arith, regions_fit known.1.1.0 known.1.1.1.fed_scene.scene)
 
 pub slice_bounds-marks-end : goal.slice_bounds-marks-end
-slice_bounds-marks-end c = regions-inside (goal.at.slice_bounds-marks-end c).After-fill_regions
+slice_bounds-marks-end c =
+    let known = c.requires.2 in
+    regions_inside c.fill_regions.new.rows known.1.1.0 known.1.1.1.fed_scene.scene c.fill_regions.auto.rows
 
 pub slice_bounds-print_rows-end-3 : goal.slice_bounds-print_rows-end-3
 slice_bounds-print_rows-end-3 c =
-    
-    sym (length-take-le _ c.fill_regions.new.rows (regions-inside (goal.at.slice_bounds-print_rows-end-3 c).After-fill_regions))
+    let known = c.requires.2 in
+    sym (length-take-le _ c.fill_regions.new.rows (regions_inside c.fill_regions.new.rows known.1.1.0 known.1.1.1.fed_scene.scene c.fill_regions.auto.rows))
 
 pub print_rows-requires : goal.print_rows-requires
 print_rows-requires c =
     record {
-      id_table = (accepts c.before.before.before.before.before.before.before.before.before.before.before.before.before.before.before.before.before.before.before.before.before.before.before.before.before.before.before.before).table;
+      id_table = c.requires.2.0.table;
       ready = (c.args.ports.now, c.requires.1, c.requires.2.1.1.1);
     }
 
-components_are : (c : After-fill_regions)
-    → let a = c.args in
-    take (6 * length a.keys.now) c.fill_components.new.rows
-    ≡ all_rows (component_row_by a.scene.now a.nets.now a.fragments.now a.regions.now a.found.drive.words a.found.potential.words) (component_count a.scene.now)
-components_are c =
-    let a = c.args in
-    let drive = a.found.drive.words in
-    let potential = a.found.potential.words in
-    front_is (all_rows (component_row_by a.scene.now a.nets.now a.fragments.now a.regions.now drive potential) (component_count a.scene.now)) _
-    c.fill_components.ensures
-    (6 * length a.keys.now)
-    (omega (arith, keys-long c.before.before.before.before.before.before.before.before.before.before.before.before.before.before.before.before.before.before.before.before.before.before.before, component_count_lem a.scene.now a.nets.now a.fragments.now a.regions.now drive potential (component_count a.scene.now)))
+components_are : (cs : List ℤ) (nets fragments regions drive potential keys old : List ℕ) {rows : List ℕ} → length keys ≡ component_count cs
+    → let all = all_rows (component_row_by cs nets fragments regions drive potential) (component_count cs) in
+    rows ≡ laid all old → take (6 * length keys) rows ≡ all
+components_are cs nets fragments regions drive potential keys old many e =
+    front_is (all_rows (component_row_by cs nets fragments regions drive potential) (component_count cs)) old e (6 * length keys)
+    (omega (arith, many, component_count_lem cs nets fragments regions drive potential (component_count cs)))
 
-regions_are : (c : After-fill_regions)
-    → let a = c.args in
-    take (2 * a.found.regions) c.fill_regions.new.rows ≡ all_rows (region_row_by a.found.cyclic.words a.found.has_drive.words) a.found.regions
-regions_are c =
-    let f = c.args.found in
-    front_is (all_rows (region_row_by f.cyclic.words f.has_drive.words) f.regions) _ c.fill_regions.ensures _
-    (sym (region_pairs f.cyclic.words f.has_drive.words f.regions))
+regions_are : (cyclic drive : List ℕ) (n : ℕ) (old : List ℕ) {rows : List ℕ} → rows ≡ laid (all_rows (region_row_by cyclic drive) n) old
+    → take (2 * n) rows ≡ all_rows (region_row_by cyclic drive) n
+regions_are cyclic drive n old e = front_is (all_rows (region_row_by cyclic drive) n) old e (2 * n) (sym (region_pairs cyclic drive n))
 
 pub returns : goal.returns
 returns c ps fs accepted groups found ready =
     let called = c.print_rows in
-    
     let a = c.args in
     let rows = kept_rows a.scene.now ps in
+    let f = a.found in
+    let components-are = components_are a.scene.now a.nets.now a.fragments.now a.regions.now f.drive.words f.potential.words a.keys.now _ (table_long accepted.table)
+        c.fill_components.ensures in
     let connections-are : take (length a.ports.now) c.fill_connections.new.rows ≡ rows =
-    front_is rows _ (c.fill_connections.ensures rows groups.kept_are) _ (ap length groups.kept_are ∙ length-map rows pos) in
-    subst (λ (t : List ℕ). PrintedBy (fits t (length a.out.now)) t a.out.now called.new.1.1.1.1.1.1.1.1.1.1.0 called.result)
-    (assembled a.scene.now ps fs (scene c.before.before.before.before.before.before.before.before.before.before.before.before.before.before.before.before.before.before.before.before.before.before.before.before.before.before.before.before.before.before.before).distinct groups found (components_are (goal.at.returns c).After-fill_regions) connections-are (regions_are (goal.at.returns c).After-fill_regions))
+        front_is rows _ (c.fill_connections.ensures rows groups.kept_are) _ (ap length groups.kept_are ∙ length-map rows pos) in
+    let regions-are = regions_are f.cyclic.words f.has_drive.words f.regions _ c.fill_regions.ensures in
+    subst (λ (t : List ℕ). PrintedBy (fits t (length a.out.now)) t a.out.now called.new.out called.result)
+    (assembled a.scene.now ps fs ready.fed_scene.scene.distinct groups found components-are connections-are regions-are)
     (called.ensures a.ports.now fs ready)

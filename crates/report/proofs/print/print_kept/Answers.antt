@@ -2,81 +2,74 @@
 -- local arrays.
 -- Assumes nothing.
 use mathlib.Core.Path.{sym, subst}
-use Prim.Native.Nat.{◌*◌, ◌≤◌}
+use mathlib.Core.List.{List}
+use Prim.Native.Nat.{ℕ, ◌*◌, ◌≤◌}
 use native.Mathlib.Omega.{arith}
+use lib.IntN.{ℤ}
 use lib.ListN.{length}
 use lib.Seq.{length-take-le}
-use Rattle.lists.specs.Ends.{SettledEnds}
+use Rattle.lists.specs.declared.Checked.TheVariants.{Accepted}
 use Rattle.assessment.specs.Verdicts.{source_rows, input_rows}
 use Rattle.liveness.specs.Scene.{Scene}
+use Rattle.liveness.specs.Entry.{AnalyzedBy}
+use Rattle.liveness.specs.declared.Analysis.{Analysis}
+use Rattle.report.specs.Printing.{Accepts, Gathered}
 use Rattle.report.proofs.Scenes.{kept_scene, front_long, analyzed}
 use Rattle.report.proofs.print.print_kept.Goals as goal
-use Rattle.report.proofs.print.print_kept.Goals.{After-analyze-found, After-settle_ends, Start}
 
-scene : (s : Start) → Scene s.args.scene.now s.args.ports.now
-scene s = subst (Scene s.args.scene.now) (sym s.requires.1.1.kept_are) (kept_scene _ s.requires.0 _ s.requires.1.0.accepted)
+scene_of : {cs ps kept fs : List ℤ} {keys nets fragments : List ℕ} → Accepts cs ps fs keys → Gathered cs ps kept nets fragments → Scene cs kept
+scene_of {cs} {ps} {fs = fs} a g = subst (Scene cs) (sym g.kept_are) (kept_scene cs ps fs a.accepted)
 
 pub settle_ends-requires : goal.settle_ends-requires
 settle_ends-requires c =
-    
-    let connections = (scene c.before.before.before.before.before.before.before).connections in record {
+    let connections = (scene_of c.requires.1.0 c.requires.1.1).connections in
+    record {
       port_connections = connections;
       ports_in_bounds = (connections.few, connections.few);
     }
 
-settled : (c : After-settle_ends)
-    → let a = c.args in SettledEnds a.scene.now a.ports.now c.settle_ends.new.sources c.settle_ends.new.sinks
-settled c = c.settle_ends.ensures _ c.requires.1.0.table
-
 pub analyze-found-requires : goal.analyze-found-requires
 analyze-found-requires c =
-    
-    let few = (scene c.before.before.before.before.before.before.before.before.before.before.before.before.before.before.before.before).components.few in record {
-      scene = (scene c.before.before.before.before.before.before.before.before.before.before.before.before.before.before.before.before, (c.requires.1.0.table, settled (goal.at.analyze-found-requires c).After-settle_ends));
+    let scene = scene_of c.requires.1.0 c.requires.1.1 in
+    let few = scene.components.few in
+    let table = c.requires.1.0.table in
+    record {
+      scene = (scene, (table, c.settle_ends.ensures c.args.scene.now table));
       rows_room = record { regions_room = omega arith; sources_room = omega arith; inputs_room = omega arith; stack_room = omega arith };
     }
 
-sources-inside : (c : After-analyze-found) → c.analyze-found.result.sources * 2 ≤ length c.analyze-found.new.sources
-sources-inside c =
-    let a = c.args in
-    omega (arith, c.analyze-found.ensures.source_count, front_long (source_rows a.scene.now a.ports.now a.frontiers.now) _ c.analyze-found.ensures.sources_left)
+module _ {cs ps fs : List ℤ} {regions regions' sources sources' inputs inputs' stack stack' : List ℕ} {r : Analysis}
+    (a : AnalyzedBy Accepted cs ps fs regions regions' sources sources' inputs inputs' stack stack' r) where
+  sources_inside : r.sources * 2 ≤ length sources'
+  sources_inside = omega (arith, a.source_count, front_long (source_rows cs ps fs) sources a.sources_left)
 
-inputs-inside : (c : After-analyze-found) → c.analyze-found.result.inputs * 3 ≤ length c.analyze-found.new.inputs
-inputs-inside c =
-    let a = c.args in
-    omega (arith, c.analyze-found.ensures.input_count, front_long (input_rows a.scene.now a.ports.now a.frontiers.now) _ c.analyze-found.ensures.inputs_left)
+  inputs_inside : r.inputs * 3 ≤ length inputs'
+  inputs_inside = omega (arith, a.input_count, front_long (input_rows cs ps fs) inputs a.inputs_left)
 
 pub overflow_mul-sources : goal.overflow_mul-sources
-overflow_mul-sources c =
-    
-    omega (arith, sources-inside (goal.at.overflow_mul-sources c).After-analyze-found, c.analyze-found.auto.sources)
+overflow_mul-sources c = omega (arith, sources_inside c.analyze-found.ensures, c.analyze-found.auto.sources)
 
 pub slice_bounds-sources-end : goal.slice_bounds-sources-end
-slice_bounds-sources-end c = sources-inside (goal.at.slice_bounds-sources-end c).After-analyze-found
+slice_bounds-sources-end c = sources_inside c.analyze-found.ensures
 
 pub slice_bounds-print_ready-end-4 : goal.slice_bounds-print_ready-end-4
-slice_bounds-print_ready-end-4 c =
-    
-    sym (length-take-le _ c.analyze-found.new.sources (sources-inside (goal.at.slice_bounds-print_ready-end-4 c).After-analyze-found))
+slice_bounds-print_ready-end-4 c = sym (length-take-le _ c.analyze-found.new.sources (sources_inside c.analyze-found.ensures))
 
 pub overflow_mul-inputs : goal.overflow_mul-inputs
-overflow_mul-inputs c =
-    
-    omega (arith, inputs-inside (goal.at.overflow_mul-inputs c).After-analyze-found, c.analyze-found.auto.inputs)
+overflow_mul-inputs c = omega (arith, inputs_inside c.analyze-found.ensures, c.analyze-found.auto.inputs)
 
 pub slice_bounds-inputs-end : goal.slice_bounds-inputs-end
-slice_bounds-inputs-end c = inputs-inside (goal.at.slice_bounds-inputs-end c).After-analyze-found
+slice_bounds-inputs-end c = inputs_inside c.analyze-found.ensures
 
 pub slice_bounds-print_ready-end-5 : goal.slice_bounds-print_ready-end-5
-slice_bounds-print_ready-end-5 c =
-    
-    sym (length-take-le _ c.analyze-found.new.inputs (inputs-inside (goal.at.slice_bounds-print_ready-end-5 c).After-analyze-found))
+slice_bounds-print_ready-end-5 c = sym (length-take-le _ c.analyze-found.new.inputs (inputs_inside c.analyze-found.ensures))
 
 pub print_ready-requires : goal.print_ready-requires
 print_ready-requires c =
+    let few = (scene_of c.requires.1.0 c.requires.1.1).components.few in
     record {
       accepts = c.requires;
-      settled_ends = settled (goal.at.print_ready-requires c).After-settle_ends;
+      settled_ends = c.settle_ends.ensures c.args.scene.now c.requires.1.0.table;
       analyzed = analyzed c.analyze-found.ensures;
-      scene_in_bounds = omega (arith, (scene c.before.before.before.before.before.before.before.before.before.before.before.before.before.before.before.before.before.before.before.before.before.before.before.before.before.before.before.before).components.few, c.analyze-found.auto.stack);
+      scene_in_bounds = omega (arith, few, c.analyze-found.auto.stack);
     }

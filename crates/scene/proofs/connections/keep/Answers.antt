@@ -1,32 +1,27 @@
 -- `scene::connections::keep` meets its contract: what is kept of the connection is written after the rows before it, or nothing.
 -- Assumes nothing.
 use mathlib.Core.Path.{◌≡◌, sym, ◌∙◌}
-use Prim.Native.Nat.{◌*◌}
+use Prim.Native.Nat.{ℕ, ◌*◌}
 use native.Mathlib.Omega.{arith}
 use Rattle.lists.specs.Records.{connection}
-use Rattle.scene.specs.Kept.{link_of}
+use Rattle.scene.specs.declared.connections.Link.{Link}
 use Rattle.scene.specs.declared.connections.Link.TheVariants.{Ports}
 use Rattle.scene.proofs.Links.{linked}
 use Rattle.scene.proofs.Writes.{put_nothing}
 use Rattle.scene.proofs.connections.keep.Goals as goal
-use Rattle.scene.proofs.connections.keep.Goals.{In-Ports-2}
 
 pub returns-in_default : goal.returns-in_default
 returns-in_default c =
-    
     let e = sym c.link_of-link.ensures ∙ c.in_default.is in
     rw e (record { put = put_nothing c.args.out.now (c.args.count * 5); count = omega arith })
 
 -- the ports of a connection that is kept
-ports : (l : In-Ports-2)
-    → 
-    link_of l.args.components.now (connection l.args.connections.now l.args.k) ≡ Ports l.in-Ports.source l.in-Ports.sink
-ports l = sym l.link_of-link.ensures ∙ l.in-Ports.is
+ports : {link kept : Link} {source sink : ℕ} → link ≡ kept → link ≡ Ports source sink → kept ≡ Ports source sink
+ports e d = sym e ∙ d
 
 pub put_row-requires : goal.put_row-requires
 put_row-requires c =
-    
-    let ends = linked c.args.components.now (connection c.args.connections.now c.args.k) _ _ (ports (goal.at.put_row-requires c).In-Ports-2) in record {
+    let ends = linked c.args.components.now (connection c.args.connections.now c.args.k) _ _ (ports c.link_of-link.ensures c.in-Ports.is) in record {
       connections = c.requires.connections;
       k_bound = c.requires.k_bound;
       source_port_lt_port_places = (ends.source_port_of, ends.sink_port_of);
@@ -35,5 +30,4 @@ put_row-requires c =
 
 pub returns : goal.returns
 returns c =
-    
-    rw (ports (goal.at.returns c).In-Ports-2) (record { put = c.put_row.ensures; count = omega arith })
+    rw (ports c.link_of-link.ensures c.in-Ports.is) (record { put = c.put_row.ensures; count = omega arith })

@@ -18,7 +18,6 @@ keep-count-requires c =
 
 pub loop-k-preserved : goal.loop-k-preserved
 loop-k-preserved c =
-    
     one_laid _ _ _ _ _ _ _ _ c.loop-k-test.true c.keep-count.auto.out c.loop-k.invariant c.keep-count.ensures
 
 pub returns : goal.returns

@@ -36,8 +36,6 @@ natural_at-conducts-requires c =
 
 pub returns : goal.returns
 returns c =
-    
-    
     let ports = ports_of (component c.args.components.now c.args.k) in
     let e : ports_in c.ports_for.result c.port_count.result ≡ ports = cc (ports_back ports) in
     c.select_port.ensures ∙ ap (λ (l : List Port). select_port l c.args.face c.args.outgoing c.args.kind) e

@@ -10,56 +10,42 @@ use Rattle.faces.specs.Select.{select_port}
 use Rattle.scene.specs.Kept.{both_ports, ports_between}
 use Rattle.scene.proofs.Links.{between_none, between_some}
 use Rattle.scene.proofs.connections.ports_between.Goals as goal
-use Rattle.scene.proofs.connections.ports_between.Goals.{After-port_at-into, Else-face-eq0, Start}
 
--- the components and what each has at the face
-abbrev source : Start → Component
-source s = component s.args.components.now s.args.a
+-- what each component has at the face
+abbrev out_at : Component → ℕ → ℕ → Found
+out_at source face kind = select_port (ports_of source) face true kind
 
-abbrev sink : Start → Component
-sink s = component s.args.components.now s.args.b
+abbrev into_at : Component → ℕ → ℕ → Found
+into_at sink face kind = select_port (ports_of sink) (opposite face) false kind
 
-abbrev out_at : Start → ℕ → Found
-out_at s face = select_port (ports_of (source s)) face true s.args.kind
-
-abbrev into-at : Start → ℕ → Found
-into-at s face = select_port (ports_of (sink s)) (opposite face) false s.args.kind
-
--- where the step has a face
-sided : (c : Else-face-eq0)
-    → 
-    ports_between (source c.before.before) (sink c.before.before) c.args.kind ≡ both_ports (out_at c.before.before c.step_face-face.result) (into-at c.before.before c.step_face-face.result)
-sided c = between_some (source c.before.before) (sink c.before.before) c.args.kind c.step_face-face.result c.step_face-face.ensures c.if-face-eq0.false
-
-into : (c : After-port_at-into)
-    → 
-    let face = c.step_face-face.result in
-    c.port_at-into.result ≡ into-at c.before.before.before.before.before.before.before.before face
-into c =
-    c.port_at-into.ensures ∙ ap (λ (f : ℕ). select_port (ports_of (sink c.before.before.before.before.before.before.before.before)) f false c.args.kind) c.opposite_face.ensures
+-- the port at the sink, at the face that the code computes
+into : (sink : Component) (face kind : ℕ) {f : ℕ} {r : Found} → r ≡ select_port (ports_of sink) f false kind → f ≡ opposite face → r ≡ into_at sink face kind
+into sink face kind e d = e ∙ ap (λ (g : ℕ). select_port (ports_of sink) g false kind) d
 
 pub returns-then-face-eq0 : goal.returns-then-face-eq0
 returns-then-face-eq0 c =
-    sym (between_none (source c.before.before) (sink c.before.before) c.args.kind (sym c.step_face-face.ensures ∙ c.if-face-eq0.true))
+    sym (between_none (component c.args.components.now c.args.a) (component c.args.components.now c.args.b) c.args.kind
+    (sym c.step_face-face.ensures ∙ c.if-face-eq0.true))
 
 pub returns-in_default : goal.returns-in_default
 returns-in_default c =
-    
-    let e = sym c.port_at_lem.ensures ∙ c.in_default.is in
-    rw (sided (goal.at.returns-in_default c).Else-face-eq0, e)
+    let source = component c.args.components.now c.args.a in
+    let sink = component c.args.components.now c.args.b in
+    let e = sym c.port_at-out.ensures ∙ c.in_default.is in
+    rw (between_some source sink c.args.kind c.step_face-face.result c.step_face-face.ensures c.if-face-eq0.false, e)
 
 pub returns-in_default-into : goal.returns-in_default-into
 returns-in_default-into c =
-    
-    
-    let e = sym c.port_at_lem.ensures ∙ c.in-At.is in
-    let g = sym (into (goal.at.returns-in_default-into c).After-port_at-into) ∙ c.in_default-into.is in
-    rw (sided (goal.at.returns-in_default-into c).Else-face-eq0, e, g)
+    let source = component c.args.components.now c.args.a in
+    let sink = component c.args.components.now c.args.b in
+    let e = sym c.port_at-out.ensures ∙ c.in-At.is in
+    let g = sym (into sink c.step_face-face.result c.args.kind c.port_at-into.ensures c.opposite_face.ensures) ∙ c.in_default-into.is in
+    rw (between_some source sink c.args.kind c.step_face-face.result c.step_face-face.ensures c.if-face-eq0.false, e, g)
 
 pub returns : goal.returns
 returns c =
-    
-    
-    let e = sym c.port_at_lem.ensures ∙ c.in-At.is in
-    let g = sym (into (goal.at.returns c).After-port_at-into) ∙ c.in-At-into.is in
-    rw (sided (goal.at.returns c).Else-face-eq0, e, g)
+    let source = component c.args.components.now c.args.a in
+    let sink = component c.args.components.now c.args.b in
+    let e = sym c.port_at-out.ensures ∙ c.in-At.is in
+    let g = sym (into sink c.step_face-face.result c.args.kind c.port_at-into.ensures c.opposite_face.ensures) ∙ c.in-At-into.is in
+    rw (between_some source sink c.args.kind c.step_face-face.result c.step_face-face.ensures c.if-face-eq0.false, e, g)

@@ -40,15 +40,14 @@ bounds-out-at-5 c = simp length-set (omega arith)
 
 pub returns : goal.returns
 returns c =
-    
     let ps = c.args.connections.now in
     let p = c.args.k * 3 in
     let transfer : c.transfer_of-transfer.result ≡ transfer_of (natural_at ps (p + 2)) = c.transfer_of-transfer.ensures ∙ ap transfer_of c.natural_at.ensures in
     five_puts c.args.out.now c.args.at c.requires.port_width_in_bounds
     (natural_read (at ps p) (sfits_of c.out-1.given) (first_non_neg c.requires.connections c.args.k c.requires.k_bound (omega arith) refl))
-    (small_read c.args.source-port (omega arith))
+    (small_read c.args.source_port (omega arith))
     (natural_read (at ps (p + 1)) (sfits_of c.out-2-1.given) (field_non_neg c.requires.connections c.args.k 1 c.requires.k_bound (omega arith) refl))
-    (small_read c.args.sink-port (omega arith))
+    (small_read c.args.sink_port (omega arith))
     (small_read c.transfer_of-transfer.result (omega (arith, transfer, transfer_most (natural_at ps (p + 2)))) ∙ ap pos transfer)
 
 pub shape_of-out : goal.shape_of-out

@@ -11,10 +11,6 @@ use Rattle.scene.proofs.connections.step_face.Goals as goal
 
 pub returns : goal.returns
 returns c =
-    
-    
-    
-    
     let cs = c.args.components.now in
     let a = c.args.a * 8 in
     let b = c.args.b * 8 in

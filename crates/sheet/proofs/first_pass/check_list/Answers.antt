@@ -11,7 +11,7 @@ use Rattle.lines.specs.declared.read.Number.TheVariants.{Is}
 use Rattle.lines.proofs.Counting.{count_rest}
 use Rattle.lines.proofs.Placed.{number_refused}
 use Rattle.sheet.specs.Keys.{count_key, keys_of}
-use Rattle.sheet.specs.Sheet.{Fields, read_fields, fault, fields_from, read_list}
+use Rattle.sheet.specs.Sheet.{Fields, read_fields, fault, fields_from}
 use Rattle.sheet.specs.Places.{RunAs}
 use Rattle.sheet.specs.declared.first_pass.Run.{Run}
 use Rattle.sheet.specs.declared.first_pass.Run.TheVariants.{Good, Bad}

@@ -6,12 +6,10 @@ use Rattle.signals.proofs.crossings.carry_marks.Goals as goal
 
 pub spread-requires : goal.spread-requires
 spread-requires c =
-    
     (indices_same (sym c.carry_both.auto.a) c.requires.indices.0, c.requires.indices.1)
 
 pub spread-requires-2 : goal.spread-requires-2
 spread-requires-2 c =
-    
     (indices_same (sym c.carry_both.auto.b) c.requires.indices_2.0, c.requires.indices_2.1)
 
 pub returns : goal.returns

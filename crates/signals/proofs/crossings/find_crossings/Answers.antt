@@ -6,7 +6,7 @@ use Prim.Native.Nat.{ℕ, ◌/◌, ◌≤◌, ◌<◌}
 use native.Mathlib.Omega.{arith}
 use lib.ListN.{length, take}
 use lib.Seq.{length-take-le}
-use Rattle.tables.specs.Order.{All, Rearranged}
+use Rattle.tables.specs.Order.{Rearranged}
 use Rattle.tables.specs.Laws.{at_all}
 use Rattle.tables.specs.Pairs.{span}
 use Rattle.tables.specs.Radix.{LaidByFirst}
@@ -25,7 +25,12 @@ lay_by_first-requires c =
     let still : Rearranged listed listed = record { same = λ v. refl } in
     let below = laid_below c.requires.rows.0 c.requires.indices count.ensures.1 still in
     record {
-      keys_in_bounds = omega (arith, lent _ _ _ count.new.keys count.ensures.0 c.requires.rows.1.1 count.auto.keys, count.ensures.0, c.requires.rows.1.0);
+      keys_in_bounds = omega (
+        arith,
+        lent _ _ _ count.new.keys count.ensures.0 c.requires.rows.1.1 count.auto.keys,
+        count.ensures.0,
+        c.requires.rows.1.0,
+      );
       counts_len_bound = (omega arith, at_all (λ x. x / span < component_limit) listed below.first);
     }
 
@@ -35,7 +40,7 @@ returns c =
     let count = c.list_crossings-count in
     let listed = take count.result count.new.keys in
     let laid = subst (λ (n : ℕ). LaidByFirst listed (take n out.new.out))
-        (lent _ _ _ count.new.keys count.ensures.0 c.requires.rows.1.1 count.auto.keys) out.ensures in
+    (lent _ _ _ count.new.keys count.ensures.0 c.requires.rows.1.1 count.auto.keys) out.ensures in
     record {
       few = omega (arith, out.auto.out, count.ensures.0, c.requires.rows.1.0);
       below = laid_below c.requires.rows.0 c.requires.indices count.ensures.1 laid.rearranged;

@@ -1,12 +1,10 @@
 -- Answers for the goals that the search leaves.
 use mathlib.Core.Path.{◌≡◌, refl, ◌∙◌}
 use mathlib.Core.Bool.{Bool, true, false}
-use Prim.Native.Nat.{ℕ, ◌/◌, ◌%◌, ◌≤◌, ◌<◌}
+use Prim.Native.Nat.{ℕ, ◌≤◌, ◌<◌}
 use native.Mathlib.Omega.{arith}
-use lib.ListN.{length, get_or, length-set}
-use Rattle.lists.specs.Limits.{component_limit}
+use lib.ListN.{length, length-set}
 use Rattle.tables.specs.Order.{one}
-use Rattle.tables.specs.Pairs.{span, pair}
 use Rattle.signals.specs.Crossings.{crosses}
 use Rattle.signals.proofs.Tested.{edges_first}
 use Rattle.signals.proofs.Crossed.{kept_none, kept_more}
@@ -27,7 +25,8 @@ loop-i-preserved c =
     let l = c.loop-i in
     let a = c.args in
     let step = most_one (differs a.forward.now a.labels.now l.i) c.one_if-at.result c.one_if-at.ensures in
-    let room : l.at < length l.keys = omega (arith, c.loop-i-test.true, c.edge_count-count.ensures.few, l.invariant.1, l.invariant.2, c.requires.rows.1) in (
+    let room : l.at < length l.keys =
+    omega (arith, c.loop-i-test.true, c.edge_count-count.ensures.few, l.invariant.1, l.invariant.2, c.requires.rows.1) in (
       omega (arith, c.loop-i-test.true),
       omega (arith, step, l.invariant.1),
       simp length-set l.invariant.2,

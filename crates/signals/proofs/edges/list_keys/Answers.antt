@@ -8,7 +8,6 @@ use lib.ListN.{length, length-set}
 use lib.Seq.{get_or-set_same, get_or-set_other}
 use Rattle.lists.specs.Limits.{connection_limit}
 use Rattle.lists.specs.Records.{port_count}
-use Rattle.signals.specs.Keys.{signal_key}
 use Rattle.signals.proofs.Tabulated.{listed_keys}
 use Rattle.signals.proofs.edges.list_keys.Goals as goal
 use Rattle.signals.proofs.edges.list_keys.Goals.{In-loop-k}
@@ -28,7 +27,6 @@ bounds-seconds-k c = omega (arith, turn (goal.at.bounds-seconds-k c).In-loop-k, 
 
 pub signal_key-requires : goal.signal_key-requires
 signal_key-requires c =
-    
     let k = c.loop-k.k in record {
       port_connections = (c.requires.port_connections, turn (goal.at.signal_key-requires c).In-loop-k);
       first_bound = (c.requires.sortable.0.first k (turn (goal.at.signal_key-requires c).In-loop-k), (c.requires.sortable.0.second k (turn (goal.at.signal_key-requires c).In-loop-k), c.requires.sortable.0.nowhere_small));
@@ -51,7 +49,6 @@ shape_of-keys c = c.loop-k.invariant.1
 
 pub returns : goal.returns
 returns c =
-    
     let all : length c.loop-k.keys ≡ c.loop-k.k = omega (arith, c.loop-k-test.false, c.loop-k.invariant.0) in
     listed_keys c.args.ports.now c.args.firsts.now c.args.seconds.now c.args.nowhere (c.loop-k.invariant.1 ∙ c.requires.sortable.1)
     (λ k h. c.loop-k.invariant.2 k (omega (arith, c.requires.sortable.1, c.loop-k.invariant.1)))

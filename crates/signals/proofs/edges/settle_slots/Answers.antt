@@ -33,17 +33,14 @@ bounds-sinks-k c = omega (arith, c.loop-k-test.true, c.requires.ports_in_bounds.
 
 pub natural_at-requires : goal.natural_at-requires
 natural_at-requires c =
-    
     (omega (arith, within (goal.at.natural_at-requires c).In-loop-k), field_non_neg c.requires.port_connections c.loop-k.k 3 c.loop-k-test.true (omega arith) refl)
 
 pub overflow_add-slots : goal.overflow_add-slots
 overflow_add-slots c =
-    
     omega (arith, sink (goal.at.overflow_add-slots c).In-loop-k, c.natural_at.ensures, field_most c.requires.port_connections c.loop-k.k 3 c.loop-k-test.true (omega arith) 255 refl refl)
 
 pub loop-k-preserved : goal.loop-k-preserved
 loop-k-preserved c =
-    
     let l = c.loop-k in
     let here = room (goal.at.loop-k-preserved c).In-loop-k in (
       omega (arith, c.loop-k-test.true),

@@ -9,7 +9,7 @@ pub loop-i-init : goal.loop-i-init
 loop-i-init c = (omega arith, refl, refl)
 
 pub overflow_add-out : goal.overflow_add-out
-overflow_add-out c = omega (arith, c.shared_slice_known-1.given c.loop-i.i)
+overflow_add-out c = omega (arith, c.type_inv.keys c.loop-i.i)
 
 pub loop-i-preserved : goal.loop-i-preserved
 loop-i-preserved c =

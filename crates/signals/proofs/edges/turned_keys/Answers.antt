@@ -35,11 +35,11 @@ returns c =
     let lent = take (length keys) c.turn.new.out in
     let out = c.lay_by_first.new.out in
     let all : take (length lent) out ≡ out =
-        take_all (length lent) out (omega (arith, lent-long keys _ c.turn.ensures, c.requires.out_len.0, c.lay_by_first.auto.out)) in
+    take_all (length lent) out (omega (arith, lent-long keys _ c.turn.ensures, c.requires.out_len.0, c.lay_by_first.auto.out)) in
     let laid : LaidByFirst (map turned keys) (take (length lent) out) =
-        subst (λ (xs : List ℕ). LaidByFirst xs (take (length lent) out)) c.turn.ensures c.lay_by_first.ensures in
+    subst (λ (xs : List ℕ). LaidByFirst xs (take (length lent) out)) c.turn.ensures c.lay_by_first.ensures in
     subst (λ (ys : List ℕ). Sorted (map turned keys) ys) all
-        (laid.sorted (turned_rising _ c.requires.ascending.1.0 keys c.requires.ascending.1.1 c.requires.ascending.0))
+    (laid.sorted (turned_rising _ c.requires.ascending.1.0 keys c.requires.ascending.1.1 c.requires.ascending.0))
 
 pub slice_bounds-lay_by_first-end-2 : goal.slice_bounds-lay_by_first-end-2
 slice_bounds-lay_by_first-end-2 c = sym (lent-long c.args.keys.now _ c.turn.ensures)

@@ -1,10 +1,9 @@
 -- Answers for the goals that the search leaves.
 use mathlib.Core.Path.{◌≡◌, refl, ◌∙◌}
 use mathlib.Core.List.{List}
-use Prim.Native.Nat.{ℕ, ◌/◌, ◌%◌, ◌<◌}
+use Prim.Native.Nat.{ℕ, ◌<◌}
 use native.Mathlib.Omega.{arith}
 use lib.ListN.{length, get_or, length-set}
-use Rattle.tables.specs.Pairs.{span}
 use Rattle.signals.specs.Flags.{Indices}
 use Rattle.signals.proofs.Marks.{by_none, by_more}
 use Rattle.signals.proofs.Tested.{edge_flags}
@@ -13,7 +12,6 @@ use Rattle.signals.proofs.inferred.flag_outside.Invariants.{outside}
 
 pub loop-i-init : goal.loop-i-init
 loop-i-init c =
-    
     let a = c.args in
     (omega arith, refl, rw c.clear_flags.ensures (by_none _ _ (length a.fed.now)))
 
@@ -24,7 +22,8 @@ room {b = b} labels i h e = omega (arith, i.below b h)
 pub loop-i-preserved : goal.loop-i-preserved
 loop-i-preserved c =
     let l = c.loop-i in
-    let there = room c.args.labels.now c.requires.labels_in_bounds.1 (c.edge_count-count.ensures.second l.i c.loop-i-test.true) (l.invariant.1 ∙ c.clear_flags.auto.flags) in
+    let there = room c.args.labels.now c.requires.labels_in_bounds.1
+    (c.edge_count-count.ensures.second l.i c.loop-i-test.true) (l.invariant.1 ∙ c.clear_flags.auto.flags) in
     (omega (arith, c.loop-i-test.true), simp length-set l.invariant.1, by_more _ _ l.i l.invariant.2 _ _ refl refl there)
 
 pub returns : goal.returns
@@ -33,7 +32,8 @@ returns c =
     let a = c.args in
     let counted = c.edge_count-count in
     let all : l.i ≡ counted.result = omega (arith, l.invariant.0, c.loop-i-test.false) in
-    edge_flags counted.ensures (λ b. get_or a.labels.now b 0) (outside a.labels.now a.passive.now) (l.invariant.1 ∙ c.clear_flags.auto.flags) (rw all at l.invariant.2)
+    edge_flags counted.ensures (λ b. get_or a.labels.now b 0) (outside a.labels.now a.passive.now)
+    (l.invariant.1 ∙ c.clear_flags.auto.flags) (rw all at l.invariant.2)
 
 -- a turn's key has two nodes
 pub bounds-labels-key : goal.bounds-labels-key
@@ -41,11 +41,13 @@ bounds-labels-key c = c.edge_count-count.ensures.second c.loop-i.i c.loop-i-test
 
 pub bounds-fed-r : goal.bounds-fed-r
 bounds-fed-r c =
-    room c.args.labels.now c.requires.labels_in_bounds.1 (c.edge_count-count.ensures.second c.loop-i.i c.loop-i-test.true) (c.loop-i.invariant.1 ∙ c.clear_flags.auto.flags)
+    room c.args.labels.now c.requires.labels_in_bounds.1
+    (c.edge_count-count.ensures.second c.loop-i.i c.loop-i-test.true) (c.loop-i.invariant.1 ∙ c.clear_flags.auto.flags)
 
 pub bounds-fed-r-in-loop-i : goal.bounds-fed-r-in-loop-i
 bounds-fed-r-in-loop-i c =
-    room c.args.labels.now c.requires.labels_in_bounds.1 (c.edge_count-count.ensures.second c.loop-i.i c.loop-i-test.true) (c.loop-i.invariant.1 ∙ c.clear_flags.auto.flags)
+    room c.args.labels.now c.requires.labels_in_bounds.1
+    (c.edge_count-count.ensures.second c.loop-i.i c.loop-i-test.true) (c.loop-i.invariant.1 ∙ c.clear_flags.auto.flags)
 
 pub offset_bounds-labels-from : goal.offset_bounds-labels-from
 offset_bounds-labels-from c =

@@ -17,12 +17,10 @@ within s = record_within s.args.p _ 8 s.requires.components.1
 
 pub natural_at-kind-requires : goal.natural_at-kind-requires
 natural_at-kind-requires c =
-    
     (omega (arith, within c.before.before.before.before.before.before), field_non_neg c.requires.components.0 c.args.p 4 c.requires.components.1 (omega arith) refl)
 
 pub returns-then-kind-quiet : goal.returns-then-kind-quiet
 returns-then-kind-quiet c =
-    
     let a = c.args in
     let tests = both (eqb (component a.components.now a.p).kind 0) a.quiet (rw c.natural_at-kind.ensures at c.if-kind-quiet.true) in
     rw (tests.0, tests.1) c.few_neighbours.ensures

@@ -24,7 +24,6 @@ room c = omega (arith, c.loop-p-test.true, c.loop-p.invariant.1, c.requires.1)
 
 pub loop-p-preserved : goal.loop-p-preserved
 loop-p-preserved c =
-    
     let l = c.loop-p in (
       omega (arith, c.loop-p-test.true),
       simp length-set l.invariant.1,

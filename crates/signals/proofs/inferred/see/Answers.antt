@@ -8,12 +8,10 @@ returns-in-None c n test h s = seen_first n test _ h (rw c.in-None.is at s)
 
 pub returns-then-i-j : goal.returns-then-i-j
 returns-then-i-j c n test h s =
-    
     seen_again n test _ h _ c.if-i-j.true (rw c.in-One.is at s)
 
 pub returns-else-i-j : goal.returns-else-i-j
 returns-else-i-j c n test h s =
-    
     seen_more n test _ h _ c.if-i-j.false (rw c.in-One.is at s)
 
 pub returns-in-Many : goal.returns-in-Many

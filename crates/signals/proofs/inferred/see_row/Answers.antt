@@ -1,9 +1,7 @@
 -- Answers for the goals that the search leaves.
-use Prim.Native.Nat.{◌%◌, ◌<◌}
 use native.Mathlib.Omega.{arith}
-use lib.ListN.{length, get_or}
+use lib.ListN.{length}
 use borrow.Author.Tests.{eq-eqb, ne_eqb}
-use Rattle.tables.specs.Pairs.{span}
 use Rattle.signals.proofs.Neighbours.{passed, row_none, row_below, row_key, row_other, row_all}
 use Rattle.signals.proofs.inferred.see_row.Goals as goal
 use Rattle.signals.proofs.inferred.see_row.Goals.{then-labels-j, else-labels-j}
@@ -36,7 +34,7 @@ loop-at-preserved c =
       omega arith,
       omega (arith, c.loop-at-test.true),
       λ test seen. elim c.if-labels-j.branch [
-        then-labels-j w ↦ rw w.found-is
+        | then-labels-j w ↦ rw w.found-is
             (row_key keys labels c.args.m c.requires.0 c.requires.1 l.at c.loop-at-test.true c.if-key-m.false
             (eq-eqb _ _ w.if-labels-j.true) test w.see-found.result
             (w.see-found.ensures (length labels) (passed keys labels c.args.m l.at test) below (l.invariant.2 test seen)))

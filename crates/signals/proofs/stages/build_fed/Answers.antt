@@ -17,7 +17,7 @@ signal_keys-requires c =
     let ends = c.requires.port_connections.1.1 in record {
       port_connections = c.requires.port_connections.0;
       sortable = sortable_slots ends.0 c.requires.port_connections.0 ends.1.0 ends.1.1 c.settle_slots.ensures
-            (omega (arith, c.requires.port_connections.0.few, c.settle_slots.auto.slots)) c.requires.ports_in_bounds.0;
+          (omega (arith, c.requires.port_connections.0.few, c.settle_slots.auto.slots)) c.requires.ports_in_bounds.0;
       keys_len = (c.requires.ports_in_bounds.1.1, c.requires.port_connections.0.few);
     }
 

@@ -17,7 +17,6 @@ use Rattle.signals.proofs.stages.build_tables.Goals as goal
 
 pub list_keys-requires : goal.list_keys-requires
 list_keys-requires c =
-    
     let few = c.requires.port_connections.1.1.0 in
     let ends = c.requires.port_connections.1.1.1 in record {
       port_connections = c.requires.port_connections.0;
@@ -58,7 +57,10 @@ turned_keys-requires c =
     let long = c.sort_edges.auto.keys ∙ c.list_keys.auto.keys ∙ c.requires.forward_len.0 in
     let sorted = rw c.list_keys.ensures at c.sort_edges.ensures in
     record {
-      out_len = (omega (arith, long, c.requires.forward_len.1), omega (arith, long, c.requires.port_connections.0.few, c.sort_edges.auto.spare));
+      out_len = (
+        omega (arith, long, c.requires.forward_len.1),
+        omega (arith, long, c.requires.port_connections.0.few, c.sort_edges.auto.spare),
+      );
       ascending = (
         sorted.ascending,
         (
@@ -75,10 +77,11 @@ returns c cs ends =
     let small = low a.ports.now a.sources.now a.sinks.now settled known.0 known.1 in
     -- the table forward
     let forward : KeysOf a.ports.now a.sources.now a.sinks.now component_limit c.sort_edges.new.keys =
-        record { sorted = rw c.list_keys.ensures at c.sort_edges.ensures } in
+    record { sorted = rw c.list_keys.ensures at c.sort_edges.ensures } in
     record {
       source_members = ends.source_members;
       sink_members = ends.sink_members;
       forward_keys = forward;
-      backward_keys = turned_keys_of forward (λ k h. omega (arith, (small k h).0)) (λ k h. omega (arith, (small k h).1)) c.turned_keys.ensures;
+      backward_keys =
+          turned_keys_of forward (λ k h. omega (arith, (small k h).0)) (λ k h. omega (arith, (small k h).1)) c.turned_keys.ensures;
     }

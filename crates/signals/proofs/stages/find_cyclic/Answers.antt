@@ -61,11 +61,9 @@ joined : (forward labels : List ℕ) {sizes : List ℕ} {flags₀ flags : List B
 joined forward labels e counts itself f = record {
   long = omega (arith, e, f.long);
   at = λ r h. f.at r (omega (arith, e)) ∙ rw (counts.at r (omega (arith, e)), itself.at r h);
-
 }
 
 pub returns : goal.returns
 returns c =
-    
     let a = c.args in
     joined a.forward.now a.labels.now (long (goal.at.returns c).After-count_into) c.count_into.ensures c.flag_selves.ensures (rw (front_is (goal.at.returns c).After-count_into) at c.flag_large.ensures)

@@ -11,13 +11,11 @@ use Rattle.signals.proofs.stages.find_regions.Goals as goal
 -- the lent flags are those of the nodes
 pub slice_bounds-regions-end : goal.slice_bounds-regions-end
 slice_bounds-regions-end c =
-    
     let h : length c.args.labels.now ≤ component_limit = omega (arith, c.requires.labels_len_bound.0) in
     sym (length-take-le _ _ h)
 
 pub regions-requires : goal.regions-requires
 regions-requires c =
-    
     let h : length c.args.labels.now ≤ component_limit = omega (arith, c.requires.labels_len_bound.0) in (
       c.requires.ascending.1.1,
       c.requires.ascending.1.0,

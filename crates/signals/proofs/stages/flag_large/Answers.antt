@@ -26,6 +26,7 @@ module _ (sizes : List ℕ) (flags₀ flags : List Bool) (r : ℕ)
       (λ (same : j ≡ r). rw (same, le-leb 2 (get_or sizes r 0) l) (get_or-set_same flags r true false h))
       (λ (less : j < r). get_or-set_other flags r j true false (λ q. omega arith) ∙ before j less)
       (eq-or-lt_of_le (let k : j ≤ r = omega arith in k))
+
   left_more : get_or sizes r 0 < 2 → (j : ℕ) → j < r + 1 → marked flags j ≡ (leb 2 (get_or sizes j 0) || marked flags₀ j)
   left_more l j m =
       ⊎_elim
@@ -41,16 +42,18 @@ loop-r-preserved c =
     let room : l.r < length l.flags = omega (arith, c.loop-r-test.true, l.invariant.1, c.requires) in (
       omega (arith, c.loop-r-test.true),
       elim c.if-sizes-r-ge2.branch [
-        then-sizes-r-ge2 w ↦ ap length w.flags-is ∙ simp length-set l.invariant.1
+        | then-sizes-r-ge2 w ↦ ap length w.flags-is ∙ simp length-set l.invariant.1
         | else-sizes-r-ge2 w ↦ ap length w.flags-is ∙ l.invariant.1
       ],
       elim c.if-sizes-r-ge2.branch [
-        then-sizes-r-ge2 w ↦ rw w.flags-is (set_more a.sizes.now a.flags.now l.flags l.r l.invariant.2 l.invariant.3 room w.if-sizes-r-ge2.true)
+        | then-sizes-r-ge2 w ↦ rw w.flags-is
+            (set_more a.sizes.now a.flags.now l.flags l.r l.invariant.2 l.invariant.3 room w.if-sizes-r-ge2.true)
         | else-sizes-r-ge2 w ↦ rw w.flags-is
             (left_more a.sizes.now a.flags.now l.flags l.r l.invariant.2 l.invariant.3 (omega (arith, w.if-sizes-r-ge2.false)))
       ],
       elim c.if-sizes-r-ge2.branch [
-        then-sizes-r-ge2 w ↦ rw w.flags-is (λ j h. get_or-set_other l.flags l.r j true false (λ q. omega arith) ∙ l.invariant.3 j (omega arith))
+        | then-sizes-r-ge2 w ↦ rw w.flags-is
+            (λ j h. get_or-set_other l.flags l.r j true false (λ q. omega arith) ∙ l.invariant.3 j (omega arith))
         | else-sizes-r-ge2 w ↦ rw w.flags-is (λ j h. l.invariant.3 j (omega arith))
       ],
     )

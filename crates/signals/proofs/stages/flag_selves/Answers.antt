@@ -1,11 +1,10 @@
 -- Answers for the goals that the search leaves.
 use mathlib.Core.Path.{◌≡◌, refl, ◌∙◌}
 use mathlib.Core.List.{List}
-use Prim.Native.Nat.{ℕ, ◌%◌, ◌<◌}
+use Prim.Native.Nat.{ℕ, ◌<◌}
 use native.Mathlib.Omega.{arith}
 use lib.Dec.{eqb}
 use lib.ListN.{length, get_or, length-set}
-use Rattle.tables.specs.Pairs.{span}
 use Rattle.signals.specs.Flags.{Indices}
 use Rattle.signals.proofs.Marks.{by_none, by_more}
 use Rattle.signals.proofs.Tested.{edge_flags}
@@ -13,7 +12,6 @@ use Rattle.signals.proofs.stages.flag_selves.Goals as goal
 
 pub loop-i-init : goal.loop-i-init
 loop-i-init c =
-    
     let a = c.args in
     (omega arith, refl, rw c.clear_flags.ensures (by_none _ _ (length a.flags.now)))
 
@@ -24,7 +22,8 @@ room {b = b} labels i h e = omega (arith, i.below b h)
 pub loop-i-preserved : goal.loop-i-preserved
 loop-i-preserved c =
     let l = c.loop-i in
-    let there = room c.args.labels.now c.requires.1 (c.edge_count-count.ensures.second l.i c.loop-i-test.true) (l.invariant.1 ∙ c.clear_flags.auto.flags) in
+    let there = room c.args.labels.now c.requires.1
+    (c.edge_count-count.ensures.second l.i c.loop-i-test.true) (l.invariant.1 ∙ c.clear_flags.auto.flags) in
     (omega (arith, c.loop-i-test.true), simp length-set l.invariant.1, by_more _ _ l.i l.invariant.2 _ _ refl refl there)
 
 pub returns : goal.returns
@@ -41,8 +40,10 @@ bounds-labels-key c = c.edge_count-count.ensures.second c.loop-i.i c.loop-i-test
 
 pub bounds-flags-r : goal.bounds-flags-r
 bounds-flags-r c =
-    room c.args.labels.now c.requires.1 (c.edge_count-count.ensures.second c.loop-i.i c.loop-i-test.true) (c.loop-i.invariant.1 ∙ c.clear_flags.auto.flags)
+    room c.args.labels.now c.requires.1
+    (c.edge_count-count.ensures.second c.loop-i.i c.loop-i-test.true) (c.loop-i.invariant.1 ∙ c.clear_flags.auto.flags)
 
 pub bounds-flags-r-in-loop-i : goal.bounds-flags-r-in-loop-i
 bounds-flags-r-in-loop-i c =
-    room c.args.labels.now c.requires.1 (c.edge_count-count.ensures.second c.loop-i.i c.loop-i-test.true) (c.loop-i.invariant.1 ∙ c.clear_flags.auto.flags)
+    room c.args.labels.now c.requires.1
+    (c.edge_count-count.ensures.second c.loop-i.i c.loop-i-test.true) (c.loop-i.invariant.1 ∙ c.clear_flags.auto.flags)

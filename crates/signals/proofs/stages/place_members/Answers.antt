@@ -43,7 +43,7 @@ loop-m-preserved c =
       λ cs t once.
           let place = c.place_at.ensures cs t in
           placed cs l.members l.m c.place_at.result once place.below (place.member once)
-              (omega (arith, place.below, table_long t, l.invariant.1, c.requires.1)) (l.invariant.2 cs t once),
+          (omega (arith, place.below, table_long t, l.invariant.1, c.requires.1)) (l.invariant.2 cs t once),
     )
 
 pub returns : goal.returns
