@@ -2,7 +2,7 @@
 -- Assumes nothing: these are definitions.
 use Rattle.std.specs.Prelude.{ℕ, zero, suc, ◌+◌, ◌*◌, ◌≤◌, ◌<◌, ◌≡◌, Bool, cond, ◌&&◌, List, [], ◌∷◌, ◌++◌, leb, ltb, length, get_or, ℤ}
 use Rattle.lists.specs.Limits.{component_limit, connection_width}
-use Rattle.lists.specs.Records.{natural_at, connection, component_count, connection_count}
+use Rattle.lists.specs.Records.{natural_at, connection, connection_count}
 use Rattle.lists.specs.Ids.{place_of}
 use Rattle.lists.specs.declared.Found.{Found}
 use Rattle.lists.specs.declared.Found.TheVariants.{At, Nothing}

@@ -13,7 +13,6 @@ use Rattle.checks.specs.Refusals.{grouping_refusal, refusal_numbers, numbers_by}
 use Rattle.lists.specs.Slices.{laid, left_of}
 use Rattle.lists.specs.declared.Found.{Found}
 use Rattle.lists.specs.declared.Found.TheVariants.{At, Nothing}
-use Rattle.lists.specs.declared.Refusal.{Refusal}
 use Rattle.lists.specs.declared.Checked.{Checked}
 use Rattle.lists.specs.declared.Checked.TheVariants.{Accepted, Refused as CheckRefused}
 use Rattle.circuit.specs.Forest.{Forest, singletons, unite_all}

@@ -5,7 +5,6 @@ use Rattle.std.specs.Prelude.{ℕ, ◌+◌, ◌*◌, ◌≡◌, List, [], ◌∷
 use Rattle.lists.specs.Limits.{port_width}
 use Rattle.checks.specs.Refusals.{ports_refusal, refusal_numbers, numbers_by}
 use Rattle.lists.specs.Slices.{laid, left_of}
-use Rattle.lists.specs.declared.Checked.TheVariants as checked
 use Rattle.scene.specs.Kept.{kept_rows, kept_count}
 use Rattle.scene.specs.declared.connections.Selected.{Selected}
 use Rattle.scene.specs.declared.connections.Selected.TheVariants.{Kept, Refused}

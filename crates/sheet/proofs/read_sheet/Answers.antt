@@ -3,10 +3,8 @@
 use mathlib.Core.Path.{◌≡◌, subst, ◌∙◌}
 use mathlib.Core.List.{List}
 use Prim.Native.Nat.{ℕ}
-use mathlib.Core.Bool.{◌&&◌}
 use lib.ListN.{length}
 use Rattle.sheet.specs.Sheet.{Parsed, parse}
-use Rattle.sheet.specs.Entry.{enough_room}
 use Rattle.sheet.specs.Places.{OutlinedAs}
 use Rattle.sheet.specs.declared.first_pass.Outline.TheVariants.{Good, Refused}
 use Rattle.sheet.specs.declared.first_pass.Outline.{Outline}
