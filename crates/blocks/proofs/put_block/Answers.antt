@@ -23,7 +23,8 @@ text block rows width e = rw e
 
 -- the lines have room behind it
 module _ (block : ℕ) (rows : List ℕ) (width : ℕ) (e : width ≡ length (block_keys block)) (at : ℕ) (out : List ℕ) where
-  room : at + length (block_text block rows) ≤ length out → at + length (count_line block rows width ++ lines_from block rows 0) ≤ length out
+  room : at + length (block_text block rows) ≤ length out
+      → at + length (count_line block rows width ++ lines_from block rows 0) ≤ length out
   room h = rw (text block rows width e) h
 
   lines-room : {new : List ℕ} {n : ℕ} → at + length (block_text block rows) ≤ length out → Put at (count_line block rows width) out new n
@@ -67,7 +68,9 @@ loop-k-preserved c =
     let a = c.args in
     let l = c.loop-k in
     rw (add-one l.k)
-    (goes_on _ _ (next-line a.block a.rows.now c.put_count-p.result c.put_count-p.new.out l.out l.p l.k c.loop-k-test.true l.invariant) c.put_field-p.ensures)
+    (goes_on _ _
+    (next-line a.block a.rows.now c.put_count-p.result c.put_count-p.new.out l.out l.p l.k c.loop-k-test.true l.invariant)
+    c.put_field-p.ensures)
 
 pub shape_of-out : goal.shape_of-out
 shape_of-out c = goes_length c.loop-k.invariant ∙ put_length c.put_count-p.ensures

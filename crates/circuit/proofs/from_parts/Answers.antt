@@ -39,7 +39,8 @@ accepted : (c : After-grouping_lists-checked) → c.grouping_lists-checked.resul
     → grouping_refusal c.args.components.now c.args.connections.now (length c.args.nets.now) (length c.args.fragments.now) ≡ Accepted
 accepted c e = sym (answer c) ∙ e
 
-scene : (c : After-grouping_lists-checked) → c.grouping_lists-checked.result ≡ Accepted → GroupingScene c.args.components.now c.args.connections.now [] (enough c)
+scene : (c : After-grouping_lists-checked) → c.grouping_lists-checked.result ≡ Accepted
+    → GroupingScene c.args.components.now c.args.connections.now [] (enough c)
 scene c e = grouping_accept _ _ _ _ (accepted c e)
 
 room : (c : After-grouping_lists-checked) → c.grouping_lists-checked.result ≡ Accepted
@@ -58,7 +59,8 @@ long : (c : After-grouping_lists-checked) → c.grouping_lists-checked.result �
     (n ≤ length c.grouping_lists-checked.new.keys) × (length (take n c.grouping_lists-checked.new.keys) ≡ n)
 long c e =
     let keys = c.grouping_lists-checked.new.keys in
-    let h : component_count c.args.components.now ≤ length keys = omega (arith, (scene c e).components.few, c.grouping_lists-checked.auto.keys) in
+    let h : component_count c.args.components.now ≤ length keys =
+    omega (arith, (scene c e).components.few, c.grouping_lists-checked.auto.keys) in
     (h, length-take-le _ keys h)
 
 pub slice_bounds-keys-end : goal.slice_bounds-keys-end

@@ -12,7 +12,9 @@ pub slice_bounds-out-end : goal.slice_bounds-out-end
 slice_bounds-out-end c = omega (arith, printed_within c.report_sheet-printed.ensures c.in-Written.is, c.report_sheet-printed.auto.out)
 
 pub slice_bounds-write_all-end : goal.slice_bounds-write_all-end
-slice_bounds-write_all-end c = sym (length-take-le _ _ (omega (arith, printed_within c.report_sheet-printed.ensures c.in-Written.is, c.report_sheet-printed.auto.out)))
+slice_bounds-write_all-end c =
+    let within = printed_within c.report_sheet-printed.ensures c.in-Written.is in
+    sym (length-take-le _ _ (omega (arith, within, c.report_sheet-printed.auto.out)))
 
 pub put_refusal-count-requires : goal.put_refusal-count-requires
 put_refusal-count-requires c = refusal_room _

@@ -28,8 +28,12 @@ loop-start-preserved c =
     elim c.if-not-visited-start.branch [
       | then-not-visited-start v ↦
           let kept = v.visit_from-count.auto in
-          rw (v.visited-is, v.order-is, v.stack-is, v.count-is)
-          (omega arith, kept.order ∙ order_length, kept.stack ∙ stack_length, order_more start w v.visit_from-count.ensures kept.visited kept.order kept.stack)
+          rw (v.visited-is, v.order-is, v.stack-is, v.count-is) (
+            omega arith,
+            kept.order ∙ order_length,
+            kept.stack ∙ stack_length,
+            order_more start w v.visit_from-count.ensures kept.visited kept.order kept.stack,
+          )
       | else-not-visited-start v ↦
           rw (v.visited-is, v.order-is, v.stack-is, v.count-is)
           (omega arith, order_length, stack_length, order_skip start w v.if-not-visited-start.false)

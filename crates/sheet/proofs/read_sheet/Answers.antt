@@ -24,14 +24,18 @@ returns-then-not-enough c =
     let a = c.args in
     let s = stands a.text.now a.limits c.check_sheet-outline.result (Good c.in-Good.places) c.check_sheet-outline.ensures c.in-Good.is in
     -- what the code's tests say
-    let room = tested s.3 (length a.components.now) (length a.connections.now) (length a.frontiers.now) c.room_for.ensures c.room_for-in-Good.ensures c.room_for-in-Good-2.ensures in
+    let room =
+    tested s.3 (length a.components.now) (length a.connections.now) (length a.frontiers.now) c.room_for.ensures c.room_for-in-Good.ensures
+    c.room_for-in-Good-2.ensures in
     short (parsed a.limits a.text.now) a.components.now a.connections.now a.frontiers.now s.4 (room ∙ c.if-not-enough.true)
 
 pub store_sheet-requires : goal.store_sheet-requires
 store_sheet-requires c =
     let a = c.args in
     let s = stands a.text.now a.limits c.check_sheet-outline.result (Good c.in-Good.places) c.check_sheet-outline.ensures c.in-Good.is in
-    let room = tested s.3 (length a.components.now) (length a.connections.now) (length a.frontiers.now) c.room_for.ensures c.room_for-in-Good.ensures c.room_for-in-Good-2.ensures in record {
+    let room =
+    tested s.3 (length a.components.now) (length a.connections.now) (length a.frontiers.now) c.room_for.ensures c.room_for-in-Good.ensures
+    c.room_for-in-Good-2.ensures in record {
       some_stand = (s.0, s.1, s.2, s.3);
       lent = lent s.3 (length a.components.now) (length a.connections.now) (length a.frontiers.now) (room ∙ c.if-not-enough.false);
     }
@@ -39,14 +43,17 @@ store_sheet-requires c =
 pub returns-in-Refused : goal.returns-in-Refused
 returns-in-Refused c =
     let a = c.args in
-    let e = stands a.text.now a.limits c.check_sheet-outline.result (Refused c.in-Refused.refusal) c.check_sheet-outline.ensures c.in-Refused.is in
+    let e =
+    stands a.text.now a.limits c.check_sheet-outline.result (Refused c.in-Refused.refusal) c.check_sheet-outline.ensures c.in-Refused.is in
     faulty (parsed a.limits a.text.now) a.components.now a.connections.now a.frontiers.now e
 
 pub returns-else-not-enough : goal.returns-else-not-enough
 returns-else-not-enough c =
     let a = c.args in
     let s = stands a.text.now a.limits c.check_sheet-outline.result (Good c.in-Good.places) c.check_sheet-outline.ensures c.in-Good.is in
-    let room = tested s.3 (length a.components.now) (length a.connections.now) (length a.frontiers.now) c.room_for.ensures c.room_for-in-Good.ensures c.room_for-in-Good-2.ensures in
+    let room =
+    tested s.3 (length a.components.now) (length a.connections.now) (length a.frontiers.now) c.room_for.ensures c.room_for-in-Good.ensures
+    c.room_for-in-Good-2.ensures in
     read (parsed a.limits a.text.now) a.components.now a.connections.now a.frontiers.now s.4
     (room ∙ c.if-not-enough.false)
     (c.store_sheet.ensures s.0 s.1 s.2 s.3)

@@ -26,7 +26,8 @@ lines_are : (r : Refusal) → refusal_lines r ≡ answer_line r ++ (list_line r 
 unfolding refusal_lines
 lines_are r = refl
 
-room : (at : ℕ) (r : Refusal) (out : List ℕ) → at + length (refusal_lines r) ≤ length out → at + length (answer_line r ++ (list_line r ++ item_line r)) ≤ length out
+room : (at : ℕ) (r : Refusal) (out : List ℕ) → at + length (refusal_lines r) ≤ length out
+    → at + length (answer_line r ++ (list_line r ++ item_line r)) ≤ length out
 room at r out h = subst (λ (t : List ℕ). at + length t ≤ length out) (lines_are r) h
 
 pub put_natural-a-requires : goal.put_natural-a-requires

@@ -18,6 +18,10 @@ returns c =
     let parts = input_lines_lem a.device a.port a.status immediate inferred in
     let d = left_on a.left (row_line 0 a.device) on_port parts c.field_length.ensures c.left_after-a.ensures refl in
     let p = left_on c.left_after-a.result (row_line 1 a.port) on_status refl c.field_length-2.ensures c.left_after-b.ensures d in
-    let s = left_on c.left_after-b.result (row_line 2 a.status) (set_lines immediate inferred) refl c.field_length-3.ensures c.left_after-c.ensures p in
-    let e = left_on c.left_after-c.result (set_line (ascii "immediate") immediate) (set_line (ascii "inferred") inferred) refl refl c.left_after_ids-d.ensures s in
+    let s =
+    left_on c.left_after-b.result (row_line 2 a.status) (set_lines immediate inferred) refl c.field_length-3.ensures
+    c.left_after-c.ensures p in
+    let e =
+    left_on c.left_after-c.result (set_line (ascii "immediate") immediate) (set_line (ascii "inferred") inferred) refl refl
+    c.left_after_ids-d.ensures s in
     c.left_after_ids.ensures ∙ e

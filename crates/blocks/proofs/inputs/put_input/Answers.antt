@@ -14,7 +14,8 @@ use Rattle.blocks.proofs.inputs.put_input.Goals as goal
 
 -- the lines of a row
 module _ (device port status : ℕ) (immediate inferred : List ℕ) (at : ℕ) (out : List ℕ) where
-  room : at + length (input_text device port status immediate inferred) ≤ length out → at + length (row_line 0 device ++ from_port port status immediate inferred) ≤ length out
+  room : at + length (input_text device port status immediate inferred) ≤ length out
+      → at + length (row_line 0 device ++ from_port port status immediate inferred) ≤ length out
   room h = subst (λ (t : List ℕ). at + length t ≤ length out) (input_lines_lem device port status immediate inferred) h
 
 pub put_field-a-requires : goal.put_field-a-requires
@@ -22,14 +23,20 @@ put_field-a-requires c =
     let a = c.args in
     let x = ids_in a.keys.now a.immediate.words in
     let y = ids_in a.keys.now a.inferred.words in
-    omega (arith, room a.device a.port a.status x y a.at a.out.now c.requires.words_in_bounds, length-append (row_line 0 a.device) (from_port a.port a.status x y))
+    omega (
+      arith,
+      room a.device a.port a.status x y a.at a.out.now c.requires.words_in_bounds,
+      length-append (row_line 0 a.device) (from_port a.port a.status x y),
+    )
 
 pub put_field-b-requires : goal.put_field-b-requires
 put_field-b-requires c =
     let a = c.args in
     let x = ids_in a.keys.now a.immediate.words in
     let y = ids_in a.keys.now a.inferred.words in
-    let port = put_room c.put_field-a.ensures (from_port a.port a.status x y) (room a.device a.port a.status x y a.at a.out.now c.requires.words_in_bounds) in
+    let port =
+    put_room c.put_field-a.ensures (from_port a.port a.status x y)
+    (room a.device a.port a.status x y a.at a.out.now c.requires.words_in_bounds) in
     omega (arith, port, length-append (row_line 1 a.port) (from_status a.status x y))
 
 pub put_field-c-requires : goal.put_field-c-requires
@@ -37,7 +44,9 @@ put_field-c-requires c =
     let a = c.args in
     let x = ids_in a.keys.now a.immediate.words in
     let y = ids_in a.keys.now a.inferred.words in
-    let port = put_room c.put_field-a.ensures (from_port a.port a.status x y) (room a.device a.port a.status x y a.at a.out.now c.requires.words_in_bounds) in
+    let port =
+    put_room c.put_field-a.ensures (from_port a.port a.status x y)
+    (room a.device a.port a.status x y a.at a.out.now c.requires.words_in_bounds) in
     let status = put_room c.put_field-b.ensures (from_status a.status x y) port in
     omega (arith, status, length-append (row_line 2 a.status) (set_lines x y))
 
@@ -46,7 +55,9 @@ put_ids-d-requires c =
     let a = c.args in
     let x = ids_in a.keys.now a.immediate.words in
     let y = ids_in a.keys.now a.inferred.words in
-    let port = put_room c.put_field-a.ensures (from_port a.port a.status x y) (room a.device a.port a.status x y a.at a.out.now c.requires.words_in_bounds) in
+    let port =
+    put_room c.put_field-a.ensures (from_port a.port a.status x y)
+    (room a.device a.port a.status x y a.at a.out.now c.requires.words_in_bounds) in
     let status = put_room c.put_field-b.ensures (from_status a.status x y) port in
     let sets = put_room c.put_field-c.ensures (set_lines x y) status in
     record {
@@ -59,7 +70,9 @@ put_ids-requires c =
     let a = c.args in
     let x = ids_in a.keys.now a.immediate.words in
     let y = ids_in a.keys.now a.inferred.words in
-    let port = put_room c.put_field-a.ensures (from_port a.port a.status x y) (room a.device a.port a.status x y a.at a.out.now c.requires.words_in_bounds) in
+    let port =
+    put_room c.put_field-a.ensures (from_port a.port a.status x y)
+    (room a.device a.port a.status x y a.at a.out.now c.requires.words_in_bounds) in
     let status = put_room c.put_field-b.ensures (from_status a.status x y) port in
     let sets = put_room c.put_field-c.ensures (set_lines x y) status in
     record {

@@ -1,6 +1,6 @@
 -- `capi::alive::by_places` meets its contract: there are rows for all places that a scene can fill. Assumes nothing.
 use mathlib.Core.Path.{◌≡◌, sym, ◌∙◌}
-use Prim.Native.Nat.{ℕ, ◌*◌, ◌/◌, ◌≤◌}
+use Prim.Native.Nat.{ℕ, ◌*◌, ◌/◌, min}
 use native.Mathlib.Omega.{arith}
 use lib.ListN.{length, take, replicate, length-replicate}
 use lib.Seq.{length-take-le}
@@ -13,38 +13,45 @@ use Rattle.capi.proofs.LivenessLaws.{by_room, alive_as}
 use Rattle.capi.proofs.alive.by_places.Goals as goal
 
 -- as many rows as were asked for
-rows : (m n : ℕ) → n ≤ m → length {A = ℕ} (take n (replicate m 0)) ≡ n
-rows m n h = length-take-le n (replicate m 0) (omega (arith, length-replicate {A = ℕ} m 0))
+rows : (m n len : ℕ) → n ≡ min (len / number_bytes) m → length {A = ℕ} (take n (replicate m 0)) ≡ n
+rows m n len e = length-take-le n (replicate m 0) (omega (arith, e, length-replicate {A = ℕ} m 0))
+
+pub slice_bounds-by_rows-end : goal.slice_bounds-by_rows-end
+slice_bounds-by_rows-end c = sym (rows component_limit _ _ c.places-region_places.ensures)
+
+pub slice_bounds-by_rows-end-2 : goal.slice_bounds-by_rows-end-2
+slice_bounds-by_rows-end-2 c = sym (rows (4 * component_limit) _ _ c.places-source_places.ensures)
+
+pub slice_bounds-by_rows-end-3 : goal.slice_bounds-by_rows-end-3
+slice_bounds-by_rows-end-3 c = sym (rows (12 * component_limit) _ _ c.places-input_places.ensures)
+
+pub slice_bounds-by_rows-end-4 : goal.slice_bounds-by_rows-end-4
+slice_bounds-by_rows-end-4 c = sym (rows (2 * component_limit) _ _ c.places-pair_places.ensures)
 
 pub by_rows-requires : goal.by_rows-requires
 by_rows-requires c =
     let sets = c.args.sets.now in
+    let regions = rows component_limit _ _ c.places-region_places.ensures in
+    let sources = rows (4 * component_limit) _ _ c.places-source_places.ensures in
+    let inputs = rows (12 * component_limit) _ _ c.places-input_places.ensures in
     record {
-      regions_fit = omega (arith, rows component_limit c.places-region_places.result (omega (arith, c.places-region_places.ensures)), c.places-region_places.ensures);
-      sources_fit = omega (arith, rows (4 * component_limit) c.places-source_places.result (omega (arith, c.places-source_places.ensures)), c.places-source_places.ensures);
-      inputs_fit = omega (arith, rows (12 * component_limit) c.places-input_places.result (omega (arith, c.places-input_places.ensures)), c.places-input_places.ensures);
+      regions_fit = omega (arith, regions, c.places-region_places.ensures);
+      sources_fit = omega (arith, sources, c.places-source_places.ensures);
+      inputs_fit = omega (arith, inputs, c.places-input_places.ensures);
       sets_fit = omega (arith, leb-true set_count (length sets / number_bytes / word_count) c.requires.number_bytes_value);
-      sources_few = omega (arith, rows (4 * component_limit) c.places-source_places.result (omega (arith, c.places-source_places.ensures)), c.places-source_places.ensures);
-      inputs_few = omega (arith, rows (12 * component_limit) c.places-input_places.result (omega (arith, c.places-input_places.ensures)), c.places-input_places.ensures);
+      sources_few = omega (arith, sources, c.places-source_places.ensures);
+      inputs_few = omega (arith, inputs, c.places-input_places.ensures);
     }
 
 pub returns : goal.returns
 returns c =
     let a = c.args in
+    let regions = rows component_limit _ _ c.places-region_places.ensures ∙ c.places-region_places.ensures in
+    let sources = rows (4 * component_limit) _ _ c.places-source_places.ensures ∙ c.places-source_places.ensures in
+    let inputs = rows (12 * component_limit) _ _ c.places-input_places.ensures ∙ c.places-input_places.ensures in
+    let pairs = rows (2 * component_limit) _ _ c.places-pair_places.ensures ∙ c.places-pair_places.ensures in
     alive_as
-    (by_room a.components.now a.ports.now a.frontiers.now _ _ _ _ (length a.regions.now) (length a.sources.now) (length a.inputs.now) (length a.sets.now) (length a.stack.now)
-    c.requires.components_bound c.requires.number_bytes_value
-    (rows component_limit c.places-region_places.result (omega (arith, c.places-region_places.ensures)) ∙ c.places-region_places.ensures) (rows (4 * component_limit) c.places-source_places.result (omega (arith, c.places-source_places.ensures)) ∙ c.places-source_places.ensures) (rows (12 * component_limit) c.places-input_places.result (omega (arith, c.places-input_places.ensures)) ∙ c.places-input_places.ensures) (rows (2 * component_limit) c.places-pair_places.result (omega (arith, c.places-pair_places.ensures)) ∙ c.places-pair_places.ensures))
+    (by_room a.components.now a.ports.now a.frontiers.now _ _ _ _
+    (length a.regions.now) (length a.sources.now) (length a.inputs.now) (length a.sets.now) (length a.stack.now)
+    c.requires.components_bound c.requires.number_bytes_value regions sources inputs pairs)
     c.by_rows.ensures
-
-pub slice_bounds-by_rows-end : goal.slice_bounds-by_rows-end
-slice_bounds-by_rows-end c = sym (rows component_limit c.places-region_places.result (omega (arith, c.places-region_places.ensures)))
-
-pub slice_bounds-by_rows-end-2 : goal.slice_bounds-by_rows-end-2
-slice_bounds-by_rows-end-2 c = sym (rows (4 * component_limit) c.places-source_places.result (omega (arith, c.places-source_places.ensures)))
-
-pub slice_bounds-by_rows-end-3 : goal.slice_bounds-by_rows-end-3
-slice_bounds-by_rows-end-3 c = sym (rows (12 * component_limit) c.places-input_places.result (omega (arith, c.places-input_places.ensures)))
-
-pub slice_bounds-by_rows-end-4 : goal.slice_bounds-by_rows-end-4
-slice_bounds-by_rows-end-4 c = sym (rows (2 * component_limit) c.places-pair_places.result (omega (arith, c.places-pair_places.ensures)))

@@ -1,5 +1,5 @@
--- `capi::alive::by_rows` meets its contract: the answer on lists of numbers is packed where it refuses, and written as bytes where it does not.
--- Assumes nothing.
+-- `capi::alive::by_rows` meets its contract: the answer on lists of numbers is packed where it refuses, and written as bytes where it
+-- does not. Assumes nothing.
 use borrow.Author.Rules.{rules}
 use mathlib.Core.Path.{◌≡◌, sym, ap, ◌∙◌, subst}
 use Prim.Native.Nat.{ℕ}

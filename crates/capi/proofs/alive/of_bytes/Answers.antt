@@ -43,7 +43,8 @@ with_few_ports-requires c = record {
 }
 
 pub returns-then-ports : goal.returns-then-ports
-returns-then-ports c = decoded_alive _ _ _ _ _ _ _ _ _ _ _ _ _ _ _ _ (numbers_front _ _ _ c.decode.ensures) (numbers_front _ _ _ c.decode-2.ensures) c.requires c.with_few_ports.ensures
+returns-then-ports c = decoded_alive _ _ _ _ _ _ _ _ _ _ _ _ _ _ _ _ (numbers_front _ _ _ c.decode.ensures) (numbers_front _ _ _ c.decode-2.ensures)
+    c.requires c.with_few_ports.ensures
 
 pub with_ports-requires : goal.with_ports-requires
 with_ports-requires c = record {
@@ -52,4 +53,5 @@ with_ports-requires c = record {
 }
 
 pub returns : goal.returns
-returns c = decoded_alive _ _ _ _ _ _ _ _ _ _ _ _ _ _ _ _ (numbers_front _ _ _ c.decode.ensures) (numbers_front _ _ _ c.decode-2.ensures) c.requires c.with_ports.ensures
+returns c = decoded_alive _ _ _ _ _ _ _ _ _ _ _ _ _ _ _ _ (numbers_front _ _ _ c.decode.ensures) (numbers_front _ _ _ c.decode-2.ensures)
+    c.requires c.with_ports.ensures

@@ -49,8 +49,10 @@ ends c =
     let cs = c.requires.id_table.0 in
     let t = c.requires.id_table.1 in
     let ps = c.args.connections.now in
-    let first = ends_settled cs ps 0 (sources c) (omega (arith, c.requires.connections.few, c.settle.auto.places)) (c.settle.ensures cs t) in
-    let second = ends_settled cs ps 1 (sinks c) (omega (arith, c.requires.connections.few, c.settle-2.auto.places)) (c.settle-2.ensures cs t) in
+    let first =
+    ends_settled cs ps 0 (sources c) (omega (arith, c.requires.connections.few, c.settle.auto.places)) (c.settle.ensures cs t) in
+    let second =
+    ends_settled cs ps 1 (sinks c) (omega (arith, c.requires.connections.few, c.settle-2.auto.places)) (c.settle-2.ensures cs t) in
     rw (table_long t) (first, second)
 
 pub groups-net_count-requires : goal.groups-net_count-requires

@@ -42,7 +42,9 @@ returns-in-Is c =
     let r = sym c.known_magnitude-n.ensures ∙ c.in-Is.is in
     let q = number_taken (length c.args.text.now) (read_magnitude (drop (c.args.at + 1) c.args.text.now)) c.in-Is.m c.in-Is.p r in
     let some = minus_some _ _ (accepted c.args.at c.args.text.now c.requires) t c.in-Is.m q.0 q.1 in
-    rw (front c.args.at c.args.text.now c.requires, eq-eqb _ _ t, c.minus.ensures, to_z-of_z (minus_fits c.in-Is.m (number_range _ _ _ _ r))) (sym (negative_line _ _ _ _ r some))
+    rw
+    (front c.args.at c.args.text.now c.requires, eq-eqb _ _ t, c.minus.ensures, to_z-of_z (minus_fits c.in-Is.m (number_range _ _ _ _ r)))
+    (sym (negative_line _ _ _ _ r some))
 
 pub returns-in-Not : goal.returns-in-Not
 unfolding read_number
@@ -57,7 +59,8 @@ returns-in-Not c =
 -- ---- no minus
 pub known_magnitude-n-requires-2 : goal.known_magnitude-n-requires-2
 known_magnitude-n-requires-2 c =
-    subst (λ (t : List ℕ). Accepted (read_magnitude t)) (sym (front c.args.at c.args.text.now c.requires)) (plain_accepted _ _ (accepted c.args.at c.args.text.now c.requires) c.if-text-at-eq45.false)
+    subst (λ (t : List ℕ). Accepted (read_magnitude t)) (sym (front c.args.at c.args.text.now c.requires))
+    (plain_accepted _ _ (accepted c.args.at c.args.text.now c.requires) c.if-text-at-eq45.false)
 
 pub overflow_cast-result : goal.overflow_cast-result
 overflow_cast-result c = small_fits _ (number_range _ _ _ _ (sym c.known_magnitude-n-2.ensures ∙ c.in-Is-n.is))
@@ -67,7 +70,8 @@ unfolding read_number
 returns-in-Is-n c =
     let r = rw (front c.args.at c.args.text.now c.requires) at (sym c.known_magnitude-n-2.ensures ∙ c.in-Is-n.is) in
     let l : c.in-Is-n.m ≤ limit = number_range _ _ _ _ r in
-    rw (front c.args.at c.args.text.now c.requires, ne_eqb _ _ c.if-text-at-eq45.false, to_z_pos w64 {n = c.in-Is-n.m} (omega arith)) (sym (positive_line _ _ _ _ r))
+    rw (front c.args.at c.args.text.now c.requires, ne_eqb _ _ c.if-text-at-eq45.false, to_z_pos w64 {n = c.in-Is-n.m} (omega arith))
+    (sym (positive_line _ _ _ _ r))
 
 pub returns-in-Not-n : goal.returns-in-Not-n
 unfolding read_number

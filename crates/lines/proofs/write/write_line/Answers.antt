@@ -18,7 +18,8 @@ put_bytes-a-requires c = omega (arith, room c.args.key.now c.args.value c.args.o
 
 pub put_byte-requires : goal.put_byte-requires
 put_byte-requires c =
-    room_then c.put_bytes-a.ensures (61 ∷ []) (simp length-append (omega (arith, room c.args.key.now c.args.value c.args.out.now c.requires)))
+    room_then c.put_bytes-a.ensures (61 ∷ [])
+    (simp length-append (omega (arith, room c.args.key.now c.args.value c.args.out.now c.requires)))
 
 pub put_number-requires : goal.put_number-requires
 put_number-requires c =

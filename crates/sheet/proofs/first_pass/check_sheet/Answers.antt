@@ -48,17 +48,23 @@ check_list-first-requires c =
 -- ---- the first list
 pub overflow_mul-line : goal.overflow_mul-line
 overflow_mul-line c =
-    let g = first c.args.text.now c.args.limits c.cut-most.result c.cut-most.ensures c.check_list-first.result (Good c.in-Good.c) c.check_list-first.ensures c.in-Good.is in
+    let g =
+    first c.args.text.now c.args.limits c.cut-most.result c.cut-most.ensures c.check_list-first.result (Good c.in-Good.c)
+    c.check_list-first.ensures c.in-Good.is in
     omega (arith, g.2)
 
 pub overflow_add-line : goal.overflow_add-line
 overflow_add-line c =
-    let g = first c.args.text.now c.args.limits c.cut-most.result c.cut-most.ensures c.check_list-first.result (Good c.in-Good.c) c.check_list-first.ensures c.in-Good.is in
+    let g =
+    first c.args.text.now c.args.limits c.cut-most.result c.cut-most.ensures c.check_list-first.result (Good c.in-Good.c)
+    c.check_list-first.ensures c.in-Good.is in
     omega (arith, g.2)
 
 pub check_list-second-requires : goal.check_list-second-requires
 check_list-second-requires c =
-    let g = first c.args.text.now c.args.limits c.cut-most.result c.cut-most.ensures c.check_list-first.result (Good c.in-Good.c) c.check_list-first.ensures c.in-Good.is in
+    let g =
+    first c.args.text.now c.args.limits c.cut-most.result c.cut-most.ensures c.check_list-first.result (Good c.in-Good.c)
+    c.check_list-first.ensures c.in-Good.is in
     let e = ap (λ (m : Counts). m.connections) c.cut-most.ensures in record {
       at_in_bounds = g.1.end_within;
       limit_le_connection_limit = omega (arith, e, g.2);
@@ -67,24 +73,36 @@ check_list-second-requires c =
 -- ---- the second list
 pub overflow_add-next : goal.overflow_add-next
 overflow_add-next c =
-    let g = first c.args.text.now c.args.limits c.cut-most.result c.cut-most.ensures c.check_list-first.result (Good c.in-Good.c) c.check_list-first.ensures c.in-Good.is in
+    let g =
+    first c.args.text.now c.args.limits c.cut-most.result c.cut-most.ensures c.check_list-first.result (Good c.in-Good.c)
+    c.check_list-first.ensures c.in-Good.is in
     omega (arith, g.2)
 
 pub overflow_mul-next : goal.overflow_mul-next
 overflow_mul-next c =
-    let h = second c.args.text.now c.args.limits c.cut-most.result c.cut-most.ensures c.in-Good.c.end (line-1 c.in-Good.c) c.check_list-second.result (Good c.in-Good-second.p) c.check_list-second.ensures c.in-Good-second.is in
+    let h =
+    second c.args.text.now c.args.limits c.cut-most.result c.cut-most.ensures c.in-Good.c.end (line-1 c.in-Good.c)
+    c.check_list-second.result (Good c.in-Good-second.p) c.check_list-second.ensures c.in-Good-second.is in
     omega (arith, h.2)
 
 pub overflow_add-next-in-Good-second : goal.overflow_add-next-in-Good-second
 overflow_add-next-in-Good-second c =
-    let g = first c.args.text.now c.args.limits c.cut-most.result c.cut-most.ensures c.check_list-first.result (Good c.in-Good.c) c.check_list-first.ensures c.in-Good.is in
-    let h = second c.args.text.now c.args.limits c.cut-most.result c.cut-most.ensures c.in-Good.c.end (line-1 c.in-Good.c) c.check_list-second.result (Good c.in-Good-second.p) c.check_list-second.ensures c.in-Good-second.is in
+    let g =
+    first c.args.text.now c.args.limits c.cut-most.result c.cut-most.ensures c.check_list-first.result (Good c.in-Good.c)
+    c.check_list-first.ensures c.in-Good.is in
+    let h =
+    second c.args.text.now c.args.limits c.cut-most.result c.cut-most.ensures c.in-Good.c.end (line-1 c.in-Good.c)
+    c.check_list-second.result (Good c.in-Good-second.p) c.check_list-second.ensures c.in-Good-second.is in
     omega (arith, g.2, h.2)
 
 pub check_list-third-requires : goal.check_list-third-requires
 check_list-third-requires c =
-    let g = first c.args.text.now c.args.limits c.cut-most.result c.cut-most.ensures c.check_list-first.result (Good c.in-Good.c) c.check_list-first.ensures c.in-Good.is in
-    let h = second c.args.text.now c.args.limits c.cut-most.result c.cut-most.ensures c.in-Good.c.end (line-1 c.in-Good.c) c.check_list-second.result (Good c.in-Good-second.p) c.check_list-second.ensures c.in-Good-second.is in
+    let g =
+    first c.args.text.now c.args.limits c.cut-most.result c.cut-most.ensures c.check_list-first.result (Good c.in-Good.c)
+    c.check_list-first.ensures c.in-Good.is in
+    let h =
+    second c.args.text.now c.args.limits c.cut-most.result c.cut-most.ensures c.in-Good.c.end (line-1 c.in-Good.c)
+    c.check_list-second.result (Good c.in-Good-second.p) c.check_list-second.ensures c.in-Good-second.is in
     let e = ap (λ (m : Counts). m.frontiers) c.cut-most.ensures in record {
       at_in_bounds = h.1.end_within;
       limit_le_connection_limit = omega (arith, e, g.2, h.2);
@@ -93,29 +111,49 @@ check_list-third-requires c =
 -- ---- the third list
 pub overflow_add-last : goal.overflow_add-last
 overflow_add-last c =
-    let g = first c.args.text.now c.args.limits c.cut-most.result c.cut-most.ensures c.check_list-first.result (Good c.in-Good.c) c.check_list-first.ensures c.in-Good.is in
-    let h = second c.args.text.now c.args.limits c.cut-most.result c.cut-most.ensures c.in-Good.c.end (line-1 c.in-Good.c) c.check_list-second.result (Good c.in-Good-second.p) c.check_list-second.ensures c.in-Good-second.is in
+    let g =
+    first c.args.text.now c.args.limits c.cut-most.result c.cut-most.ensures c.check_list-first.result (Good c.in-Good.c)
+    c.check_list-first.ensures c.in-Good.is in
+    let h =
+    second c.args.text.now c.args.limits c.cut-most.result c.cut-most.ensures c.in-Good.c.end (line-1 c.in-Good.c)
+    c.check_list-second.result (Good c.in-Good-second.p) c.check_list-second.ensures c.in-Good-second.is in
     omega (arith, g.2, h.2)
 
 pub overflow_mul-last : goal.overflow_mul-last
 overflow_mul-last c =
-    let f = third c.args.text.now c.args.limits c.cut-most.result c.cut-most.ensures c.in-Good-second.p.end (line-2 c.in-Good.c c.in-Good-second.p) c.check_list-third.result (Good c.in-Good-third.f) c.check_list-third.ensures c.in-Good-third.is in
+    let f =
+    third c.args.text.now c.args.limits c.cut-most.result c.cut-most.ensures c.in-Good-second.p.end
+    (line-2 c.in-Good.c c.in-Good-second.p) c.check_list-third.result (Good c.in-Good-third.f) c.check_list-third.ensures
+    c.in-Good-third.is in
     omega (arith, f.2)
 
 pub overflow_add-last-then-f-text : goal.overflow_add-last-then-f-text
 overflow_add-last-then-f-text c =
-    let g = first c.args.text.now c.args.limits c.cut-most.result c.cut-most.ensures c.check_list-first.result (Good c.in-Good.c) c.check_list-first.ensures c.in-Good.is in
-    let h = second c.args.text.now c.args.limits c.cut-most.result c.cut-most.ensures c.in-Good.c.end (line-1 c.in-Good.c) c.check_list-second.result (Good c.in-Good-second.p) c.check_list-second.ensures c.in-Good-second.is in
-    let f = third c.args.text.now c.args.limits c.cut-most.result c.cut-most.ensures c.in-Good-second.p.end (line-2 c.in-Good.c c.in-Good-second.p) c.check_list-third.result (Good c.in-Good-third.f) c.check_list-third.ensures c.in-Good-third.is in
+    let g =
+    first c.args.text.now c.args.limits c.cut-most.result c.cut-most.ensures c.check_list-first.result (Good c.in-Good.c)
+    c.check_list-first.ensures c.in-Good.is in
+    let h =
+    second c.args.text.now c.args.limits c.cut-most.result c.cut-most.ensures c.in-Good.c.end (line-1 c.in-Good.c)
+    c.check_list-second.result (Good c.in-Good-second.p) c.check_list-second.ensures c.in-Good-second.is in
+    let f =
+    third c.args.text.now c.args.limits c.cut-most.result c.cut-most.ensures c.in-Good-second.p.end
+    (line-2 c.in-Good.c c.in-Good-second.p) c.check_list-third.result (Good c.in-Good-third.f) c.check_list-third.ensures
+    c.in-Good-third.is in
     omega (arith, g.2, h.2, f.2)
 
 -- ---- the answers
 pub returns-then-f-text : goal.returns-then-f-text
 returns-then-f-text c =
     let a = c.args in
-    let g = first a.text.now a.limits c.cut-most.result c.cut-most.ensures c.check_list-first.result (Good c.in-Good.c) c.check_list-first.ensures c.in-Good.is in
-    let h = second a.text.now a.limits c.cut-most.result c.cut-most.ensures c.in-Good.c.end (line-1 c.in-Good.c) c.check_list-second.result (Good c.in-Good-second.p) c.check_list-second.ensures c.in-Good-second.is in
-    let f = third a.text.now a.limits c.cut-most.result c.cut-most.ensures c.in-Good-second.p.end (line-2 c.in-Good.c c.in-Good-second.p) c.check_list-third.result (Good c.in-Good-third.f) c.check_list-third.ensures c.in-Good-third.is in
+    let g =
+    first a.text.now a.limits c.cut-most.result c.cut-most.ensures c.check_list-first.result (Good c.in-Good.c) c.check_list-first.ensures
+    c.in-Good.is in
+    let h =
+    second a.text.now a.limits c.cut-most.result c.cut-most.ensures c.in-Good.c.end (line-1 c.in-Good.c) c.check_list-second.result
+    (Good c.in-Good-second.p) c.check_list-second.ensures c.in-Good-second.is in
+    let f =
+    third a.text.now a.limits c.cut-most.result c.cut-most.ensures c.in-Good-second.p.end (line-2 c.in-Good.c c.in-Good-second.p)
+    c.check_list-third.result (Good c.in-Good-third.f) c.check_list-third.ensures c.in-Good-third.is in
     all_lists a.limits.components a.limits.connections a.limits.frontiers a.text.now g.3 h.3 f.3
     ∙ something_behind _ _ _ a.text.now _ _ c.if-f-text.true
     ∙ ap Faulty (sym c.bad_line.ensures)
@@ -123,30 +161,48 @@ returns-then-f-text c =
 pub returns-in-Refused : goal.returns-in-Refused
 returns-in-Refused c =
     let a = c.args in
-    let e = first a.text.now a.limits c.cut-most.result c.cut-most.ensures c.check_list-first.result (Refused c.in-Refused.refusal) c.check_list-first.ensures c.in-Refused.is in
+    let e =
+    first a.text.now a.limits c.cut-most.result c.cut-most.ensures c.check_list-first.result (Refused c.in-Refused.refusal)
+    c.check_list-first.ensures c.in-Refused.is in
     first_fault a.limits.components a.limits.connections a.limits.frontiers a.text.now e
 
 pub returns-in-Refused-second : goal.returns-in-Refused-second
 returns-in-Refused-second c =
     let a = c.args in
-    let g = first a.text.now a.limits c.cut-most.result c.cut-most.ensures c.check_list-first.result (Good c.in-Good.c) c.check_list-first.ensures c.in-Good.is in
-    let e = second a.text.now a.limits c.cut-most.result c.cut-most.ensures c.in-Good.c.end (line-1 c.in-Good.c) c.check_list-second.result (Refused c.in-Refused-second.refusal) c.check_list-second.ensures c.in-Refused-second.is in
+    let g =
+    first a.text.now a.limits c.cut-most.result c.cut-most.ensures c.check_list-first.result (Good c.in-Good.c) c.check_list-first.ensures
+    c.in-Good.is in
+    let e =
+    second a.text.now a.limits c.cut-most.result c.cut-most.ensures c.in-Good.c.end (line-1 c.in-Good.c) c.check_list-second.result
+    (Refused c.in-Refused-second.refusal) c.check_list-second.ensures c.in-Refused-second.is in
     second_fault a.limits.components a.limits.connections a.limits.frontiers a.text.now g.3 e
 
 pub returns-in-Refused-third : goal.returns-in-Refused-third
 returns-in-Refused-third c =
     let a = c.args in
-    let g = first a.text.now a.limits c.cut-most.result c.cut-most.ensures c.check_list-first.result (Good c.in-Good.c) c.check_list-first.ensures c.in-Good.is in
-    let h = second a.text.now a.limits c.cut-most.result c.cut-most.ensures c.in-Good.c.end (line-1 c.in-Good.c) c.check_list-second.result (Good c.in-Good-second.p) c.check_list-second.ensures c.in-Good-second.is in
-    let e = third a.text.now a.limits c.cut-most.result c.cut-most.ensures c.in-Good-second.p.end (line-2 c.in-Good.c c.in-Good-second.p) c.check_list-third.result (Refused c.in-Refused-third.refusal) c.check_list-third.ensures c.in-Refused-third.is in
+    let g =
+    first a.text.now a.limits c.cut-most.result c.cut-most.ensures c.check_list-first.result (Good c.in-Good.c) c.check_list-first.ensures
+    c.in-Good.is in
+    let h =
+    second a.text.now a.limits c.cut-most.result c.cut-most.ensures c.in-Good.c.end (line-1 c.in-Good.c) c.check_list-second.result
+    (Good c.in-Good-second.p) c.check_list-second.ensures c.in-Good-second.is in
+    let e =
+    third a.text.now a.limits c.cut-most.result c.cut-most.ensures c.in-Good-second.p.end (line-2 c.in-Good.c c.in-Good-second.p)
+    c.check_list-third.result (Refused c.in-Refused-third.refusal) c.check_list-third.ensures c.in-Refused-third.is in
     third_fault a.limits.components a.limits.connections a.limits.frontiers a.text.now g.3 h.3 e
 
 pub returns-else-f-text : goal.returns-else-f-text
 returns-else-f-text c =
     let a = c.args in
-    let g = first a.text.now a.limits c.cut-most.result c.cut-most.ensures c.check_list-first.result (Good c.in-Good.c) c.check_list-first.ensures c.in-Good.is in
-    let h = second a.text.now a.limits c.cut-most.result c.cut-most.ensures c.in-Good.c.end (line-1 c.in-Good.c) c.check_list-second.result (Good c.in-Good-second.p) c.check_list-second.ensures c.in-Good-second.is in
-    let f = third a.text.now a.limits c.cut-most.result c.cut-most.ensures c.in-Good-second.p.end (line-2 c.in-Good.c c.in-Good-second.p) c.check_list-third.result (Good c.in-Good-third.f) c.check_list-third.ensures c.in-Good-third.is in (
+    let g =
+    first a.text.now a.limits c.cut-most.result c.cut-most.ensures c.check_list-first.result (Good c.in-Good.c) c.check_list-first.ensures
+    c.in-Good.is in
+    let h =
+    second a.text.now a.limits c.cut-most.result c.cut-most.ensures c.in-Good.c.end (line-1 c.in-Good.c) c.check_list-second.result
+    (Good c.in-Good-second.p) c.check_list-second.ensures c.in-Good-second.is in
+    let f =
+    third a.text.now a.limits c.cut-most.result c.cut-most.ensures c.in-Good-second.p.end (line-2 c.in-Good.c c.in-Good-second.p)
+    c.check_list-third.result (Good c.in-Good-third.f) c.check_list-third.ensures c.in-Good-third.is in (
       g.0,
       h.0,
       f.0,
