@@ -2,8 +2,8 @@
 --     device_rows, rows_below        the verdict rows of a device, and of the first n components, by statuses
 --     sources_of, sources_below      their source rows, by flags
 -- Assumes nothing: these are definitions.
-use Rattle.std.specs.Prelude.{ℕ, zero, suc, ◌+◌, ◌*◌, ◌/◌, ◌%◌, ◌≤◌, ◌<◌, ◌≡◌, Bool, true, false, List, [], ◌∷◌, ◌++◌, eqb, length, get_or, take, drop, ℤ}
-use Rattle.tables.specs.Order.{Ascending, member}
+use Rattle.std.specs.Prelude.{ℕ, zero, suc, ◌+◌, ◌*◌, ◌/◌, ◌%◌, ◌<◌, ◌≡◌, Bool, true, false, List, [], ◌∷◌, ◌++◌, length, get_or, take, drop, ℤ}
+use Rattle.tables.specs.Order.{member}
 use Rattle.tables.specs.Pairs.{pair, span}
 use Rattle.lists.specs.Limits.{component_limit}
 use Rattle.lists.specs.Records.{component, component_count}
