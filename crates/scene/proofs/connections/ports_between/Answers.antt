@@ -7,7 +7,6 @@ use Rattle.lists.specs.Records.{Component, component}
 use Rattle.lists.specs.declared.Found.{Found}
 use Rattle.faces.specs.Ports.{opposite, ports_of}
 use Rattle.faces.specs.Select.{select_port}
-use Rattle.scene.specs.Kept.{both_ports, ports_between}
 use Rattle.scene.proofs.Links.{between_none, between_some}
 use Rattle.scene.proofs.connections.ports_between.Goals as goal
 
