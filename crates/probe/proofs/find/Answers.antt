@@ -57,7 +57,6 @@ returns-then-id-gt-GREATEST_ID c =
 
 pub returns : goal.returns
 returns c =
-    
     let cs = c.args.components.now in
     let e = c.place_of.ensures cs (c.grouping_lists-checked.ensures.table c.in-Accepted.is) in record {
       value = rw (accepted (goal.at.returns c).In-Accepted) e;

@@ -2,7 +2,6 @@
 -- Assumes nothing.
 use mathlib.Core.Path.{◌≡◌, sym, ap, ◌∙◌, subst}
 use Rattle.lists.specs.declared.Checked.{Checked}
-use native.Mathlib.Omega.{arith}
 use Rattle.checks.specs.Refusals.{liveness_refusal, Small, packed}
 use Rattle.checks.proofs.Small.{liveness_small}
 use Rattle.probe.proofs.probe_liveness_refusal.Goals as goal
@@ -17,9 +16,3 @@ pack-requires c =
 
 pub returns : goal.returns
 returns c = c.pack.ensures ∙ ap packed (answer (goal.at.returns c).After-liveness_lists)
-
-pub overflow_mul-count : goal.overflow_mul-count
-overflow_mul-count c = omega (arith, c.well-formed.0.1)
-
-pub overflow_mul-count-2 : goal.overflow_mul-count-2
-overflow_mul-count-2 c = omega (arith, c.well-formed.0.1)

@@ -40,11 +40,10 @@ placed c =
 pub returns-in_default : goal.returns-in_default
 returns-in_default c =
     record {
-  refused = λ refusal e. refl;
-  past = λ h. refl;
-  found = λ e h. absurd (refused_not (sym c.in_default.is ∙ c.grouping_lists-checked.ensures.answer ∙ e));
-
-}
+      refused = λ refusal e. refl;
+      past = λ h. refl;
+      found = λ e h. absurd (refused_not (sym c.in_default.is ∙ c.grouping_lists-checked.ensures.answer ∙ e));
+    }
 
 pub returns-then-count-k : goal.returns-then-count-k
 returns-then-count-k c =
@@ -52,7 +51,6 @@ returns-then-count-k c =
 
 pub returns : goal.returns
 returns c =
-    
     record {
       refused = λ refusal e. absurd (refused_not (sym e ∙ accepted (goal.at.returns c).In-Accepted));
       past = λ h. absurd (omega (arith, c.if-count-k.false));

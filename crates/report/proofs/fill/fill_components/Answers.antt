@@ -35,7 +35,6 @@ natural_at-id-requires c =
 
 pub member_of-m-requires : goal.member_of-m-requires
 member_of-m-requires c =
-    
     let most = first_most c.requires.components.0 c.loop-p.p c.loop-p-test.true (omega arith) 4294967295 refl refl in
     omega (arith, c.natural_at-id.ensures, most)
 
@@ -56,7 +55,6 @@ put_row-at-requires c =
 pub loop-p-preserved : goal.loop-p-preserved
 unfolding all_rows
 loop-p-preserved c =
-    
     let l = c.loop-p in
     let cs = c.args.components.now in
     let id = c.natural_at-id.ensures in

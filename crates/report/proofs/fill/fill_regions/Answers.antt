@@ -25,7 +25,6 @@ put_pair-at-requires c =
 pub loop-r-preserved : goal.loop-r-preserved
 unfolding all_rows
 loop-r-preserved c =
-    
     let l = c.loop-r in
     below_more _ (row c.before.before.before.before.before.before.before.before.before.before.before.before) 2 2 _ _ (λ k. refl) c.loop-r-test.true l.invariant (record { turns = 1; whole = refl; few = omega arith })
     (pair_read (flag_read c.args.cyclic.words c.flag-first.ensures c.contains.ensures refl)

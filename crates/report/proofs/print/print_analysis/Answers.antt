@@ -114,9 +114,9 @@ returns c ps fs accepted groups found ready =
     let rows = kept_rows a.scene.now ps in
     let f = a.found in
     let components-are = components_are a.scene.now a.nets.now a.fragments.now a.regions.now f.drive.words f.potential.words a.keys.now _ (table_long accepted.table)
-        c.fill_components.ensures in
+    c.fill_components.ensures in
     let connections-are : take (length a.ports.now) c.fill_connections.new.rows ≡ rows =
-        front_is rows _ (c.fill_connections.ensures rows groups.kept_are) _ (ap length groups.kept_are ∙ length-map rows pos) in
+    front_is rows _ (c.fill_connections.ensures rows groups.kept_are) _ (ap length groups.kept_are ∙ length-map rows pos) in
     let regions-are = regions_are f.cyclic.words f.has_drive.words f.regions _ c.fill_regions.ensures in
     subst (λ (t : List ℕ). PrintedBy (fits t (length a.out.now)) t a.out.now called.new.out called.result)
     (assembled a.scene.now ps fs ready.fed_scene.scene.distinct groups found components-are connections-are regions-are)

@@ -27,7 +27,6 @@ text_is device port status table ps fs ready sets =
 
 pub asked_sources-found-requires : goal.asked_sources-found-requires
 asked_sources-found-requires c =
-    
     let known = c.requires.ready in record {
       id_table = c.requires.id_table;
       ready = (known.0, known.1, known.2.0);
