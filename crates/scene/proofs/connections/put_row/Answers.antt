@@ -42,7 +42,8 @@ pub returns : goal.returns
 returns c =
     let ps = c.args.connections.now in
     let p = c.args.k * 3 in
-    let transfer : c.transfer_of-transfer.result ≡ transfer_of (natural_at ps (p + 2)) = c.transfer_of-transfer.ensures ∙ ap transfer_of c.natural_at.ensures in
+    let transfer : c.transfer_of-transfer.result ≡ transfer_of (natural_at ps (p + 2)) = c.transfer_of-transfer.ensures ∙ ap
+    transfer_of c.natural_at.ensures in
     five_puts c.args.out.now c.args.at c.requires.port_width_in_bounds
     (natural_read (at ps p) (search rules) (first_non_neg c.requires.connections c.args.k c.requires.k_bound (omega arith) refl))
     (small_read c.args.source_port (omega arith))
