@@ -28,7 +28,8 @@ when-kept : (c : After-port_connections-selected) (m : ℕ) → c.port_connectio
     → (refusal c ≡ Accepted) × (m ≡ kept_count c.args.components.now c.args.connections.now)
 when-kept c m e = kept_accepted (refusal c) _ m (ap answer_of (sym e) ∙ c.port_connections-selected.ensures.answer)
 
-when-refused : (c : After-port_connections-selected) (x : Refusal) → c.port_connections-selected.result ≡ selected.Refused x → refusal c ≡ Refused x
+when-refused : (c : After-port_connections-selected) (x : Refusal)
+    → c.port_connections-selected.result ≡ selected.Refused x → refusal c ≡ Refused x
 when-refused c x e = refused_is (refusal c) _ x (ap answer_of (sym e) ∙ c.port_connections-selected.ensures.answer)
 
 -- few enough rows
@@ -44,7 +45,8 @@ overflow_mul-result c = omega (arith, few (goal.at.overflow_mul-result c).After-
 
 pub pack-requires : goal.pack-requires
 pack-requires c =
-    subst (λ (k : Checked). Small k) (when-refused (goal.at.pack-requires c).After-port_connections-selected _ c.in-Refused.is) (grouping_small c.args.components.now c.args.connections.now [] _)
+    subst (λ (k : Checked). Small k) (when-refused (goal.at.pack-requires c).After-port_connections-selected _ c.in-Refused.is)
+    (grouping_small c.args.components.now c.args.connections.now [] _)
 
 pub returns-in-Kept : goal.returns-in-Kept
 returns-in-Kept c =

@@ -25,4 +25,5 @@ pub returns : goal.returns
 returns c ps fs ready =
     c.left_after_input.ensures
     ∙ ap (λ (t : List ℕ). left_after c.args.left (length t))
-    (asked_text_lem c.args.device c.args.port c.args.status c.requires.id_table ready.fed_scene.scene.distinct (c.asked_sources-found.ensures ps fs ready))
+    (asked_text_lem c.args.device c.args.port c.args.status c.requires.id_table ready.fed_scene.scene.distinct
+    (c.asked_sources-found.ensures ps fs ready))
