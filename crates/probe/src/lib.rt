@@ -1,5 +1,6 @@
 // What the tests from Rust call and the product does not export: refusals as one number, the table of ids, ports and groups.
 #![tactic(auto)]
+
 mod groups;
 mod ports;
 mod query;

@@ -1,6 +1,7 @@
 // The report of a sheet: the sheet is read into lent work lists, its lists are checked and analyzed, and the report is written into a lent
 // buffer where it fits. Crate `blocks` has the text, block by block.
 #![tactic(auto)]
+
 pub mod fill;
 mod print;
 pub mod rows;

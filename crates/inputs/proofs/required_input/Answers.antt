@@ -29,7 +29,8 @@ answer s e d = e ∙ ap (liveness_lists s.args.components.now s.args.ports.now s
 
 -- ---- where they accept
 module _ (s : Start) (accepted : refusal s ≡ Accepted) where
-  live : LivenessScene s.args.components.now s.args.ports.now s.args.frontiers.now (room_for (component_count s.args.components.now) 2 (length s.args.stack.now))
+  live : LivenessScene s.args.components.now s.args.ports.now s.args.frontiers.now
+      (room_for (component_count s.args.components.now) 2 (length s.args.stack.now))
   live = liveness_accept _ _ _ _ accepted
 
   room : 2 * component_count s.args.components.now ≤ length s.args.stack.now

@@ -24,13 +24,16 @@ use Rattle.liveness.proofs.analyze_signal_liveness.Goals.{Start}
 abbrev refusal : Start → Checked
 refusal s =
     let a = s.args in
-    liveness_refusal a.components.now a.ports.now a.frontiers.now (length a.regions.now) (length a.sources.now) (length a.inputs.now) (length a.stack.now)
+    liveness_refusal a.components.now a.ports.now a.frontiers.now (length a.regions.now) (length a.sources.now) (length a.inputs.now)
+    (length a.stack.now)
 
 -- the answer of the checks, by the definition
-by_rooms : (f : Bool → Checked) {a a' b b' d d' e e' : Bool} → a ≡ a' → b ≡ b' → d ≡ d' → e ≡ e' → f (a && (b && (d && e))) ≡ f (a' && (b' && (d' && e')))
+by_rooms : (f : Bool → Checked) {a a' b b' d d' e e' : Bool} → a ≡ a' → b ≡ b' → d ≡ d' → e ≡ e'
+    → f (a && (b && (d && e))) ≡ f (a' && (b' && (d' && e')))
 by_rooms f p q r s = rw (p, q, r, s)
 
-answer : (s : Start) {r : Checked} {a b d e : Bool} → r ≡ liveness_lists s.args.components.now s.args.ports.now s.args.frontiers.now (a && (b && (d && e)))
+answer : (s : Start) {r : Checked} {a b d e : Bool}
+    → r ≡ liveness_lists s.args.components.now s.args.ports.now s.args.frontiers.now (a && (b && (d && e)))
     → a ≡ room_for (component_count s.args.components.now) 1 (length s.args.regions.now)
     → b ≡ room_for (component_count s.args.components.now * 2) 2 (length s.args.sources.now)
     → d ≡ room_for (component_count s.args.components.now * 4) 3 (length s.args.inputs.now)
@@ -42,7 +45,8 @@ abbrev enough : Start → Bool
 enough s =
     let n = component_count s.args.components.now in
     room_for n 1 (length s.args.regions.now)
-    && (room_for (n * 2) 2 (length s.args.sources.now) && (room_for (n * 4) 3 (length s.args.inputs.now) && room_for n 2 (length s.args.stack.now)))
+    && (room_for (n * 2) 2 (length s.args.sources.now)
+    && (room_for (n * 4) 3 (length s.args.inputs.now) && room_for n 2 (length s.args.stack.now)))
 
 -- ---- where they accept
 module _ (s : Start) (accepted : refusal s ≡ Accepted) where
@@ -76,7 +80,8 @@ module _ (s : Start) (accepted : refusal s ≡ Accepted) where
 pub analyze-requires : goal.analyze-requires
 analyze-requires c =
     let s = (goal.at.analyze-requires c).Start in
-    let e = sym (answer s c.liveness_lists-checked.ensures.lists.answer c.room_for.ensures c.room_for-2.ensures c.room_for-3.ensures c.room_for-4.ensures)
+    let e = sym (answer s c.liveness_lists-checked.ensures.lists.answer c.room_for.ensures c.room_for-2.ensures c.room_for-3.ensures
+    c.room_for-4.ensures)
     ∙ c.in-Accepted.is in
     let left = c.liveness_lists-checked.ensures in record {
       scene = (scene s e, (left.lists.table c.in-Accepted.is, left.ends c.in-Accepted.is));
@@ -87,27 +92,31 @@ pub returns-in-Refused : goal.returns-in-Refused
 returns-in-Refused c =
     let a = c.args in
     let s = (goal.at.returns-in-Refused c).Start in
-    let e = sym (answer s c.liveness_lists-checked.ensures.lists.answer c.room_for.ensures c.room_for-2.ensures c.room_for-3.ensures c.room_for-4.ensures)
+    let e = sym (answer s c.liveness_lists-checked.ensures.lists.answer c.room_for.ensures c.room_for-2.ensures c.room_for-3.ensures
+    c.room_for-4.ensures)
     ∙ c.in-Refused.is in
     analyzed_refused e (c.refused.ensures a.components.now a.ports.now a.frontiers.now a.regions.now a.sources.now a.inputs.now a.stack.now)
 
 pub returns-in-Accepted : goal.returns-in-Accepted
 returns-in-Accepted c =
     let s = (goal.at.returns-in-Accepted c).Start in
-    let e = sym (answer s c.liveness_lists-checked.ensures.lists.answer c.room_for.ensures c.room_for-2.ensures c.room_for-3.ensures c.room_for-4.ensures)
+    let e = sym (answer s c.liveness_lists-checked.ensures.lists.answer c.room_for.ensures c.room_for-2.ensures c.room_for-3.ensures
+    c.room_for-4.ensures)
     ∙ c.in-Accepted.is in
     analyzed_accepted e (scene s e) c.analyze.ensures
 
 pub slice_bounds-keys-end : goal.slice_bounds-keys-end
 slice_bounds-keys-end c =
     let s = (goal.at.slice_bounds-keys-end c).Start in
-    let e = sym (answer s c.liveness_lists-checked.ensures.lists.answer c.room_for.ensures c.room_for-2.ensures c.room_for-3.ensures c.room_for-4.ensures)
+    let e = sym (answer s c.liveness_lists-checked.ensures.lists.answer c.room_for.ensures c.room_for-2.ensures c.room_for-3.ensures
+    c.room_for-4.ensures)
     ∙ c.in-Accepted.is in
     long s e c.liveness_lists-checked.new.keys c.liveness_lists-checked.auto.keys
 
 pub slice_bounds-analyze-end : goal.slice_bounds-analyze-end
 slice_bounds-analyze-end c =
     let s = (goal.at.slice_bounds-analyze-end c).Start in
-    let e = sym (answer s c.liveness_lists-checked.ensures.lists.answer c.room_for.ensures c.room_for-2.ensures c.room_for-3.ensures c.room_for-4.ensures)
+    let e = sym (answer s c.liveness_lists-checked.ensures.lists.answer c.room_for.ensures c.room_for-2.ensures c.room_for-3.ensures
+    c.room_for-4.ensures)
     ∙ c.in-Accepted.is in
     sym (length-take-le _ c.liveness_lists-checked.new.keys (long s e c.liveness_lists-checked.new.keys c.liveness_lists-checked.auto.keys))

@@ -33,7 +33,8 @@ long : (c : In-Accepted)
     (n ≤ length c.grouping_lists-checked.new.keys) × (length (take n c.grouping_lists-checked.new.keys) ≡ n)
 long c =
     let keys = c.grouping_lists-checked.new.keys in
-    let h : component_count c.args.components.now ≤ length keys = omega (arith, (scene c).components.few, c.grouping_lists-checked.auto.keys) in
+    let h : component_count c.args.components.now ≤ length keys =
+    omega (arith, (scene c).components.few, c.grouping_lists-checked.auto.keys) in
     (h, length-take-le _ keys h)
 
 -- a place that is found is a component's
@@ -50,14 +51,14 @@ returns-in_default c =
 
 pub returns-then-id-gt-GREATEST_ID : goal.returns-then-id-gt-GREATEST_ID
 returns-then-id-gt-GREATEST_ID c =
+    let at = (goal.at.returns-then-id-gt-GREATEST_ID c).In-Accepted in
     record {
-      value = rw (accepted (goal.at.returns-then-id-gt-GREATEST_ID c).In-Accepted) (sym (id_past _ (scene (goal.at.returns-then-id-gt-GREATEST_ID c).In-Accepted).components _ c.if-id-gt-GREATEST_ID.true));
+      value = rw (accepted at) (sym (id_past _ (scene at).components _ c.if-id-gt-GREATEST_ID.true));
       place = tt;
     }
 
 pub returns : goal.returns
 returns c =
-    
     let cs = c.args.components.now in
     let e = c.place_of.ensures cs (c.grouping_lists-checked.ensures.table c.in-Accepted.is) in record {
       value = rw (accepted (goal.at.returns c).In-Accepted) e;

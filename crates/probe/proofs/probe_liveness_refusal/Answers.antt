@@ -2,24 +2,20 @@
 -- Assumes nothing.
 use mathlib.Core.Path.{◌≡◌, sym, ap, ◌∙◌, subst}
 use Rattle.lists.specs.declared.Checked.{Checked}
-use native.Mathlib.Omega.{arith}
 use Rattle.checks.specs.Refusals.{liveness_refusal, Small, packed}
 use Rattle.checks.proofs.Small.{liveness_small}
 use Rattle.probe.proofs.probe_liveness_refusal.Goals as goal
 use Rattle.probe.proofs.probe_liveness_refusal.Goals.{After-liveness_lists}
 
-answer : (c : After-liveness_lists) → c.liveness_lists.result ≡ liveness_refusal c.args.components.now c.args.ports.now c.args.frontiers.now c.args.regions c.args.sources c.args.inputs c.args.stack
+answer : (c : After-liveness_lists)
+    → c.liveness_lists.result ≡ liveness_refusal c.args.components.now c.args.ports.now c.args.frontiers.now
+    c.args.regions c.args.sources c.args.inputs c.args.stack
 answer c = cc c.liveness_lists.ensures.lists.answer
 
 pub pack-requires : goal.pack-requires
 pack-requires c =
-    subst (λ (x : Checked). Small x) (sym (answer (goal.at.pack-requires c).After-liveness_lists)) (liveness_small c.args.components.now c.args.ports.now c.args.frontiers.now _)
+    subst (λ (x : Checked). Small x) (sym (answer (goal.at.pack-requires c).After-liveness_lists))
+    (liveness_small c.args.components.now c.args.ports.now c.args.frontiers.now _)
 
 pub returns : goal.returns
 returns c = c.pack.ensures ∙ ap packed (answer (goal.at.returns c).After-liveness_lists)
-
-pub overflow_mul-count : goal.overflow_mul-count
-overflow_mul-count c = omega (arith, c.well-formed.0.1)
-
-pub overflow_mul-count-2 : goal.overflow_mul-count-2
-overflow_mul-count-2 c = omega (arith, c.well-formed.0.1)

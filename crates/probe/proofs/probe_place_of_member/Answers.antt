@@ -29,7 +29,8 @@ long : (c : In-Accepted)
     (n ≤ length c.grouping_lists-checked.new.keys) × (length (take n c.grouping_lists-checked.new.keys) ≡ n)
 long c =
     let keys = c.grouping_lists-checked.new.keys in
-    let h : component_count c.args.components.now ≤ length keys = omega (arith, (scene c).components.few, c.grouping_lists-checked.auto.keys) in
+    let h : component_count c.args.components.now ≤ length keys =
+    omega (arith, (scene c).components.few, c.grouping_lists-checked.auto.keys) in
     (h, length-take-le _ keys h)
 
 -- the place of the member
@@ -40,11 +41,10 @@ placed c =
 pub returns-in_default : goal.returns-in_default
 returns-in_default c =
     record {
-  refused = λ refusal e. refl;
-  past = λ h. refl;
-  found = λ e h. absurd (refused_not (sym c.in_default.is ∙ c.grouping_lists-checked.ensures.answer ∙ e));
-
-}
+      refused = λ refusal e. refl;
+      past = λ h. refl;
+      found = λ e h. absurd (refused_not (sym c.in_default.is ∙ c.grouping_lists-checked.ensures.answer ∙ e));
+    }
 
 pub returns-then-count-k : goal.returns-then-count-k
 returns-then-count-k c =
@@ -52,11 +52,11 @@ returns-then-count-k c =
 
 pub returns : goal.returns
 returns c =
-    
     record {
       refused = λ refusal e. absurd (refused_not (sym e ∙ accepted (goal.at.returns c).In-Accepted));
       past = λ h. absurd (omega (arith, c.if-count-k.false));
-      found = λ e h. (c.place_at.result, (add-one c.place_at.result, ((placed c).below, (placed c).member (scene (goal.at.returns c).In-Accepted).scene.once)));
+      found = λ e h.
+          (c.place_at.result, (add-one c.place_at.result, ((placed c).below, (placed c).member (scene (goal.at.returns c).In-Accepted).scene.once)));
     }
 
 pub slice_bounds-keys-end : goal.slice_bounds-keys-end

@@ -8,12 +8,14 @@ use Rattle.checks.proofs.Small.{grouping_small}
 use Rattle.probe.proofs.probe_ports_refusal.Goals as goal
 use Rattle.probe.proofs.probe_ports_refusal.Goals.{After-grouping_lists}
 
-answer : (c : After-grouping_lists) → c.grouping_lists.result ≡ ports_refusal c.args.components.now c.args.connections.now c.args.ports
+answer : (c : After-grouping_lists)
+    → c.grouping_lists.result ≡ ports_refusal c.args.components.now c.args.connections.now c.args.ports
 answer c = cc c.grouping_lists.ensures.answer
 
 pub pack-requires : goal.pack-requires
 pack-requires c =
-    subst (λ (x : Checked). Small x) (sym (answer (goal.at.pack-requires c).After-grouping_lists)) (grouping_small c.args.components.now c.args.connections.now [] _)
+    subst (λ (x : Checked). Small x) (sym (answer (goal.at.pack-requires c).After-grouping_lists))
+    (grouping_small c.args.components.now c.args.connections.now [] _)
 
 pub returns : goal.returns
 returns c = c.pack.ensures ∙ ap packed (answer (goal.at.returns c).After-grouping_lists)

@@ -7,12 +7,14 @@ use Rattle.checks.proofs.Small.{liveness_small}
 use Rattle.probe.proofs.probe_query_refusal.Goals as goal
 use Rattle.probe.proofs.probe_query_refusal.Goals.{After-liveness_lists}
 
-answer : (c : After-liveness_lists) → c.liveness_lists.result ≡ query_refusal c.args.components.now c.args.ports.now c.args.frontiers.now c.args.stack
+answer : (c : After-liveness_lists)
+    → c.liveness_lists.result ≡ query_refusal c.args.components.now c.args.ports.now c.args.frontiers.now c.args.stack
 answer c = cc c.liveness_lists.ensures.lists.answer
 
 pub pack-requires : goal.pack-requires
 pack-requires c =
-    subst (λ (x : Checked). Small x) (sym (answer (goal.at.pack-requires c).After-liveness_lists)) (liveness_small c.args.components.now c.args.ports.now c.args.frontiers.now _)
+    subst (λ (x : Checked). Small x) (sym (answer (goal.at.pack-requires c).After-liveness_lists))
+    (liveness_small c.args.components.now c.args.ports.now c.args.frontiers.now _)
 
 pub returns : goal.returns
 returns c = c.pack.ensures ∙ ap packed (answer (goal.at.returns c).After-liveness_lists)

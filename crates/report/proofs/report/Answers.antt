@@ -1,4 +1,5 @@
--- `report::report` meets its contract: the lists that were read are the fronts of the work lists, and these are cleared once they are printed.
+-- `report::report` meets its contract: the lists that were read are the fronts of the work lists, and these are cleared
+-- once they are printed.
 -- Assumes nothing.
 use mathlib.Core.Path.{sym}
 use native.Mathlib.Omega.{arith}

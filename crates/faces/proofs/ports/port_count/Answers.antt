@@ -22,15 +22,21 @@ returns-in-8 c = rw (count_tabled, c.in-8.is)
 
 pub returns-in-5 : goal.returns-in-5
 returns-in-5 c =
-    let a = c.args in rw (count_tabled, repeater_kind a.kind a.facing a.support a.conducts (omega arith) (omega arith)) (sym (repeater_seven a.facing (omega arith) (omega arith)))
+    let a = c.args in rw (count_tabled, repeater_kind a.kind a.facing a.support a.conducts (omega arith) (omega arith))
+    (sym (repeater_seven a.facing (omega arith) (omega arith)))
 
 pub returns-in_default-facing : goal.returns-in_default-facing
 returns-in_default-facing c =
-    let a = c.args in rw (count_tabled, repeater_kind a.kind a.facing a.support a.conducts (omega arith) (omega arith)) (sym (repeater_five a.facing (omega arith)))
+    let a = c.args in rw (count_tabled, repeater_kind a.kind a.facing a.support a.conducts (omega arith) (omega arith))
+    (sym (repeater_five a.facing (omega arith)))
 
 pub returns-in_default-facing-2 : goal.returns-in_default-facing-2
 returns-in_default-facing-2 c =
-    let a = c.args in rw (count_tabled, repeater_kind a.kind a.facing a.support a.conducts (omega arith) (omega arith), face_or_above 1 a.facing (omega arith))
+    let a = c.args in rw (
+      count_tabled,
+      repeater_kind a.kind a.facing a.support a.conducts (omega arith) (omega arith),
+      face_or_above 1 a.facing (omega arith),
+    )
 
 pub returns-in-4 : goal.returns-in-4
 returns-in-4 c =
@@ -42,7 +48,8 @@ returns-then-conducts-eq1 c =
 
 pub returns-else-conducts-eq1 : goal.returns-else-conducts-eq1
 returns-else-conducts-eq1 c =
-    let a = c.args in rw (count_tabled, solid_kind a.kind a.facing a.support a.conducts (omega arith) (omega arith), ne_eqb _ 1 c.if-conducts-eq1.false)
+    let a = c.args in
+    rw (count_tabled, solid_kind a.kind a.facing a.support a.conducts (omega arith) (omega arith), ne_eqb _ 1 c.if-conducts-eq1.false)
 
 pub returns-in_default : goal.returns-in_default
 returns-in_default c = let a = c.args in rw (count_tabled, no_kind a.kind a.facing a.support a.conducts (omega arith))

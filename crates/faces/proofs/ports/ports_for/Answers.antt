@@ -21,7 +21,8 @@ returns-in-8 c = rw (rows_tabled, c.in-8.is, c.with_face-in-8.ensures, c.face_or
 
 pub returns-in-1 : goal.returns-in-1
 returns-in-1 c =
-    let a = c.args in rw (rows_tabled, repeater_kind a.kind a.facing a.support a.conducts (omega arith) (omega arith)) (c.repeater_ports.ensures ∙ repeater_rows a.facing)
+    let a = c.args in rw (rows_tabled, repeater_kind a.kind a.facing a.support a.conducts (omega arith) (omega arith))
+    (c.repeater_ports.ensures ∙ repeater_rows a.facing)
 
 pub returns-in-4 : goal.returns-in-4
 returns-in-4 c =
@@ -33,7 +34,8 @@ returns-then-conducts-eq1 c =
 
 pub returns-else-conducts-eq1 : goal.returns-else-conducts-eq1
 returns-else-conducts-eq1 c =
-    let a = c.args in rw (rows_tabled, solid_kind a.kind a.facing a.support a.conducts (omega arith) (omega arith), ne_eqb _ 1 c.if-conducts-eq1.false)
+    let a = c.args in
+    rw (rows_tabled, solid_kind a.kind a.facing a.support a.conducts (omega arith) (omega arith), ne_eqb _ 1 c.if-conducts-eq1.false)
 
 pub returns-in_default : goal.returns-in_default
 returns-in_default c = let a = c.args in rw (rows_tabled, no_kind a.kind a.facing a.support a.conducts (omega arith))

@@ -27,7 +27,8 @@ whole ports count face outgoing kind n e = ap (first_from (test ports count face
 pub loop-i-init : goal.loop-i-init
 loop-i-init c =
     let a = c.args in
-    whole a.ports a.count a.face a.outgoing a.kind (c.least-end.result - 0) (omega (arith, ports_long a.ports a.count, long c.before, c.least-end.ensures))
+    whole a.ports a.count a.face a.outgoing a.kind (c.least-end.result - 0)
+    (omega (arith, ports_long a.ports a.count, long c.before, c.least-end.ensures))
 
 -- what the call says of the port at i
 tested : (c : After-port_serves)
@@ -39,11 +40,13 @@ tested c =
 
 pub returns-then-port_serves : goal.returns-then-port_serves
 returns-then-port_serves c =
-    sym (first_here _ _ _ c.loop-i-test.true (sym (tested (goal.at.returns-then-port_serves c).After-port_serves) ∙ c.if-port_serves.true)) ∙ c.loop-i.invariant
+    sym (first_here _ _ _ c.loop-i-test.true
+    (sym (tested (goal.at.returns-then-port_serves c).After-port_serves) ∙ c.if-port_serves.true)) ∙ c.loop-i.invariant
 
 pub loop-i-preserved : goal.loop-i-preserved
 loop-i-preserved c =
-    sym (first_later _ _ _ c.loop-i-test.true (sym (tested (goal.at.loop-i-preserved c).After-port_serves) ∙ c.if-port_serves.false)) ∙ c.loop-i.invariant
+    sym (first_later _ _ _ c.loop-i-test.true (sym (tested (goal.at.loop-i-preserved c).After-port_serves) ∙ c.if-port_serves.false))
+    ∙ c.loop-i.invariant
 
 pub returns : goal.returns
 returns c = sym (first_none _ _ _ c.loop-i-test.false) ∙ c.loop-i.invariant

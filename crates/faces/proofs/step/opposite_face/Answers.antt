@@ -31,4 +31,5 @@ returns-in-6 c = rw c.in-6.is
 
 pub returns-in_default : goal.returns-in_default
 returns-in_default c =
-    opposite_none c.args.face (λ e. omega arith) (λ e. omega arith) (λ e. omega arith) (λ e. omega arith) (λ e. omega arith) (λ e. omega arith)
+    opposite_none c.args.face (λ e. omega arith) (λ e. omega arith) (λ e. omega arith) (λ e. omega arith) (λ e. omega arith)
+    (λ e. omega arith)

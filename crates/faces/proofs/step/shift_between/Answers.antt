@@ -23,7 +23,8 @@ difference_read : (source sink : ℤ) → SFits w64 source → SFits w64 sink �
 difference_read source sink f g = rw (to_z-of_z f, to_z-of_z g)
 
 -- the test
-tested : (source sink : ℤ) (p q : Bool) → SFits w64 source → SFits w64 sink → p ≡ is_coordinate (read source) → q ≡ is_coordinate (read sink)
+tested : (source sink : ℤ) (p q : Bool) → SFits w64 source → SFits w64 sink → p ≡ is_coordinate (read source)
+    → q ≡ is_coordinate (read sink)
     → (p && q) ≡ (is_coordinate source && is_coordinate sink)
 tested source sink p q f g e d = rw (e, d, to_z-of_z f, to_z-of_z g)
 
@@ -36,7 +37,8 @@ between source sink f g e = rw e (ap shift (sym (difference_read source sink f g
 module _ (c : Else-not-is_coordinate) where
   inside : (is_coordinate c.args.source && is_coordinate c.args.sink) ≡ true
   inside =
-      sym (tested c.args.source c.args.sink _ _ c.ranges.source c.ranges.sink c.is_coordinate.ensures c.is_coordinate-2.ensures) ∙ c.if-not-is_coordinate.false
+      sym (tested c.args.source c.args.sink _ _ c.ranges.source c.ranges.sink c.is_coordinate.ensures c.is_coordinate-2.ensures)
+      ∙ c.if-not-is_coordinate.false
 
   subtracts : SFits w64 (read c.args.sink -ℤ read c.args.source)
   subtracts =

@@ -41,7 +41,8 @@ slot_sources-requires c =
     let s = (goal.at.slot_sources-requires c).Start in
     let a = c.args in
     let row = row_found (cs s) a.id a.port (sym c.row_place-place.ensures ∙ c.in-At.is) in
-    let q = slot_asked (row_slot (ready s).fed_scene row (c.member_of.ensures (cs s) s.requires.id_table)) (length a.labels.now) (ready_nodes (ready s)) in record {
+    let q = slot_asked (row_slot (ready s).fed_scene row (c.member_of.ensures (cs s) s.requires.id_table)) (length a.labels.now)
+    (ready_nodes (ready s)) in record {
       ascending = (q.0.0, (q.0.1, q.1.0));
       indices = (ready_labels (ready s), (omega (arith, ready_nodes (ready s), (within s).few), (ready s).rows_long));
     }
@@ -52,13 +53,15 @@ returns-in-At c ps fs r =
     let a = c.args in
     let found = sym c.row_place-place.ensures ∙ c.in-At.is in
     sets_at a.id found
-    (port_sets r (row_slot r.fed_scene (row_found cs a.id a.port found) (c.member_of.ensures cs c.requires.id_table)) c.slot_sources.ensures)
+    (port_sets r (row_slot r.fed_scene (row_found cs a.id a.port found) (c.member_of.ensures cs c.requires.id_table))
+    c.slot_sources.ensures)
 
 pub returns-in-Nothing : goal.returns-in-Nothing
 returns-in-Nothing c ps fs r =
     let a = c.args in
     let none = c.no_sources.ensures a.components.now ps fs a.port [] (λ i. refl) in
-    sets_at a.id (sym c.row_place-place.ensures ∙ c.in-Nothing.is) (record { immediate_set = none.immediate_set; inferred_set = none.inferred_set })
+    sets_at a.id (sym c.row_place-place.ensures ∙ c.in-Nothing.is)
+    (record { immediate_set = none.immediate_set; inferred_set = none.inferred_set })
 
 pub row_place-place-requires : goal.row_place-place-requires
 row_place-place-requires c = (within (goal.at.row_place-place-requires c).Start, c.requires.id_table)
@@ -71,4 +74,5 @@ overflow_mul-member_of c =
 pub overflow_add-member_of : goal.overflow_add-member_of
 overflow_add-member_of c =
     let s = (goal.at.overflow_add-member_of c).Start in
-    let m = member_small s (sym c.row_place-place.ensures ∙ c.in-At.is) (c.member_of.ensures (cs s) c.requires.id_table) in omega (arith, m.0, m.1)
+    let m = member_small s (sym c.row_place-place.ensures ∙ c.in-At.is) (c.member_of.ensures (cs s) c.requires.id_table) in
+    omega (arith, m.0, m.1)

@@ -70,7 +70,8 @@ find_inputs-requires c =
 abbrev flags_rest : Start → List Bool
 flags_rest s = drop (nodes s) (replicate component_limit false)
 
-flags_long : (s : Start) (flags : List Bool) → length flags ≡ length (take (nodes s) (replicate component_limit false)) → length flags ≡ nodes s
+flags_long : (s : Start) (flags : List Bool) → length flags ≡ length (take (nodes s) (replicate component_limit false))
+    → length flags ≡ nodes s
 flags_long s flags e = e ∙ flags-lent s
 
 -- the array of which the edges backward had the front
@@ -110,7 +111,17 @@ upstream_rows-requires c =
     record {
       indices = (
         labels_below s c.find_inputs.new.labels c.find_inputs.ensures.prepared.labels_are,
-        (omega (arith, c.find_inputs.auto.labels, c.requires.fed_len.1.0, few s), omega (arith, c.find_inputs.auto.labels, c.requires.fed_len.1.0, all s, front_length _ c.find_inputs.new.inferred (flags_rest s) (flags_long s c.find_inputs.new.inferred c.find_inputs.auto.inferred))),
+        (
+          omega (arith, c.find_inputs.auto.labels, c.requires.fed_len.1.0, few s),
+          omega (
+            arith,
+            c.find_inputs.auto.labels,
+            c.requires.fed_len.1.0,
+            all s,
+            front_length _ c.find_inputs.new.inferred (flags_rest s)
+                (flags_long s c.find_inputs.new.inferred c.find_inputs.auto.inferred),
+          ),
+        ),
       );
       keys_below = (c.find_crossings-count.ensures.below, c.requires.upstream_len);
     }
@@ -127,7 +138,9 @@ returns c =
         labels_are = p.labels_are;
         keys = take crossed.result crossed.new.keys;
         pairs = crossings_of (regions_of_lem c.requires.scene.0 p) crossed.ensures.pairs;
-        rows = rows_as p.labels_are (front _ c.find_inputs.new.inferred (flags_rest s) (flags_long s c.find_inputs.new.inferred c.find_inputs.auto.inferred) ∙ e.inferred_are) up.ensures;
+        rows = rows_as p.labels_are
+            (front _ c.find_inputs.new.inferred (flags_rest s) (flags_long s c.find_inputs.new.inferred c.find_inputs.auto.inferred)
+            ∙ e.inferred_are) up.ensures;
         rows_long = up.auto.rows ∙ c.requires.upstream_len.0;
       },
       e.stack_zeros,

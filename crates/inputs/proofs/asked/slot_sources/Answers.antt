@@ -32,20 +32,23 @@ loop-at-preserved c =
     let l = c.loop-at in
     let a = c.args in (
       omega (arith, l.invariant.0),
-      sought_more a.fed.now a.slot a.labels.now a.upstream.now _ l.invariant.1 c.loop-at-test.true c.if-key-slot.false (node (goal.at.loop-at-preserved c).Else-key-slot) _
+      sought_more a.fed.now a.slot a.labels.now a.upstream.now _ l.invariant.1 c.loop-at-test.true c.if-key-slot.false
+          (node (goal.at.loop-at-preserved c).Else-key-slot) _
           c.insert-immediate.ensures c.add_row-inferred.ensures,
     )
 
 pub returns-then-key-slot : goal.returns-then-key-slot
 returns-then-key-slot c =
     let r = c.answer_of.ensures in
-    slot_sets c.requires.ascending.0 c.lower_bound-at.ensures c.requires.indices.1.0 c.loop-at.invariant.1 c.loop-at.invariant.0 (λ h. c.if-key-slot.true)
+    slot_sets c.requires.ascending.0 c.lower_bound-at.ensures c.requires.indices.1.0 c.loop-at.invariant.1 c.loop-at.invariant.0
+    (λ h. c.if-key-slot.true)
     r.0 (ap (λ (x : ComponentSet). x.words) r.1.0) (ap (λ (x : ComponentSet). x.words) r.1.1)
 
 pub returns : goal.returns
 returns c =
     let r = c.answer_of-2.ensures in
-    slot_sets c.requires.ascending.0 c.lower_bound-at.ensures c.requires.indices.1.0 c.loop-at.invariant.1 c.loop-at.invariant.0 (λ h. absurd (omega (arith, c.loop-at-test.false)))
+    slot_sets c.requires.ascending.0 c.lower_bound-at.ensures c.requires.indices.1.0 c.loop-at.invariant.1 c.loop-at.invariant.0
+    (λ h. absurd (omega (arith, c.loop-at-test.false)))
     r.0 (ap (λ (x : ComponentSet). x.words) r.1.0) (ap (λ (x : ComponentSet). x.words) r.1.1)
 
 pub overflow_mul-slot : goal.overflow_mul-slot

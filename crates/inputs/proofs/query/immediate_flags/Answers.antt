@@ -16,20 +16,29 @@ loop-at-init c =
 -- a key of the slot has a flag
 room : (c : Else-key-slot) → get_or c.args.keys.now c.loop-at.at 0 % span < length c.loop-at.flags
 room c =
-    omega (arith, c.loop-at.invariant.1 ∙ c.clear_flags.auto.flags, c.requires.slot_within.0.below c.loop-at.at c.loop-at-test.true c.if-key-slot.false)
+    omega (
+      arith,
+      c.loop-at.invariant.1 ∙ c.clear_flags.auto.flags,
+      c.requires.slot_within.0.below c.loop-at.at c.loop-at-test.true c.if-key-slot.false,
+    )
 
 pub loop-at-preserved : goal.loop-at-preserved
 loop-at-preserved c =
-    let l = c.loop-at in
-    (omega (arith, l.invariant.0), simp length-set l.invariant.1, flagged_more l.invariant.2 c.loop-at-test.true c.if-key-slot.false (room c))
+    let l = c.loop-at in (
+      omega (arith, l.invariant.0),
+      simp length-set l.invariant.1,
+      flagged_more l.invariant.2 c.loop-at-test.true c.if-key-slot.false (room c),
+    )
 
 pub returns-then-key-slot : goal.returns-then-key-slot
 returns-then-key-slot c =
-    flagged_all c.requires.ascending.0 c.lower_bound-at.ensures c.loop-at.invariant.2 c.loop-at.invariant.0 (λ h. c.if-key-slot.true) (c.loop-at.invariant.1 ∙ c.clear_flags.auto.flags) c.requires.slot_within.1
+    flagged_all c.requires.ascending.0 c.lower_bound-at.ensures c.loop-at.invariant.2 c.loop-at.invariant.0 (λ h. c.if-key-slot.true)
+    (c.loop-at.invariant.1 ∙ c.clear_flags.auto.flags) c.requires.slot_within.1
 
 pub returns : goal.returns
 returns c =
-    flagged_all c.requires.ascending.0 c.lower_bound-at.ensures c.loop-at.invariant.2 c.loop-at.invariant.0 (λ h. absurd (omega (arith, c.loop-at-test.false))) (c.loop-at.invariant.1 ∙ c.clear_flags.auto.flags) c.requires.slot_within.1
+    flagged_all c.requires.ascending.0 c.lower_bound-at.ensures c.loop-at.invariant.2 c.loop-at.invariant.0
+    (λ h. absurd (omega (arith, c.loop-at-test.false))) (c.loop-at.invariant.1 ∙ c.clear_flags.auto.flags) c.requires.slot_within.1
 
 pub overflow_mul-slot : goal.overflow_mul-slot
 overflow_mul-slot c = omega (arith, c.requires.ascending.1)

@@ -30,8 +30,10 @@ flag_inferred-requires c =
 pub gather-requires : goal.gather-requires
 gather-requires c =
     let s = (goal.at.gather-requires c).Start in
-    let scene = c.requires.prepared_scene.1 in
-    (indices_same (sym c.requires.inferred_len) (members_below (cs s) scene.prepared.members_are), omega (arith, scene.scene.components.few, c.flag_inferred.auto.inferred))
+    let scene = c.requires.prepared_scene.1 in (
+      indices_same (sym c.requires.inferred_len) (members_below (cs s) scene.prepared.members_are),
+      omega (arith, scene.scene.components.few, c.flag_inferred.auto.inferred),
+    )
 
 pub returns : goal.returns
 returns c ps r =

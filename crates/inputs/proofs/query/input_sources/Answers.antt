@@ -53,10 +53,12 @@ keys_rest s = drop (edge_count s) (replicate connection_limit 0)
 abbrev flags_rest : Start → List Bool
 flags_rest s = drop (nodes s) (replicate component_limit false)
 
-keys_long : (s : Start) (keys : List ℕ) → length keys ≡ length {A = ℕ} (take (edge_count s) (replicate connection_limit 0)) → length keys ≡ edge_count s
+keys_long : (s : Start) (keys : List ℕ) → length keys ≡ length {A = ℕ} (take (edge_count s) (replicate connection_limit 0))
+    → length keys ≡ edge_count s
 keys_long s keys e = e ∙ keys-lent s
 
-flags_long : (s : Start) (flags : List Bool) → length flags ≡ length (take (nodes s) (replicate component_limit false)) → length flags ≡ nodes s
+flags_long : (s : Start) (flags : List Bool) → length flags ≡ length (take (nodes s) (replicate component_limit false))
+    → length flags ≡ nodes s
 flags_long s flags e = e ∙ flags-lent s
 
 -- ---- the port by its slot
@@ -75,7 +77,10 @@ member_is s e d = e ∙ ap (smaller_ids (cs s)) d
 member_small : (s : Start) {m : ℕ} → m ≡ member_of (cs s) s.args.p → m < component_limit
 member_small s e = omega (arith, member_below (cs s) s.args.p s.requires.p_bound.0, s.requires.scene.0.components.few)
 
-walk_is : (s : Start) {fed backward : List ℕ} {flags : List Bool} → length fed ≡ length {A = ℕ} (take (edge_count s) (replicate connection_limit 0)) → length backward ≡ length {A = ℕ} (take (edge_count s) (replicate connection_limit 0)) → length flags ≡ length (take (nodes s) (replicate component_limit false))
+walk_is : (s : Start) {fed backward : List ℕ} {flags : List Bool}
+    → length fed ≡ length {A = ℕ} (take (edge_count s) (replicate connection_limit 0))
+    → length backward ≡ length {A = ℕ} (take (edge_count s) (replicate connection_limit 0))
+    → length flags ≡ length (take (nodes s) (replicate component_limit false))
     → Walkable (cs s) s.args.ports.now s.args.frontiers.now fed backward flags
     → Walkable (cs s) s.args.ports.now s.args.frontiers.now (take (edge_count s) (fed ++ keys_rest s)) (take (edge_count s) (backward ++ keys_rest s))
     (take (nodes s) (flags ++ flags_rest s))
@@ -104,7 +109,13 @@ row_sources-requires c =
     record {
       by_index = (cs s, a.ports.now, a.frontiers.now, a.p, a.port, (walk, slot_at s m walk));
       inferred_in_bounds = (
-        omega (arith, front_length _ w.new.inferred (flags_rest s) (flags_long s w.new.inferred w.auto.inferred), all s, s.requires.p_bound.1.1, w.auto.stack),
+        omega (
+          arith,
+          front_length _ w.new.inferred (flags_rest s) (flags_long s w.new.inferred w.auto.inferred),
+          all s,
+          s.requires.p_bound.1.1,
+          w.auto.stack,
+        ),
         w.ensures.1,
       );
     }
@@ -169,7 +180,11 @@ overflow_mul-slot c =
 pub overflow_add-slot : goal.overflow_add-slot
 overflow_add-slot c =
     let s = (goal.at.overflow_add-slot c).Start in
-    omega (arith, member_small s (member_is s (c.member_of.ensures (cs s) c.requires.scene.1.0) c.natural_at.ensures), (s).requires.p_bound.1.0)
+    omega (
+      arith,
+      member_small s (member_is s (c.member_of.ensures (cs s) c.requires.scene.1.0) c.natural_at.ensures),
+      s.requires.p_bound.1.0,
+    )
 
 pub slice_bounds-fed-end-2 : goal.slice_bounds-fed-end-2
 slice_bounds-fed-end-2 c =

@@ -20,10 +20,12 @@ abbrev nodes : Start → ℕ
 nodes s = length s.args.inferred.now
 
 -- the scene and its port
-abbrev walk : (s : Start) → Walkable s.requires.by_index.0 s.requires.by_index.1 s.requires.by_index.2 s.args.fed.now s.args.backward.now s.args.inferred.now
+abbrev walk : (s : Start)
+    → Walkable s.requires.by_index.0 s.requires.by_index.1 s.requires.by_index.2 s.args.fed.now s.args.backward.now s.args.inferred.now
 walk s = s.requires.by_index.5.0
 
-abbrev asked : (s : Start) → SlotOf s.requires.by_index.0 s.requires.by_index.1 s.requires.by_index.3 s.requires.by_index.4 s.args.fed.now s.args.slot
+abbrev asked : (s : Start)
+    → SlotOf s.requires.by_index.0 s.requires.by_index.1 s.requires.by_index.3 s.requires.by_index.4 s.args.fed.now s.args.slot
 asked s = s.requires.by_index.5.1
 
 small : (s : Start) → nodes s ≤ component_limit
@@ -35,7 +37,8 @@ lent s = length-take-le _ _ (small s)
 -- nothing feeds the slot
 pub returns-then-not-is_fed : goal.returns-then-not-is_fed
 returns-then-not-is_fed c cs ps fs p port w q =
-    none_fed w q (sym c.is_fed.ensures ∙ c.if-not-is_fed.true) (c.no_sources.ensures cs ps fs port c.args.stack.now c.requires.inferred_in_bounds.1)
+    none_fed w q (sym c.is_fed.ensures ∙ c.if-not-is_fed.true)
+    (c.no_sources.ensures cs ps fs port c.args.stack.now c.requires.inferred_in_bounds.1)
 
 -- the flags of the nodes, lent from the front of an array
 abbrev rest : Start → List Bool
@@ -76,8 +79,10 @@ returns c cs ps fs p port w q =
     record {
       answer = refl;
       stack_left = zeros_cleared _ u.ensures.stack_zeros ∙ ap (λ (k : ℕ). replicate k 0) u.auto.stack;
-      immediate_set = immediate_set w q (long s c.immediate_flags.new.flags c.immediate_flags.auto.flags) given (front_is s c.immediate_flags.new.flags c.immediate_flags.auto.flags) c.of_flags.ensures;
-      inferred_set = inferred_set w q (long s c.immediate_flags.new.flags c.immediate_flags.auto.flags) given (front_is s c.immediate_flags.new.flags c.immediate_flags.auto.flags) u.ensures;
+      immediate_set = immediate_set w q (long s c.immediate_flags.new.flags c.immediate_flags.auto.flags) given
+          (front_is s c.immediate_flags.new.flags c.immediate_flags.auto.flags) c.of_flags.ensures;
+      inferred_set = inferred_set w q (long s c.immediate_flags.new.flags c.immediate_flags.auto.flags) given
+          (front_is s c.immediate_flags.new.flags c.immediate_flags.auto.flags) u.ensures;
     }
 
 pub is_fed-requires : goal.is_fed-requires

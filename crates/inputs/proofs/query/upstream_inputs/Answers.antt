@@ -62,7 +62,9 @@ pub returns : goal.returns
 returns c =
     let s = (goal.at.returns c).Start in
     record {
-      set = set_where (omega arith) c.of_flags.ensures (both_flags c.args.inferred.now (front_is s c.reach_from.new.visited c.reach_from.auto.visited ∙ c.reach_from.ensures.visited_is) c.and_flags.ensures);
+      set = set_where (omega arith) c.of_flags.ensures
+          (both_flags c.args.inferred.now
+          (front_is s c.reach_from.new.visited c.reach_from.auto.visited ∙ c.reach_from.ensures.visited_is) c.and_flags.ensures);
       stack_zeros = c.reach_from.ensures.stack_zeros;
     }
 

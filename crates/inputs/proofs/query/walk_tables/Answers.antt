@@ -42,7 +42,10 @@ find_inputs-requires c =
 pub build_fed-requires : goal.build_fed-requires
 build_fed-requires c =
     let p = c.find_inputs.ensures.prepared in record {
-      port_connections = (c.requires.scene.0.connections, (c.args.components.now, (c.requires.scene.0.components.few, (p.tables.source_members, p.tables.sink_members))));
+      port_connections = (
+        c.requires.scene.0.connections,
+        (c.args.components.now, (c.requires.scene.0.components.few, (p.tables.source_members, p.tables.sink_members))),
+      );
       ports_in_bounds = (p.sources_long, (p.sinks_long, c.find_inputs.auto.forward ∙ c.requires.fed_len.0));
     }
 

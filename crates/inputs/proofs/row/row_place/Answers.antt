@@ -17,13 +17,19 @@ looked : (c : After-place_of-place) → c.place_of-place.result ≡ place_of c.a
 looked c = c.place_of-place.ensures c.args.components.now c.requires.1
 
 pub with_row-requires : goal.with_row-requires
-with_row-requires c =
-    (c.requires.0, place_below_lem c.args.components.now c.args.id (sym (looked (goal.at.with_row-requires c).After-place_of-place) ∙ c.in-At.is))
+with_row-requires c = (
+  c.requires.0,
+  place_below_lem c.args.components.now c.args.id
+      (sym (looked (goal.at.with_row-requires c).After-place_of-place) ∙ c.in-At.is),
+)
 
 pub returns-in-At : goal.returns-in-At
 returns-in-At c =
-    c.with_row.ensures ∙ sym (row_place_lem c.args.components.now c.args.id c.args.port (sym (looked (goal.at.returns-in-At c).After-place_of-place) ∙ c.in-At.is))
+    c.with_row.ensures ∙ sym
+    (row_place_lem c.args.components.now c.args.id c.args.port
+    (sym (looked (goal.at.returns-in-At c).After-place_of-place) ∙ c.in-At.is))
 
 pub returns-in-Nothing : goal.returns-in-Nothing
 returns-in-Nothing c =
-    sym (row_place_lem c.args.components.now c.args.id c.args.port (sym (looked (goal.at.returns-in-Nothing c).After-place_of-place) ∙ c.in-Nothing.is))
+    sym (row_place_lem c.args.components.now c.args.id c.args.port
+    (sym (looked (goal.at.returns-in-Nothing c).After-place_of-place) ∙ c.in-Nothing.is))

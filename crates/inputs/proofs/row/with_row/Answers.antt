@@ -25,7 +25,8 @@ row : (c : After-has_row)
     → let k = component c.args.components.now c.args.p in c.has_row.result ≡ (ltb c.args.port (length (ports_of k)) && is_required k c.args.port)
 row c =
     c.has_row.ensures
-    ∙ ap (λ (kind : ℕ). leb (first_required kind) c.args.port && ltb c.args.port (first_required kind + required_count kind)) c.natural_at-kind.ensures
+    ∙ ap (λ (kind : ℕ). leb (first_required kind) c.args.port && ltb c.args.port (first_required kind + required_count kind))
+    c.natural_at-kind.ensures
     ∙ row_of (component c.args.components.now c.args.p) c.args.port
 
 pub returns-then-has_row : goal.returns-then-has_row

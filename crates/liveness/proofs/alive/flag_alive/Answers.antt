@@ -67,7 +67,8 @@ possible_regions-requires c =
     }
 
 -- the keys that were found
-lent : (c : After-find_crossings-count) → length (take c.find_crossings-count.result c.find_crossings-count.new.keys) ≡ c.find_crossings-count.result
+lent : (c : After-find_crossings-count)
+    → length (take c.find_crossings-count.result c.find_crossings-count.new.keys) ≡ c.find_crossings-count.result
 lent c = length-take-le _ _ c.find_crossings-count.ensures.few
 
 keys_as : {m n : ℕ} {keys : List ℕ} → m ≡ n → KeysBelow m keys → KeysBelow n keys
@@ -98,7 +99,8 @@ returns c cs ps fs r driven inferred =
       at = λ k h. copied.ensures.at k (omega (arith, room.regions_room)) ∙ driven.at k h;
     } in
     let joined : Flags component_limit
-    (λ k. marked c.args.has_drive.now k || some (λ p. marked c.args.inferred.now p && eqb (get_or c.args.region_at.now p 0) k) (component_count cs))
+    (λ k. marked c.args.has_drive.now k || some (λ p. marked c.args.inferred.now p && eqb (get_or c.args.region_at.now p 0) k)
+    (component_count cs))
     possible.new.possible =
     rw (all r) at possible.ensures in
     record {

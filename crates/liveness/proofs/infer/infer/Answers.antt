@@ -38,7 +38,8 @@ loop-p-preserved c =
     let a = c.args in (
       omega (arith, c.loop-p-test.true),
       simp length-set l.invariant.1,
-      stored false (inferred_by a.components.now a.members.now a.region_at.now a.has_drive.now a.fed.now a.forward.now a.backward.now a.labels.now) l.flags l.p _ (room (goal.at.loop-p-preserved c).In-loop-p) l.invariant.2
+      stored false (inferred_by a.components.now a.members.now a.region_at.now a.has_drive.now a.fed.now a.forward.now a.backward.now
+          a.labels.now) l.flags l.p _ (room (goal.at.loop-p-preserved c).In-loop-p) l.invariant.2
           c.is_inferred.ensures,
     )
 

@@ -68,7 +68,14 @@ long s marks e = e ∙ length-take-le _ _ (small s)
 whole : (s : Start) (marks : List Bool) → length marks ≡ length (take (length s.args.labels.now) (replicate component_limit false))
     → length (marks ++ rest s) ≡ component_limit
 whole s marks e =
-    omega (arith, length-append marks (rest s), long s marks e, small s, length-drop (length s.args.labels.now) (replicate component_limit false))
+    omega (
+      arith,
+      length-append marks (rest s),
+      long s marks e,
+      small s,
+      length-drop (length s.args.labels.now)
+          (replicate component_limit false),
+    )
 
 pub slice_bounds-flag_outside-end : goal.slice_bounds-flag_outside-end
 slice_bounds-flag_outside-end c = sym (whole (goal.at.slice_bounds-flag_outside-end c).Start c.gather.new.out c.gather.auto.out)
@@ -76,7 +83,8 @@ slice_bounds-flag_outside-end c = sym (whole (goal.at.slice_bounds-flag_outside-
 labels-below : (c : Start) → Indices (length c.args.labels.now) (length c.args.fed.now) c.args.labels.now
 labels-below c =
     subst (λ (l : List ℕ). Indices (length l) (length c.args.fed.now) l) (sym (scene c).prepared.labels_are)
-    (labels_under c.args.components.now c.requires.by_index.0 (scene c).scene.ends _ (omega (arith, (scene c).scene.components.few, c.requires.fed_len)))
+    (labels_under c.args.components.now c.requires.by_index.0 (scene c).scene.ends _
+    (omega (arith, (scene c).scene.components.few, c.requires.fed_len)))
 
 pub flag_outside-requires : goal.flag_outside-requires
 flag_outside-requires c =
@@ -91,5 +99,6 @@ returns c ps backward region_of r =
     let s = (goal.at.returns c).Start in
     let p = r.prepared in
     let all = labels_long r.scene p in
-    fed_is r.scene p.tables.source_members p.tables.sink_members p.tables.forward_keys p.labels_are p.members_are (rest s) c.passive_flags.ensures
+    fed_is r.scene p.tables.source_members p.tables.sink_members p.tables.forward_keys p.labels_are p.members_are (rest s)
+    c.passive_flags.ensures
     (long s c.gather.new.out c.gather.auto.out ∙ all) (gathered_same all c.gather.ensures) c.requires.fed_len c.flag_outside.ensures

@@ -23,7 +23,10 @@ use Rattle.liveness.proofs.prepare.prepare.Goals.{Start}
 pub build_tables-requires : goal.build_tables-requires
 build_tables-requires c =
     let room = c.requires.prepared_room in record {
-      port_connections = (c.requires.scene.0.connections, (c.args.components.now, (c.requires.scene.0.components.few, c.requires.scene.1.1)));
+      port_connections = (
+        c.requires.scene.0.connections,
+        (c.args.components.now, (c.requires.scene.0.components.few, c.requires.scene.1.1)),
+      );
       forward_len = (room.forward_room, room.backward_room);
     }
 
@@ -40,8 +43,10 @@ few s = s.requires.scene.0.components.few
 abbrev SceneTables : Start → List ℕ → List ℕ → Type 0
 SceneTables s forward backward = Tables (cs s) (ps s) s.args.sources.now s.args.sinks.now forward backward
 
-graph : (s : Start) (forward backward : List ℕ) → SceneTables s forward backward → edges (component_count (cs s)) forward ≡ signals (cs s) (ps s)
-graph s forward backward t = edges_signals (few s) t.source_members t.sink_members (ends_within (cs s) (ps s) s.requires.scene.0.ends) t.forward_keys
+graph : (s : Start) (forward backward : List ℕ) → SceneTables s forward backward
+    → edges (component_count (cs s)) forward ≡ signals (cs s) (ps s)
+graph s forward backward t = edges_signals (few s) t.source_members t.sink_members (ends_within (cs s) (ps s) s.requires.scene.0.ends)
+    t.forward_keys
 
 pub find_regions-count-requires : goal.find_regions-count-requires
 find_regions-count-requires c =
@@ -53,12 +58,17 @@ find_regions-count-requires c =
         (
           t.backward_keys.sorted.ascending,
           rw room.labels_room
-              (edges_turned (few s) t.source_members t.sink_members (ends_within (cs s) (ps s) s.requires.scene.0.ends) t.forward_keys t.backward_keys),
+              (edges_turned (few s) t.source_members t.sink_members (ends_within (cs s) (ps s) s.requires.scene.0.ends) t.forward_keys
+              t.backward_keys),
         ),
       );
       labels_len_bound = (
         omega (arith, room.labels_room, few s),
-        (omega (arith, room.labels_room, room.stack_room, c.clear.auto.numbers), rw c.clear.ensures (cleared_zeros (length s.args.stack.now))),
+        (
+          omega (arith, room.labels_room, room.stack_room, c.clear.auto.numbers),
+          rw c.clear.ensures
+              (cleared_zeros (length s.args.stack.now)),
+        ),
       );
     }
 
@@ -89,7 +99,8 @@ returns c =
     let s = (goal.at.returns c).Start in
     let room = s.requires.prepared_room in
     let t = c.build_tables.ensures (cs s) s.requires.scene.1.1 in
-    let regions = regions_are (cs s) (ps s) c.build_tables.new.forward (graph s _ _ t) (rw room.labels_room at c.find_regions-count.ensures) in
+    let regions = regions_are (cs s) (ps s) c.build_tables.new.forward (graph s _ _ t)
+    (rw room.labels_room at c.find_regions-count.ensures) in
     let numbers = c.place_members.ensures (cs s) s.requires.scene.1.0 s.requires.scene.0.distinct in
     let long = c.find_regions-count.auto.labels ∙ room.labels_room in
     record {

@@ -29,18 +29,23 @@ pub gather-requires : goal.gather-requires
 gather-requires c =
     let cs = c.args.components.now in
     let scene = c.requires.scene.1.0 in (
-      places_under cs c.requires.scene.0 scene.ends _ (omega (arith, scene.components.few, c.requires.components_in_bounds.1.1)) c.requires.scene.1.1,
+      places_under cs c.requires.scene.0 scene.ends _ (omega (arith, scene.components.few, c.requires.components_in_bounds.1.1))
+          c.requires.scene.1.1,
       c.drive_flags.ensures.long,
     )
 
 -- a component on a frontier is a drive source
 drives_too : (cs fs : List ℤ) {frontier driven : List Bool} → Flags (component_count cs) (is_on_frontier cs fs) frontier
-    → Flags (component_count cs) (λ p. is_found (source_kind (component cs p).kind) || marked frontier p) driven → Flags (component_count cs) (is_drive cs fs) driven
-drives_too cs fs f d = record { long = d.long; at = λ p h. d.at p h ∙ ap (λ (t : Bool). is_found (source_kind (component cs p).kind) || t) (f.at p h) }
+    → Flags (component_count cs) (λ p. is_found (source_kind (component cs p).kind) || marked frontier p) driven
+    → Flags (component_count cs) (is_drive cs fs) driven
+drives_too cs fs f d = record
+    { long = d.long; at = λ p h. d.at p h ∙ ap (λ (t : Bool). is_found (source_kind (component cs p).kind) || t) (f.at p h) }
 
 -- a region holds a drive source where one is gathered there
-regions_driven : (cs ps fs : List ℤ) {numbers : List ℕ} {driven out : List Bool} → length out ≡ component_limit → Numbers (component_count cs) (region_of_place cs ps) numbers
-    → Flags (component_count cs) (is_drive cs fs) driven → Gathered (component_count cs) numbers driven out → Flags component_limit (holds_drive cs ps fs) out
+regions_driven : (cs ps fs : List ℤ) {numbers : List ℕ} {driven out : List Bool} → length out ≡ component_limit
+    → Numbers (component_count cs) (region_of_place cs ps) numbers
+    → Flags (component_count cs) (is_drive cs fs) driven → Gathered (component_count cs) numbers driven out
+    → Flags component_limit (holds_drive cs ps fs) out
 unfolding holds_drive
 regions_driven cs ps fs long at_place driven g = record {
   long = omega arith;
@@ -55,7 +60,8 @@ returns c ps placed =
     record {
       frontier_flags = c.frontier_flags.ensures;
       drive_flags = drives;
-      region_flags = regions_driven c.args.components.now ps fs (c.gather.auto.out ∙ c.requires.components_in_bounds.1.1) placed drives c.gather.ensures;
+      region_flags = regions_driven c.args.components.now ps fs (c.gather.auto.out ∙ c.requires.components_in_bounds.1.1) placed drives
+          c.gather.ensures;
     }
 
 pub frontier_flags-requires : goal.frontier_flags-requires

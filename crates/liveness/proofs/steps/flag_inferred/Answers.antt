@@ -20,10 +20,15 @@ infer-requires c =
     let scene = c.requires.prepared_scene.1.scene in
     let p = c.requires.prepared_scene.1.prepared in
     let cs = c.args.components.now in
-    let flags = c.outside_regions.ensures c.requires.prepared_scene.0 c.args.backward.now c.args.region_at.now c.requires.prepared_scene.1 in record {
+    let flags = c.outside_regions.ensures c.requires.prepared_scene.0 c.args.backward.now c.args.region_at.now
+    c.requires.prepared_scene.1 in record {
       components = (scene.components, (forward_rows scene p, backward_rows scene p));
       indices = (indices_same (sym (labels_long scene p)) (members_below cs p.members_are), c.requires.has_drive_len.1);
-      indices_2 = (places_under cs c.requires.prepared_scene.0 scene.ends _ (omega (arith, scene.components.few, c.requires.has_drive_len.0)) p.regions_are, omega (arith, c.requires.has_drive_len.0, flags.long));
+      indices_2 = (
+        places_under cs c.requires.prepared_scene.0 scene.ends _
+            (omega (arith, scene.components.few, c.requires.has_drive_len.0)) p.regions_are,
+        omega (arith, c.requires.has_drive_len.0, flags.long),
+      );
     }
 
 pub returns : goal.returns

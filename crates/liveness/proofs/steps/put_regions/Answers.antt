@@ -18,7 +18,8 @@ loop-p-preserved c =
     let l = c.loop-p in (
       omega arith,
       simp length-set l.invariant.1,
-      rw (add-one l.p) (put_more (omega arith) l.invariant.2 (rw (add-one l.p) at (one_put (get_or c.args.region_at.now l.p 0) l.regions l.p (omega (arith, l.invariant.1, c.requires.1))))),
+      rw (add-one l.p) (put_more (omega arith) l.invariant.2
+          (rw (add-one l.p) at (one_put (get_or c.args.region_at.now l.p 0) l.regions l.p (omega (arith, l.invariant.1, c.requires.1))))),
     )
 
 pub returns : goal.returns

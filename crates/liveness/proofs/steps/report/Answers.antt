@@ -80,7 +80,8 @@ mark-requires c =
 abbrev rest : Start → List Bool
 rest s = drop (nodes s) (replicate component_limit false)
 
-marks_long : (s : Start) (marks : List Bool) → length marks ≡ length (take (nodes s) (replicate component_limit false)) → length marks ≡ nodes s
+marks_long : (s : Start) (marks : List Bool) → length marks ≡ length (take (nodes s) (replicate component_limit false))
+    → length marks ≡ nodes s
 marks_long s marks e = e ∙ lent s
 
 marks_front : (s : Start) (marks : List Bool) → length marks ≡ length (take (nodes s) (replicate component_limit false))
@@ -123,7 +124,10 @@ answer-requires c =
     let p = c.requires.prepared in record {
       rows = forward_rows c.requires.scene p;
       indices = (rw p.labels_are (labels_under (cs s) (ps s) c.requires.scene.ends component_limit (few s)), (small s, count_small s));
-      labels_in_bounds = (omega (arith, marks_lent s c.mark.new.drive c.mark.auto.drive), (omega (arith, marks_lent s c.mark.new.potential c.mark.auto.potential), omega (arith, count_small s, c.mark.auto.has_drive)));
+      labels_in_bounds = (
+        omega (arith, marks_lent s c.mark.new.drive c.mark.auto.drive),
+        (omega (arith, marks_lent s c.mark.new.potential c.mark.auto.potential), omega (arith, count_small s, c.mark.auto.has_drive)),
+      );
     }
 
 pub returns : goal.returns
@@ -136,12 +140,15 @@ returns c =
     let e = c.mark.ensures (ps s) (prepared s) in
     let n = component_count (cs s) in
     let region_rows_lem : tabulate (λ q. get_or c.args.region_at.now q 0) (nodes s) ≡ regions_of (cs s) (ps s) =
-    tabulated_same (λ q. get_or c.args.region_at.now q 0) (region_of_place (cs s) (ps s)) (nodes s) (λ q h. p.regions_are.at q (omega (arith, all s)))
+    tabulated_same (λ q. get_or c.args.region_at.now q 0) (region_of_place (cs s) (ps s)) (nodes s)
+    (λ q h. p.regions_are.at q (omega (arith, all s)))
     ∙ ap (tabulate (region_of_place (cs s) (ps s))) (all s) in
     let source-rows : sources_below (cs s) c.mark.new.on_frontier c.mark.new.inferred n ≡ source_rows_below (cs s) (ps s) (fs s) n =
     sources_are (cs s) (ps s) (fs s) e.frontier_flags e.inferred_flags n (omega arith) in
-    let live : take (nodes s) (c.mark.new.drive ++ rest s) ≡ drive (cs s) (ps s) (fs s) = marks_front s c.mark.new.drive c.mark.auto.drive ∙ e.drive_is in
-    let may : take (nodes s) (c.mark.new.potential ++ rest s) ≡ potential (cs s) (ps s) (fs s) = marks_front s c.mark.new.potential c.mark.auto.potential ∙ e.potential_is in
+    let live : take (nodes s) (c.mark.new.drive ++ rest s) ≡ drive (cs s) (ps s) (fs s) = marks_front s c.mark.new.drive
+    c.mark.auto.drive ∙ e.drive_is in
+    let may : take (nodes s) (c.mark.new.potential ++ rest s) ≡ potential (cs s) (ps s) (fs s) = marks_front s c.mark.new.potential
+    c.mark.auto.potential ∙ e.potential_is in
     let verdict-rows = c.write_verdicts.ensures (fs s) record { drive_is = live; potential_is = may } in
     record {
       answer = a.checked_is;
@@ -182,28 +189,42 @@ slice_bounds-mark-end-5 c =
     sym (lent s)
 
 pub slice_bounds-drive-end-2 : goal.slice_bounds-drive-end-2
-slice_bounds-drive-end-2 c = let s = (goal.at.slice_bounds-drive-end-2 c).Start in front_long _ c.mark.new.drive (rest s) (marks_long s c.mark.new.drive c.mark.auto.drive)
+slice_bounds-drive-end-2 c =
+    let s = (goal.at.slice_bounds-drive-end-2 c).Start in
+    front_long _ c.mark.new.drive (rest s) (marks_long s c.mark.new.drive c.mark.auto.drive)
 
 pub slice_bounds-write_verdicts-end : goal.slice_bounds-write_verdicts-end
-slice_bounds-write_verdicts-end c = let s = (goal.at.slice_bounds-write_verdicts-end c).Start in sym (marks_lent s c.mark.new.drive c.mark.auto.drive)
+slice_bounds-write_verdicts-end c =
+    let s = (goal.at.slice_bounds-write_verdicts-end c).Start in
+    sym (marks_lent s c.mark.new.drive c.mark.auto.drive)
 
 pub slice_bounds-potential-end-2 : goal.slice_bounds-potential-end-2
-slice_bounds-potential-end-2 c = let s = (goal.at.slice_bounds-potential-end-2 c).Start in front_long _ c.mark.new.potential (rest s) (marks_long s c.mark.new.potential c.mark.auto.potential)
+slice_bounds-potential-end-2 c =
+    let s = (goal.at.slice_bounds-potential-end-2 c).Start in
+    front_long _ c.mark.new.potential (rest s) (marks_long s c.mark.new.potential c.mark.auto.potential)
 
 pub slice_bounds-write_verdicts-end-2 : goal.slice_bounds-write_verdicts-end-2
-slice_bounds-write_verdicts-end-2 c = let s = (goal.at.slice_bounds-write_verdicts-end-2 c).Start in sym (marks_lent s c.mark.new.potential c.mark.auto.potential)
+slice_bounds-write_verdicts-end-2 c =
+    let s = (goal.at.slice_bounds-write_verdicts-end-2 c).Start in
+    sym (marks_lent s c.mark.new.potential c.mark.auto.potential)
 
 pub slice_bounds-drive-end-3 : goal.slice_bounds-drive-end-3
-slice_bounds-drive-end-3 c = let s = (goal.at.slice_bounds-drive-end-3 c).Start in front_long _ c.mark.new.drive (rest s) (marks_long s c.mark.new.drive c.mark.auto.drive)
+slice_bounds-drive-end-3 c =
+    let s = (goal.at.slice_bounds-drive-end-3 c).Start in
+    front_long _ c.mark.new.drive (rest s) (marks_long s c.mark.new.drive c.mark.auto.drive)
 
 pub slice_bounds-answer-end : goal.slice_bounds-answer-end
 slice_bounds-answer-end c = let s = (goal.at.slice_bounds-answer-end c).Start in sym (marks_lent s c.mark.new.drive c.mark.auto.drive)
 
 pub slice_bounds-potential-end-3 : goal.slice_bounds-potential-end-3
-slice_bounds-potential-end-3 c = let s = (goal.at.slice_bounds-potential-end-3 c).Start in front_long _ c.mark.new.potential (rest s) (marks_long s c.mark.new.potential c.mark.auto.potential)
+slice_bounds-potential-end-3 c =
+    let s = (goal.at.slice_bounds-potential-end-3 c).Start in
+    front_long _ c.mark.new.potential (rest s) (marks_long s c.mark.new.potential c.mark.auto.potential)
 
 pub slice_bounds-answer-end-2 : goal.slice_bounds-answer-end-2
-slice_bounds-answer-end-2 c = let s = (goal.at.slice_bounds-answer-end-2 c).Start in sym (marks_lent s c.mark.new.potential c.mark.auto.potential)
+slice_bounds-answer-end-2 c =
+    let s = (goal.at.slice_bounds-answer-end-2 c).Start in
+    sym (marks_lent s c.mark.new.potential c.mark.auto.potential)
 
 pub shape_of-regions : goal.shape_of-regions
 shape_of-regions c = c.put_regions.auto.regions

@@ -25,12 +25,10 @@ held words shares net long same = go (ltb net component_limit) refl
 
 pub returns-then-contains : goal.returns-then-contains
 returns-then-contains c =
-    
     let found = c.fragment_nets in
     sym (ap as_number (sym (held found.result.words _ _ (search rules) found.ensures) ∙ sym c.contains.ensures ∙ c.if-contains.true))
 
 pub returns : goal.returns
 returns c =
-    
     let found = c.fragment_nets in
     sym (ap as_number (sym (held found.result.words _ _ (search rules) found.ensures) ∙ sym c.contains.ensures ∙ c.if-contains.false))

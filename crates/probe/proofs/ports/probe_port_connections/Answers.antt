@@ -28,7 +28,8 @@ when-kept : (c : After-port_connections-selected) (m : ℕ) → c.port_connectio
     → (refusal c ≡ Accepted) × (m ≡ kept_count c.args.components.now c.args.connections.now)
 when-kept c m e = kept_accepted (refusal c) _ m (ap answer_of (sym e) ∙ c.port_connections-selected.ensures.answer)
 
-when-refused : (c : After-port_connections-selected) (x : Refusal) → c.port_connections-selected.result ≡ selected.Refused x → refusal c ≡ Refused x
+when-refused : (c : After-port_connections-selected) (x : Refusal)
+    → c.port_connections-selected.result ≡ selected.Refused x → refusal c ≡ Refused x
 when-refused c x e = refused_is (refusal c) _ x (ap answer_of (sym e) ∙ c.port_connections-selected.ensures.answer)
 
 -- few enough rows
@@ -44,17 +45,15 @@ overflow_mul-result c = omega (arith, few (goal.at.overflow_mul-result c).After-
 
 pub pack-requires : goal.pack-requires
 pack-requires c =
-    
-    subst (λ (k : Checked). Small k) (when-refused (goal.at.pack-requires c).After-port_connections-selected _ c.in-Refused.is) (grouping_small c.args.components.now c.args.connections.now [] _)
+    subst (λ (k : Checked). Small k) (when-refused (goal.at.pack-requires c).After-port_connections-selected _ c.in-Refused.is)
+    (grouping_small c.args.components.now c.args.connections.now [] _)
 
 pub returns-in-Kept : goal.returns-in-Kept
 returns-in-Kept c =
-    
     let w = when-kept (goal.at.returns-in-Kept c).After-port_connections-selected _ c.in-Kept.is in
-    record { answer = rw w.0 (ap (λ (n : ℕ). 65536 * n) w.1); left = c.port_connections-selected.ensures.false }
+    record { answer = rw w.0 (ap (λ (n : ℕ). 65536 * n) w.1); left = c.port_connections-selected.ensures.left }
 
 pub returns-in-Refused : goal.returns-in-Refused
 returns-in-Refused c =
-    
     let w = when-refused (goal.at.returns-in-Refused c).After-port_connections-selected _ c.in-Refused.is in
-    record { answer = rw w c.pack.ensures; left = c.port_connections-selected.ensures.false }
+    record { answer = rw w c.pack.ensures; left = c.port_connections-selected.ensures.left }

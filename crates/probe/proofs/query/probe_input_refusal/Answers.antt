@@ -8,7 +8,6 @@ use Rattle.probe.proofs.query.probe_input_refusal.Goals as goal
 
 pub pack-requires : goal.pack-requires
 pack-requires c =
-    
     let a = c.args in
     subst (λ (x : Checked). Small x) (sym c.required_input-found.ensures.by.answer)
     (input_small a.components.now a.ports.now a.frontiers.now a.id a.port _)

@@ -12,12 +12,7 @@ use Rattle.report.specs.Report.{all_rows}
 use Rattle.report.specs.Printing.{component_row_by}
 use Rattle.report.proofs.RowText.{row_read, flag_read}
 use Rattle.report.proofs.fill.fill_components.Goals as goal
-use Rattle.report.proofs.fill.fill_components.Goals.{In-loop-p, Start}
-
-abbrev row : Start → ℕ → List ℕ
-row s =
-    let a = s.args in
-    component_row_by a.components.now a.nets.now a.fragments.now a.regions.now a.drive.words a.potential.words
+use Rattle.report.proofs.fill.fill_components.Goals.{In-loop-p}
 
 within : (c : In-loop-p) → c.loop-p.p * 8 + 8 ≤ length c.args.components.now
 within c = record_within c.loop-p.p _ 8 c.loop-p-test.true
@@ -35,7 +30,6 @@ natural_at-id-requires c =
 
 pub member_of-m-requires : goal.member_of-m-requires
 member_of-m-requires c =
-    
     let most = first_most c.requires.components.0 c.loop-p.p c.loop-p-test.true (omega arith) 4294967295 refl refl in
     omega (arith, c.natural_at-id.ensures, most)
 
@@ -56,12 +50,12 @@ put_row-at-requires c =
 pub loop-p-preserved : goal.loop-p-preserved
 unfolding all_rows
 loop-p-preserved c =
-    
-    let l = c.loop-p in
-    let cs = c.args.components.now in
+    let a = c.args in
+    let cs = a.components.now in
+    let row : ℕ → List ℕ = component_row_by cs a.nets.now a.fragments.now a.regions.now a.drive.words a.potential.words in
     let id = c.natural_at-id.ensures in
     let m = c.member_of-m.ensures cs c.requires.components.1 ∙ ap (smaller_ids cs) id in
-    below_more _ (row c.before.before.before.before.before.before.before.before.before.before.before.before.before.before.before.before.before.before.before.before.before) 6 6 _ _ (λ k. refl) c.loop-p-test.true l.invariant (record { turns = 1; whole = refl; few = omega arith })
+    below_more _ row 6 6 _ _ (λ k. refl) c.loop-p-test.true c.loop-p.invariant (record { turns = 1; whole = refl; few = omega arith })
     (row_read id
     (flag_read c.args.drive.words c.flag-driven.ensures c.contains.ensures m)
     (flag_read c.args.potential.words c.flag-potent.ensures c.contains-in-loop-p.ensures m)
@@ -74,4 +68,7 @@ shape_of-rows c = c.loop-p.invariant.long
 pub returns : goal.returns
 returns c =
     let v = c.loop-p.invariant in
-    (below_all _ (row c.before.before.before.before.before.before.before.before) 6 6 _ _ {r = v.turns} c.loop-p-test.false v (omega (arith, v.put.place, v.whole))).is
+    let a = c.args in
+    let row : ℕ → List ℕ =
+    component_row_by a.components.now a.nets.now a.fragments.now a.regions.now a.drive.words a.potential.words in
+    (below_all _ row 6 6 _ _ {r = v.turns} c.loop-p-test.false v (omega (arith, v.put.place, v.whole))).is

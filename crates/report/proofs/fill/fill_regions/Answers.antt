@@ -8,10 +8,6 @@ use Rattle.report.specs.Report.{all_rows}
 use Rattle.report.specs.Printing.{region_row_by}
 use Rattle.report.proofs.RowText.{pair_read, flag_read}
 use Rattle.report.proofs.fill.fill_regions.Goals as goal
-use Rattle.report.proofs.fill.fill_regions.Goals.{Start}
-
-abbrev row : Start → ℕ → List ℕ
-row s = region_row_by s.args.cyclic.words s.args.has_drive.words
 
 pub loop-r-init : goal.loop-r-init
 unfolding all_rows
@@ -25,9 +21,8 @@ put_pair-at-requires c =
 pub loop-r-preserved : goal.loop-r-preserved
 unfolding all_rows
 loop-r-preserved c =
-    
-    let l = c.loop-r in
-    below_more _ (row c.before.before.before.before.before.before.before.before.before.before.before.before) 2 2 _ _ (λ k. refl) c.loop-r-test.true l.invariant (record { turns = 1; whole = refl; few = omega arith })
+    let row : ℕ → List ℕ = region_row_by c.args.cyclic.words c.args.has_drive.words in
+    below_more _ row 2 2 _ _ (λ k. refl) c.loop-r-test.true c.loop-r.invariant (record { turns = 1; whole = refl; few = omega arith })
     (pair_read (flag_read c.args.cyclic.words c.flag-first.ensures c.contains.ensures refl)
     (flag_read c.args.has_drive.words c.flag-second.ensures c.contains-in-loop-r.ensures refl)
     c.put_pair-at.ensures)
@@ -39,4 +34,5 @@ shape_of-rows c = c.loop-r.invariant.long
 pub returns : goal.returns
 returns c =
     let v = c.loop-r.invariant in
-    (below_all _ (row c.before.before.before) 2 2 _ _ {r = v.turns} c.loop-r-test.false v (omega (arith, v.put.place, v.whole))).is
+    let row : ℕ → List ℕ = region_row_by c.args.cyclic.words c.args.has_drive.words in
+    (below_all _ row 2 2 _ _ {r = v.turns} c.loop-r-test.false v (omega (arith, v.put.place, v.whole))).is

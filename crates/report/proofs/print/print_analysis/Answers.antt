@@ -22,20 +22,20 @@ use Rattle.report.proofs.Assembled.{component_count_lem, region_pairs, assembled
 use Rattle.report.proofs.print.print_analysis.Goals as goal
 
 -- the rows that are printed are the fronts of the arrays
-components_inside : {cs ps kept fs : List ℤ} {keys : List ℕ} (rows : List ℕ) → Accepts cs ps fs keys → Scene cs kept → length rows ≡ 6 * component_limit
-    → 6 * length keys ≤ length rows
+components_inside : {cs ps kept fs : List ℤ} {keys : List ℕ} (rows : List ℕ) → Accepts cs ps fs keys → Scene cs kept
+    → length rows ≡ 6 * component_limit → 6 * length keys ≤ length rows
 components_inside rows a scene long = omega (arith, table_long a.table, scene.components.few, long)
 
 connections_inside : {cs ps kept : List ℤ} {nets fragments : List ℕ} (rows : List ℕ) → Gathered cs ps kept nets fragments → Scene cs kept
     → length rows ≡ port_width * connection_limit → length kept ≤ length rows
 connections_inside rows g scene long = omega (arith, kept_fit g scene, long)
 
-regions_fit : {cs kept fs : List ℤ} {regions sources inputs : List ℕ} {r : Analysis} → Analyzed cs kept fs regions sources inputs r → Scene cs kept
-    → 2 * r.regions ≤ 2 * component_limit
+regions_fit : {cs kept fs : List ℤ} {regions sources inputs : List ℕ} {r : Analysis}
+    → Analyzed cs kept fs regions sources inputs r → Scene cs kept → 2 * r.regions ≤ 2 * component_limit
 regions_fit a scene = omega (arith, regions_few a scene, scene.components.few)
 
-regions_inside : {cs kept fs : List ℤ} {regions sources inputs : List ℕ} {r : Analysis} (rows : List ℕ) → Analyzed cs kept fs regions sources inputs r → Scene cs kept
-    → length rows ≡ 2 * component_limit → 2 * r.regions ≤ length rows
+regions_inside : {cs kept fs : List ℤ} {regions sources inputs : List ℕ} {r : Analysis} (rows : List ℕ)
+    → Analyzed cs kept fs regions sources inputs r → Scene cs kept → length rows ≡ 2 * component_limit → 2 * r.regions ≤ length rows
 regions_inside rows a scene long = omega (arith, regions_fit a scene, long)
 
 pub fill_components-requires : goal.fill_components-requires
@@ -64,7 +64,8 @@ slice_bounds-components-end c =
 pub slice_bounds-print_rows-end : goal.slice_bounds-print_rows-end
 slice_bounds-print_rows-end c =
     let known = c.requires.2 in
-    sym (length-take-le _ c.fill_components.new.rows (components_inside c.fill_components.new.rows known.0 known.1.1.1.fed_scene.scene c.fill_components.auto.rows))
+    let rows = c.fill_components.new.rows in
+    sym (length-take-le _ rows (components_inside rows known.0 known.1.1.1.fed_scene.scene c.fill_components.auto.rows))
 
 pub slice_bounds-kept-end : goal.slice_bounds-kept-end
 slice_bounds-kept-end c =
@@ -74,7 +75,8 @@ slice_bounds-kept-end c =
 pub slice_bounds-print_rows-end-2 : goal.slice_bounds-print_rows-end-2
 slice_bounds-print_rows-end-2 c =
     let known = c.requires.2 in
-    sym (length-take-le _ c.fill_connections.new.rows (connections_inside c.fill_connections.new.rows known.1.0 known.1.1.1.fed_scene.scene c.fill_connections.auto.rows))
+    let rows = c.fill_connections.new.rows in
+    sym (length-take-le _ rows (connections_inside rows known.1.0 known.1.1.1.fed_scene.scene c.fill_connections.auto.rows))
 
 pub overflow_mul-marks : goal.overflow_mul-marks
 overflow_mul-marks c = let known = c.requires.2 in omega (arith, regions_fit known.1.1.0 known.1.1.1.fed_scene.scene)
@@ -87,7 +89,8 @@ slice_bounds-marks-end c =
 pub slice_bounds-print_rows-end-3 : goal.slice_bounds-print_rows-end-3
 slice_bounds-print_rows-end-3 c =
     let known = c.requires.2 in
-    sym (length-take-le _ c.fill_regions.new.rows (regions_inside c.fill_regions.new.rows known.1.1.0 known.1.1.1.fed_scene.scene c.fill_regions.auto.rows))
+    let rows = c.fill_regions.new.rows in
+    sym (length-take-le _ rows (regions_inside rows known.1.1.0 known.1.1.1.fed_scene.scene c.fill_regions.auto.rows))
 
 pub print_rows-requires : goal.print_rows-requires
 print_rows-requires c =
@@ -113,10 +116,11 @@ returns c ps fs accepted groups found ready =
     let a = c.args in
     let rows = kept_rows a.scene.now ps in
     let f = a.found in
-    let components-are = components_are a.scene.now a.nets.now a.fragments.now a.regions.now f.drive.words f.potential.words a.keys.now _ (table_long accepted.table)
-        c.fill_components.ensures in
+    let many = table_long accepted.table in
+    let components-are = components_are a.scene.now a.nets.now a.fragments.now a.regions.now f.drive.words f.potential.words _ _ many
+    c.fill_components.ensures in
     let connections-are : take (length a.ports.now) c.fill_connections.new.rows ≡ rows =
-        front_is rows _ (c.fill_connections.ensures rows groups.kept_are) _ (ap length groups.kept_are ∙ length-map rows pos) in
+    front_is rows _ (c.fill_connections.ensures rows groups.kept_are) _ (ap length groups.kept_are ∙ length-map rows pos) in
     let regions-are = regions_are f.cyclic.words f.has_drive.words f.regions _ c.fill_regions.ensures in
     subst (λ (t : List ℕ). PrintedBy (fits t (length a.out.now)) t a.out.now called.new.out called.result)
     (assembled a.scene.now ps fs ready.fed_scene.scene.distinct groups found components-are connections-are regions-are)

@@ -15,7 +15,8 @@ use Rattle.lists.specs.declared.Checked.TheVariants as checked
 use Rattle.checks.proofs.Accepted.{GroupingScene, grouping_accept}
 use Rattle.report.proofs.print.print_lists.Goals as goal
 
-few : (cs ps fs : List ℤ) (keys : List ℕ) → sheet_refusal cs ps fs ≡ checked.Accepted → length keys ≡ component_limit → component_count cs ≤ length keys
+few : (cs ps fs : List ℤ) (keys : List ℕ) → sheet_refusal cs ps fs ≡ checked.Accepted → length keys ≡ component_limit
+    → component_count cs ≤ length keys
 few cs ps fs keys accepted long =
     let scene : GroupingScene cs ps fs true = grouping_accept cs ps fs true accepted in
     omega (arith, scene.components.few, long)
@@ -30,8 +31,9 @@ pub slice_bounds-print_scene-end : goal.slice_bounds-print_scene-end
 slice_bounds-print_scene-end c =
     let a = c.args in
     let checks = c.grouping_lists-checked in
+    let accepted = sym checks.ensures.answer ∙ c.in-Accepted.is in
     sym (length-take-le _ checks.new.keys
-    (few a.components.now a.connections.now a.frontiers.now checks.new.keys (sym checks.ensures.answer ∙ c.in-Accepted.is) checks.auto.keys))
+    (few a.components.now a.connections.now a.frontiers.now checks.new.keys accepted checks.auto.keys))
 
 pub print_scene-requires : goal.print_scene-requires
 print_scene-requires c =

@@ -20,10 +20,12 @@ use Rattle.report.specs.Printing.{Accepts, Gathered}
 use Rattle.report.proofs.Scenes.{kept_scene}
 use Rattle.report.proofs.print.print_ready.Goals as goal
 
-scene_of : {cs ps kept fs : List ℤ} {keys nets fragments : List ℕ} → Accepts cs ps fs keys → Gathered cs ps kept nets fragments → Scene cs kept
+scene_of : {cs ps kept fs : List ℤ} {keys nets fragments : List ℕ}
+    → Accepts cs ps fs keys → Gathered cs ps kept nets fragments → Scene cs kept
 scene_of {cs} {ps} {fs = fs} a g = subst (Scene cs) (sym g.kept_are) (kept_scene cs ps fs a.accepted)
 
-nodes_few : {cs ps kept fs : List ℤ} {keys nets fragments : List ℕ} → Accepts cs ps fs keys → Gathered cs ps kept nets fragments → length keys ≤ component_limit
+nodes_few : {cs ps kept fs : List ℤ} {keys nets fragments : List ℕ}
+    → Accepts cs ps fs keys → Gathered cs ps kept nets fragments → length keys ≤ component_limit
 nodes_few a g = omega (arith, table_long a.table, (scene_of a g).components.few)
 
 -- the fronts that are lent
@@ -34,9 +36,11 @@ pub make_ready-requires : goal.make_ready-requires
 make_ready-requires c =
     let known = c.requires.accepts.1 in
     let scene = scene_of known.0 known.1 in
+    let fed_long = lent (port_count c.args.ports.now) connection_limit 0 scene.connections.few in
+    let labels_long = lent (length c.args.keys.now) component_limit 0 (nodes_few known.0 known.1) ∙ table_long known.0.table in
     record {
       scene = (scene, (known.0.table, c.requires.settled_ends));
-      fed_len = (lent (port_count c.args.ports.now) connection_limit 0 scene.connections.few, (lent (length c.args.keys.now) component_limit 0 (nodes_few known.0 known.1) ∙ table_long known.0.table, c.requires.scene_in_bounds));
+      fed_len = (fed_long, (labels_long, c.requires.scene_in_bounds));
       upstream_len = (length-replicate {A = ℕ} table_words 0, get_or_zeros table_words);
     }
 
@@ -54,7 +58,9 @@ print_analysis-requires c =
     let n = length c.args.keys.now in
     let fed_long = made.auto.fed ∙ lent m connection_limit 0 (scene_of known.1.0 known.1.1).connections.few in
     let labels_long = made.auto.labels ∙ lent n component_limit 0 (nodes_few known.1.0 known.1.1) in
-    let ready = is_ready m n (drop m (replicate connection_limit 0)) (drop n (replicate component_limit 0)) fed_long labels_long made.ensures.0 in
+    let fed_rest = drop m (replicate connection_limit 0) in
+    let labels_rest = drop n (replicate component_limit 0) in
+    let ready = is_ready m n fed_rest labels_rest fed_long labels_long made.ensures.0 in
     (known.0, c.args.frontiers.now, (known.1.0, (known.1.1, (c.requires.analyzed, ready))))
 
 pub returns : goal.returns
@@ -64,7 +70,9 @@ returns c ps accepts gathered =
     let n = length c.args.keys.now in
     let fed_long = made.auto.fed ∙ lent m connection_limit 0 (scene_of accepts gathered).connections.few in
     let labels_long = made.auto.labels ∙ lent n component_limit 0 (nodes_few accepts gathered) in
-    let ready = is_ready m n (drop m (replicate connection_limit 0)) (drop n (replicate component_limit 0)) fed_long labels_long made.ensures.0 in
+    let fed_rest = drop m (replicate connection_limit 0) in
+    let labels_rest = drop n (replicate component_limit 0) in
+    let ready = is_ready m n fed_rest labels_rest fed_long labels_long made.ensures.0 in
     c.print_analysis.ensures ps c.args.frontiers.now accepts gathered c.requires.analyzed ready
 
 pub slice_bounds-fed-end : goal.slice_bounds-fed-end

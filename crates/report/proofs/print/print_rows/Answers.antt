@@ -20,8 +20,8 @@ measured : (n : ℕ) (blocks rows : List ℕ) {a rest : Found} → a ≡ left_af
 measured n blocks rows e f = f ∙ left_more (At n) blocks rows e
 
 -- it fits
-enough : (n : ℕ) (blocks rows : List ℕ) {a rest : Found} {left : ℕ} → a ≡ left_after (At n) (length blocks) → rest ≡ left_after a (length rows) → rest ≡ At left
-    → length (blocks ++ rows) ≤ n
+enough : (n : ℕ) (blocks rows : List ℕ) {a rest : Found} {left : ℕ} → a ≡ left_after (At n) (length blocks)
+    → rest ≡ left_after a (length rows) → rest ≡ At left → length (blocks ++ rows) ≤ n
 enough n blocks rows {left = left} e f is = left_fits n (length (blocks ++ rows)) left (sym (measured n blocks rows e f) ∙ is)
 
 pub left_after_rows-rest-requires : goal.left_after_rows-rest-requires
@@ -43,7 +43,8 @@ put_blocks-at-requires c =
     let known = c.requires.ready in
     let blocks = blocks_text a.components.now a.kept.now a.regions.now a.sources.now in
     let rows = inputs_text a.scene.now known.0 known.1 a.inputs.now in
-    let fit = enough (length a.out.now) blocks rows c.left_after_blocks-a.ensures (c.left_after_rows-rest.ensures known.0 known.1 known.2) c.in_default.is in
+    let rest = c.left_after_rows-rest.ensures known.0 known.1 known.2 in
+    let fit = enough (length a.out.now) blocks rows c.left_after_blocks-a.ensures rest c.in_default.is in
     omega (arith, fit, length-append blocks rows)
 
 -- there is room for the verdict rows behind the blocks
@@ -53,7 +54,8 @@ put_rows-requires c =
     let known = c.requires.ready in
     let blocks = blocks_text a.components.now a.kept.now a.regions.now a.sources.now in
     let rows = inputs_text a.scene.now known.0 known.1 a.inputs.now in
-    let fit = enough (length a.out.now) blocks rows c.left_after_blocks-a.ensures (c.left_after_rows-rest.ensures known.0 known.1 known.2) c.in_default.is in
+    let rest = c.left_after_rows-rest.ensures known.0 known.1 known.2 in
+    let fit = enough (length a.out.now) blocks rows c.left_after_blocks-a.ensures rest c.in_default.is in
     record {
       id_table = c.requires.id_table;
       ready = (known.0, known.1, (known.2, put_room c.put_blocks-at.ensures rows (omega (arith, fit))));
@@ -64,6 +66,7 @@ returns c ps fs ready =
     let a = c.args in
     let blocks = blocks_text a.components.now a.kept.now a.regions.now a.sources.now in
     let rows = inputs_text a.scene.now ps fs a.inputs.now in
-    let fit = enough (length a.out.now) blocks rows c.left_after_blocks-a.ensures (c.left_after_rows-rest.ensures ps fs ready) c.in_default.is in
+    let rest = c.left_after_rows-rest.ensures ps fs ready in
+    let fit = enough (length a.out.now) blocks rows c.left_after_blocks-a.ensures rest c.in_default.is in
     printed_put (blocks ++ rows)
     (put_put c.put_blocks-at.ensures (c.put_rows.ensures ps fs ready (put_room c.put_blocks-at.ensures rows (omega (arith, fit)))))

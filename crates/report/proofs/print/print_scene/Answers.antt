@@ -72,4 +72,5 @@ print_kept-requires c =
 
 pub returns : goal.returns
 returns c =
-    c.print_kept.ensures c.args.connections.now c.requires (gathered c.keep_all-count.ensures (c.group.ensures c.args.scene.now c.requires.table))
+    c.print_kept.ensures c.args.connections.now c.requires
+    (gathered c.keep_all-count.ensures (c.group.ensures c.args.scene.now c.requires.table))

@@ -19,12 +19,11 @@ asked_sources-found-requires c =
 
 pub left_after_input-requires : goal.left_after_input-requires
 left_after_input-requires c =
-    
     omega (arith, table_long c.requires.id_table, c.requires.ready.2.fed_scene.scene.components.few)
 
 pub returns : goal.returns
 returns c ps fs ready =
-    
     c.left_after_input.ensures
     ∙ ap (λ (t : List ℕ). left_after c.args.left (length t))
-    (asked_text_lem c.args.device c.args.port c.args.status c.requires.id_table ready.fed_scene.scene.distinct (c.asked_sources-found.ensures ps fs ready))
+    (asked_text_lem c.args.device c.args.port c.args.status c.requires.id_table ready.fed_scene.scene.distinct
+    (c.asked_sources-found.ensures ps fs ready))

@@ -15,7 +15,8 @@ use Rattle.report.proofs.rows.left_after_rows.Given as goal
 -- of every scene that the tables are of
 pub record Rows (cs : List ℤ) (fed labels upstream rows : List ℕ) (rest₀ rest : Found) (k : ℕ) : Type 0 where
   pub left : (ps fs : List ℤ) → Ready cs ps fs fed labels upstream
-      → left_after rest (length (lines_from (asked_text cs ps fs) rows k)) ≡ left_after rest₀ (length (lines_from (asked_text cs ps fs) rows 0))
+      → left_after rest (length (lines_from (asked_text cs ps fs) rows k))
+      ≡ left_after rest₀ (length (lines_from (asked_text cs ps fs) rows 0))
   pub within : k ≤ length rows
 
 abbrev pub invariant-loop-k : goal.invariant-loop-k

@@ -27,7 +27,6 @@ text_is device port status table ps fs ready sets =
 
 pub asked_sources-found-requires : goal.asked_sources-found-requires
 asked_sources-found-requires c =
-    
     let known = c.requires.ready in record {
       id_table = c.requires.id_table;
       ready = (known.0, known.1, known.2.0);
@@ -37,7 +36,9 @@ pub put_input-requires : goal.put_input-requires
 put_input-requires c =
     let known = c.requires.ready in
     let ready = known.2.0 in
-    let same = text_is c.args.device c.args.port c.args.status c.requires.id_table known.0 known.1 ready (c.asked_sources-found.ensures known.0 known.1 ready) in
+    let a = c.args in
+    let sets = c.asked_sources-found.ensures known.0 known.1 ready in
+    let same = text_is a.device a.port a.status c.requires.id_table known.0 known.1 ready sets in
     record {
       keys_len_bound = omega (arith, table_long c.requires.id_table, ready.fed_scene.scene.components.few);
       words_in_bounds = subst (λ (t : List ℕ). c.args.at + length t ≤ length c.args.out.now) (sym same) known.2.1;
@@ -46,5 +47,6 @@ put_input-requires c =
 pub returns : goal.returns
 returns c ps fs ready =
     let put = c.put_input in
-    let same = text_is c.args.device c.args.port c.args.status c.requires.id_table ps fs ready (c.asked_sources-found.ensures ps fs ready) in
+    let a = c.args in
+    let same = text_is a.device a.port a.status c.requires.id_table ps fs ready (c.asked_sources-found.ensures ps fs ready) in
     subst (λ (t : List ℕ). Put c.args.at t c.args.out.now put.new.out put.result) same put.ensures

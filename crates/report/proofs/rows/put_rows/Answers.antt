@@ -30,19 +30,25 @@ lines_room : (text : ℕ → ℕ → ℕ → List ℕ) (rows : List ℕ) {at p :
     → at + length (count_line rows ++ lines_from text rows 0) ≤ length old → p + length (lines_from text rows 0) ≤ length out
 lines_room text rows put h = put_room put _ h
 
-module _ {cs : List ℤ} {fed labels upstream rows : List ℕ} {at : ℕ} {old out : List ℕ} {p k : ℕ} (r : Rows cs fed labels upstream rows at old out p k)
-    (ps fs : List ℤ) (ready : Ready cs ps fs fed labels upstream) (room : at + length (lines_from (asked_text cs ps fs) rows 0) ≤ length old) where
+module _ {cs : List ℤ} {fed labels upstream rows : List ℕ} {at : ℕ} {old out : List ℕ} {p k : ℕ}
+    (r : Rows cs fed labels upstream rows at old out p k)
+    (ps fs : List ℤ) (ready : Ready cs ps fs fed labels upstream)
+    (room : at + length (lines_from (asked_text cs ps fs) rows 0) ≤ length old) where
   -- the row at k is next
   next_row : k + 2 < length rows
-      → Going (lines_from (asked_text cs ps fs) rows 0) at old (row_text (asked_text cs ps fs) rows k ++ lines_from (asked_text cs ps fs) rows (k + 3)) out p
+      → let text = asked_text cs ps fs in
+      Going (lines_from text rows 0) at old (row_text text rows k ++ lines_from text rows (k + 3)) out p
   next_row h =
-      subst (λ (t : List ℕ). Going (lines_from (asked_text cs ps fs) rows 0) at old t out p) (lines_one (asked_text cs ps fs) rows k h) (r.going ps fs ready room)
+      subst (λ (t : List ℕ). Going (lines_from (asked_text cs ps fs) rows 0) at old t out p)
+      (lines_one (asked_text cs ps fs) rows k h)
+      (r.going ps fs ready room)
 
   -- no row is left
   all_done : length rows ≤ k + 2 → Put at (lines_from (asked_text cs ps fs) rows 0) old out p
   all_done h =
       goes_done
-      (subst (λ (t : List ℕ). Going (lines_from (asked_text cs ps fs) rows 0) at old t out p) (lines_none (asked_text cs ps fs) rows k h)
+      (subst (λ (t : List ℕ). Going (lines_from (asked_text cs ps fs) rows 0) at old t out p)
+      (lines_none (asked_text cs ps fs) rows k h)
       (r.going ps fs ready room))
 
 -- a slice is no longer than memory
@@ -74,7 +80,8 @@ put_asked-p-requires c =
 pub loop-k-preserved : goal.loop-k-preserved
 loop-k-preserved c =
     record {
-      going = λ ps fs ready room. goes_on _ _ (next_row c.loop-k.invariant ps fs ready room c.loop-k-test.true) (c.put_asked-p.ensures ps fs ready);
+      going = λ ps fs ready room.
+          goes_on _ _ (next_row c.loop-k.invariant ps fs ready room c.loop-k-test.true) (c.put_asked-p.ensures ps fs ready);
       within = omega (arith, c.loop-k-test.true);
     }
 

@@ -21,7 +21,8 @@ ports e d = sym e ∙ d
 
 pub put_row-requires : goal.put_row-requires
 put_row-requires c =
-    let ends = linked c.args.components.now (connection c.args.connections.now c.args.k) _ _ (ports c.link_of-link.ensures c.in-Ports.is) in record {
+    let ends = linked c.args.components.now (connection c.args.connections.now c.args.k) _ _
+    (ports c.link_of-link.ensures c.in-Ports.is) in record {
       connections = c.requires.connections;
       k_bound = c.requires.k_bound;
       source_port_lt_port_places = (ends.source_port_of, ends.sink_port_of);

@@ -31,8 +31,11 @@ to-place c =
     c.place_near-to.ensures c.args.components.now c.requires.id_table ∙ ap (place_of c.args.components.now) c.natural_at-2.ensures
 
 pub natural_at-requires : goal.natural_at-requires
-natural_at-requires c =
-    (omega (arith, within c.args.k c.args.connections.now c.requires.k_bound), first_non_neg c.requires.connections c.args.k c.requires.k_bound (omega arith) refl)
+natural_at-requires c = (
+  omega (arith, within c.args.k c.args.connections.now c.requires.k_bound),
+  first_non_neg c.requires.connections c.args.k
+      c.requires.k_bound (omega arith) refl,
+)
 
 pub place_near-from-requires : goal.place_near-from-requires
 place_near-from-requires c =
@@ -42,12 +45,20 @@ pub returns-in_default : goal.returns-in_default
 returns-in_default c = let e = sym (from_place (goal.at.returns-in_default c).After-place_near-from) ∙ c.in_default.is in rw e
 
 pub natural_at-requires-2 : goal.natural_at-requires-2
-natural_at-requires-2 c =
-    (omega (arith, within c.args.k c.args.connections.now c.requires.k_bound), field_non_neg c.requires.connections c.args.k 1 c.requires.k_bound (omega arith) refl)
+natural_at-requires-2 c = (
+  omega (arith, within c.args.k c.args.connections.now c.requires.k_bound),
+  field_non_neg c.requires.connections c.args.k 1
+      c.requires.k_bound (omega arith) refl,
+)
 
 pub place_near-to-requires : goal.place_near-to-requires
 place_near-to-requires c =
-    omega (arith, c.natural_at-2.ensures, field_most c.requires.connections c.args.k 1 c.requires.k_bound (omega arith) 4294967295 refl refl)
+    omega (
+      arith,
+      c.natural_at-2.ensures,
+      field_most c.requires.connections c.args.k 1 c.requires.k_bound (omega arith) 4294967295 refl
+          refl,
+    )
 
 pub returns-in_default-to : goal.returns-in_default-to
 returns-in_default-to c =
@@ -56,8 +67,11 @@ returns-in_default-to c =
     rw (e, g)
 
 pub natural_at-requires-3 : goal.natural_at-requires-3
-natural_at-requires-3 c =
-    (omega (arith, within c.args.k c.args.connections.now c.requires.k_bound), field_non_neg c.requires.connections c.args.k 2 c.requires.k_bound (omega arith) refl)
+natural_at-requires-3 c = (
+  omega (arith, within c.args.k c.args.connections.now c.requires.k_bound),
+  field_non_neg c.requires.connections c.args.k 2
+      c.requires.k_bound (omega arith) refl,
+)
 
 pub ports_between-requires : goal.ports_between-requires
 ports_between-requires c =

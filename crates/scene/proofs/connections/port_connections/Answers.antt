@@ -66,7 +66,8 @@ keep_all-requires c =
     let p = scene s e in record {
       components = within component_limit component_low component_high c.args.components.now p.lengths.components_few p.ranges.components;
       id_table = c.grouping_lists-checked.ensures.table c.in_default.is;
-      connections = within connection_limit connection_low connection_high c.args.connections.now p.lengths.connections_few p.ranges.connections;
+      connections = within connection_limit connection_low connection_high c.args.connections.now p.lengths.connections_few
+          p.ranges.connections;
       port_width_in_bounds = omega (arith, leb-true (connection_count c.args.connections.now) (length c.args.out.now / port_width) p.lengths.room);
     }
 

@@ -18,7 +18,8 @@ abbrev into_at : Component → ℕ → ℕ → Found
 into_at sink face kind = select_port (ports_of sink) (opposite face) false kind
 
 -- the port at the sink, at the face that the code computes
-into : (sink : Component) (face kind : ℕ) {f : ℕ} {r : Found} → r ≡ select_port (ports_of sink) f false kind → f ≡ opposite face → r ≡ into_at sink face kind
+into : (sink : Component) (face kind : ℕ) {f : ℕ} {r : Found} → r ≡ select_port (ports_of sink) f false kind → f ≡ opposite face
+    → r ≡ into_at sink face kind
 into sink face kind e d = e ∙ ap (λ (g : ℕ). select_port (ports_of sink) g false kind) d
 
 pub returns-then-face-eq0 : goal.returns-then-face-eq0

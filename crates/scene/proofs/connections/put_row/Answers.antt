@@ -1,6 +1,6 @@
 -- `scene::connections::put_row` meets its contract: five numbers stored in a row, the ids copied as they stand.
 -- Assumes nothing.
-use borrow.Author.Rules.{sfits_of}
+use borrow.Author.Rules.{rules}
 use mathlib.Core.Path.{◌≡◌, refl, ap, ◌∙◌}
 use Prim.Native.Nat.{◌+◌, ◌*◌, ◌≤◌}
 use native.Mathlib.Omega.{arith}
@@ -42,11 +42,12 @@ pub returns : goal.returns
 returns c =
     let ps = c.args.connections.now in
     let p = c.args.k * 3 in
-    let transfer : c.transfer_of-transfer.result ≡ transfer_of (natural_at ps (p + 2)) = c.transfer_of-transfer.ensures ∙ ap transfer_of c.natural_at.ensures in
+    let transfer : c.transfer_of-transfer.result ≡ transfer_of (natural_at ps (p + 2)) = c.transfer_of-transfer.ensures ∙ ap
+    transfer_of c.natural_at.ensures in
     five_puts c.args.out.now c.args.at c.requires.port_width_in_bounds
-    (natural_read (at ps p) (sfits_of c.out-1.given) (first_non_neg c.requires.connections c.args.k c.requires.k_bound (omega arith) refl))
+    (natural_read (at ps p) (search rules) (first_non_neg c.requires.connections c.args.k c.requires.k_bound (omega arith) refl))
     (small_read c.args.source_port (omega arith))
-    (natural_read (at ps (p + 1)) (sfits_of c.out-2-1.given) (field_non_neg c.requires.connections c.args.k 1 c.requires.k_bound (omega arith) refl))
+    (natural_read (at ps (p + 1)) (search rules) (field_non_neg c.requires.connections c.args.k 1 c.requires.k_bound (omega arith) refl))
     (small_read c.args.sink_port (omega arith))
     (small_read c.transfer_of-transfer.result (omega (arith, transfer, transfer_most (natural_at ps (p + 2)))) ∙ ap pos transfer)
 

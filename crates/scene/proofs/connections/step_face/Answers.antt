@@ -1,6 +1,6 @@
 -- `scene::connections::step_face` meets its contract.
 -- Assumes nothing.
-use borrow.Author.Rules.{sfits_of}
+use borrow.Author.Rules.{rules}
 use mathlib.Core.Path.{◌∙◌}
 use Prim.Native.Nat.{◌+◌, ◌*◌}
 use mir.Syntax.{w64}
@@ -16,9 +16,9 @@ returns c =
     let b = c.args.b * 8 in
     c.facing_between.ensures
     ∙ facing_same
-    (to_z-of_z {w = w64} {z = at cs (a + 1)} (sfits_of c.facing_between-arg-1.given))
-    (to_z-of_z {w = w64} {z = at cs (a + 2)} (sfits_of c.facing_between-arg-2-1.given))
-    (to_z-of_z {w = w64} {z = at cs (a + 3)} (sfits_of c.facing_between-arg-3-1.given))
-    (to_z-of_z {w = w64} {z = at cs (b + 1)} (sfits_of c.facing_between-arg-4-1.given))
-    (to_z-of_z {w = w64} {z = at cs (b + 2)} (sfits_of c.facing_between-arg-5-1.given))
-    (to_z-of_z {w = w64} {z = at cs (b + 3)} (sfits_of c.facing_between-arg-6-1.given))
+    (to_z-of_z {w = w64} {z = at cs (a + 1)} (search rules))
+    (to_z-of_z {w = w64} {z = at cs (a + 2)} (search rules))
+    (to_z-of_z {w = w64} {z = at cs (a + 3)} (search rules))
+    (to_z-of_z {w = w64} {z = at cs (b + 1)} (search rules))
+    (to_z-of_z {w = w64} {z = at cs (b + 2)} (search rules))
+    (to_z-of_z {w = w64} {z = at cs (b + 3)} (search rules))
