@@ -1,15 +1,13 @@
 -- A text that fits a buffer is printed, and one that does not is refused with 2.
 -- Assumes nothing.
-use mathlib.Core.Path.{◌≡◌, refl, sym, ap, ◌∙◌}
+use mathlib.Core.Path.{◌≡◌, ap, ◌∙◌}
 use mathlib.Core.List.{List, [], ◌∷◌, ◌++◌}
-use Prim.Native.Nat.{ℕ, ◌+◌, ◌≤◌, ◌<◌}
+use Prim.Native.Nat.{ℕ, ◌+◌, ◌<◌}
 use native.Mathlib.Omega.{arith}
-use lib.ListN.{length, take, drop}
+use lib.ListN.{length, drop}
 use borrow.Author.Tests.{le-leb, lt-leb}
-use Rattle.lists.specs.declared.Refusal.{Refusal}
 use Rattle.lines.specs.Wrote.{Put}
 use Rattle.report.specs.Entry.{fits, PrintedBy}
-use Rattle.report.specs.declared.Printed.{Printed}
 use Rattle.report.specs.declared.Printed.TheVariants.{Written, Refused}
 
 pub printed_none : (text out : List ℕ) → length out < length text

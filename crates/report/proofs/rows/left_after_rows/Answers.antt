@@ -13,7 +13,6 @@ use Rattle.blocks.specs.Blocks.{left_after}
 use Rattle.blocks.proofs.Going.{left_none, left_then, left_on}
 use Rattle.report.specs.Printing.{asked_text}
 use Rattle.report.proofs.VerdictText.{lines_from, lines_one, lines_none}
-use Rattle.report.proofs.rows.left_after_rows.Invariants.{Rows}
 use Rattle.report.proofs.rows.left_after_rows.Goals as goal
 use Rattle.report.proofs.rows.left_after_rows.Goals.{At-loop-k}
 
