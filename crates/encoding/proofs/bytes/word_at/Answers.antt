@@ -28,19 +28,23 @@ loop-k-init c = (omega arith, refl)
 
 pub overflow_cast-value : goal.overflow_cast-value
 overflow_cast-value c =
-    omega (arith, turn-fits c.args.bytes.now c.args.i c.loop-k.k c.loop-k.value (omega arith) c.loop-k.invariant.0 c.requires c.loop-k.invariant.1 c.type_inv.bytes)
+    let l = c.loop-k in
+    omega (arith, turn-fits c.args.bytes.now c.args.i l.k l.value (omega arith) l.invariant.0 c.requires l.invariant.1 c.type_inv.bytes)
 
 pub overflow_mul-value : goal.overflow_mul-value
 overflow_mul-value c =
-    omega (arith, turn-fits c.args.bytes.now c.args.i c.loop-k.k c.loop-k.value (omega arith) c.loop-k.invariant.0 c.requires c.loop-k.invariant.1 c.type_inv.bytes)
+    let l = c.loop-k in
+    omega (arith, turn-fits c.args.bytes.now c.args.i l.k l.value (omega arith) l.invariant.0 c.requires l.invariant.1 c.type_inv.bytes)
 
 pub overflow_add-value-in-loop-k : goal.overflow_add-value-in-loop-k
 overflow_add-value-in-loop-k c =
-    record { fits = turn-fits c.args.bytes.now c.args.i c.loop-k.k c.loop-k.value (omega arith) c.loop-k.invariant.0 c.requires c.loop-k.invariant.1 c.type_inv.bytes }
+    let l = c.loop-k in
+    record { fits = turn-fits c.args.bytes.now c.args.i l.k l.value (omega arith) l.invariant.0 c.requires l.invariant.1 c.type_inv.bytes }
 
 pub loop-k-preserved : goal.loop-k-preserved
 loop-k-preserved c =
-    (omega arith, turn c.args.bytes.now c.args.i c.loop-k.k c.loop-k.value (omega arith) c.loop-k.invariant.0 c.requires c.loop-k.invariant.1)
+    let l = c.loop-k in
+    (omega arith, turn c.args.bytes.now c.args.i l.k l.value (omega arith) l.invariant.0 c.requires l.invariant.1)
 
 pub returns : goal.returns
 returns c =
