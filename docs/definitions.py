@@ -29,11 +29,11 @@ STATEMENTS = [
     ("inputs", "Same", "SameConnections"),
     ("inputs", "Same", "SameAnswer"),
     ("circuit", "Connected", "Joined"),
-    ("sheet", "Writing", "sheetOf"),
+    ("sheet", "Writing", "sheet_of"),
 ]
 HEAD = re.compile(r"^(?:abbrev |unfoldable |pub |record |data )*([^\s:]+)")
-WORD = re.compile(r"[^\s(){}\[\],;.⌜⌝]+")
-USE = re.compile(r"use Rattle·([a-z]+)(?:·specs\.specs|\.specs)\.([A-Z]\w*)([^\n;]*)")
+WORD = re.compile(r"[^\s(){}\[\],;.]+")
+USE = re.compile(r"use Rattle\.([a-z]+)\.specs\.([A-Z]\w*)([^\n;]*)")
 
 
 def imports(text):
@@ -51,13 +51,13 @@ def imports(text):
 
 def parts(name):
     """What of a name stands in a text: of an operator the parts between its places."""
-    return [part for part in name.split("_") if part] or [name]
+    return [part for part in name.split("◌") if part] or [name]
 
 
 def operator_of(line, known):
-    """The operator of which the line is a clause, as `a or-else b = ..`."""
+    """The operator of which the line is a clause, as `a or_else b = ..`."""
     words = line.split()
-    return next((k for k in known if "_" in k and all(p in words for p in parts(k))), None)
+    return next((k for k in known if "◌" in k and all(p in words for p in parts(k))), None)
 
 
 def load():

@@ -121,8 +121,8 @@ module _ (components connections : List ℕ) where
   pub whole_lists : groups_whole components connections ≡ Accepted → Whole
   whole_lists e =
       let (first, second) = both_accept (refuse 1 0 (not_whole (number_bytes * component_width) component_limit (length components))) _ e in
-      let c = refuse_none 1 0 _ first in
-      let p = refuse_none 1 1 _ second in
+      let c = refuse_none 1 0 (not_whole (number_bytes * component_width) component_limit (length components)) first in
+      let p = refuse_none 1 1 (not_whole (number_bytes * connection_width) connection_limit (length connections)) second in
       record {
         components_few = omega (arith, whole_few _ component_limit _ c, whole_all _ component_limit _ c);
         connections_few = omega (arith, whole_few _ connection_limit _ p, whole_all _ connection_limit _ p);

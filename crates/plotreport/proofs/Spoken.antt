@@ -3,7 +3,7 @@
 --     long_sheet, short_sheet    the first stage
 --     printed_within             a report that is printed has room
 -- Assumes nothing.
-use mathlib.Core.Path.{◌≡◌, refl, sym, ap, subst, ◌∙◌}
+use mathlib.Core.Path.{◌≡◌, refl, sym, ◌∙◌}
 use mathlib.Core.Bool.{Bool, true, false, cond}
 use mathlib.Core.List.{List, [], ◌∷◌, ◌++◌}
 use Prim.Native.Nat.{ℕ, zero, suc, ◌+◌, ◌/◌, ◌%◌, ◌≤◌, ◌<◌}
@@ -18,12 +18,12 @@ use Rattle.lists.specs.declared.Checked.TheVariants as checked
 use Rattle.lists.specs.declared.Refusal.{Refusal}
 use Rattle.checks.proofs.Chain.{both_accept}
 use Rattle.lines.specs.Text.{ascii}
-use Rattle.lines.specs.Decimal.{digits_then, digits, line_of}
+use Rattle.lines.specs.Decimal.{digits_then, line_of}
 use Rattle.lines.proofs.Writing.{line_size}
 use Rattle.sheet.specs.Entry.{components_of, connections_of, frontiers_of, sheet_checked}
 use Rattle.blocks.specs.Lines.{refusal_lines}
 use Rattle.report.specs.Report.{report_of}
-use Rattle.report.specs.Entry.{fits, lists_checked, report_checked, answer_by, PrintedBy}
+use Rattle.report.specs.Entry.{fits, lists_checked, report_checked, answer_by}
 use Rattle.plotreport.specs.Program.{sheet_bytes, parsed_by, too_long_sheet, program_checked, ProgramPrinted}
 use Rattle.report.specs.declared.Printed.{Printed}
 use Rattle.report.specs.declared.Printed.TheVariants.{Written, Refused}

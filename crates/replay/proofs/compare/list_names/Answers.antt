@@ -3,7 +3,6 @@ use borrow.Author.Rules.{rules}
 use native.Mathlib.Omega.{arith}
 use lib.ListN.{length}
 use mathlib.Core.Path.{◌≡◌, sym, subst}
-use mathlib.Core.Bool.{true}
 use mathlib.Core.List.{List}
 use Rattle.sets.specs.Members.{LeastFrom}
 use Prim.Native.Nat.{ℕ, ◌+◌, ◌≤◌, ◌<◌}
