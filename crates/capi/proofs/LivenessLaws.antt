@@ -35,7 +35,6 @@ use Rattle.checks.proofs.Accepted.{liveness_accept}
 use Rattle.regions.proofs.Theorems.{region_laws}
 use Rattle.signals.specs.Signals.{signals}
 use Rattle.signals.specs.Regions.{region_count, region_of_place, regions_of}
-use Rattle.signals.specs.Drive.{drive, potential}
 use Rattle.assessment.specs.Verdicts.{source_rows, input_rows}
 use Rattle.liveness.specs.Sets.{SetWhere}
 use Rattle.liveness.specs.Entry.{AnalyzedBy}
