@@ -3,8 +3,9 @@
 
 usage: tools/respell.py [TOP]      at the top of the repository, once, right after port.py; --list prints old and new names and writes nothing
 
-Types and facts keep their capitals, names of the Rust sources and of Rattle's goals are left alone.
-A dash stays beside a capital, a symbol or a number alone; elsewhere it becomes `_`.
+Types and facts keep their capitals, names of the Rust sources and of Rattle's goals are left alone. `getD` in a name is `get_or`, as in the library.
+A dash stays beside a capital or a symbol; elsewhere it becomes `_`. In pages it turns what stands between backticks: see that no file's name went along.
+A tree that is respelled already is left as it is.
 """
 import glob
 import os
@@ -112,6 +113,9 @@ def main():
         else:
             names |= d
     table = {}
+    if not any(re.match(r"[a-z]\w*[A-Z]", n) for n in names):
+        print("no name of the old spelling is left: nothing to do")
+        return
     words = {respell(n) for n in names if "-" not in n}
     for n in names:
         if "◌" in n.strip("◌"):

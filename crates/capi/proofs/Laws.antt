@@ -1,5 +1,5 @@
 -- What a host can rely on, besides the contract.
---     read-back                       numbers that were written as bytes are read as the same numbers
+--     read_back                       numbers that were written as bytes are read as the same numbers
 --     accepted_parts, refused_parts   the parts of an answer
 --     liveness_accepted_parts         the parts of the liveness entry's answer
 --     told_apart                      the sixteen lowest bits of an answer are 0 exactly where the scene is accepted
