@@ -4,6 +4,7 @@
 --     room_places           a slice with room for places of one number
 --     id_past               no component has an id past the greatest
 -- Assumes nothing.
+use Rattle.std.specs.Prelude.{Option, None, Ok}
 use mathlib.Core.Path.{◌≡◌, refl, ◌∙◌}
 use mathlib.Core.Bool.{Bool, true}
 use mathlib.Core.List.{List}
@@ -21,9 +22,6 @@ use Rattle.lists.specs.Order.{first_not_ascending, connection_order}
 use Rattle.lists.specs.Ids.{place_below, place_of, first_end_missing}
 use Rattle.checks.specs.Refusals.{refuse, room_for, grouping_lists, liveness_lists}
 use Rattle.checks.specs.Checks.{scene_of}
-use Rattle.lists.specs.declared.Found.{Found}
-use Rattle.lists.specs.declared.Found.TheVariants.{Nothing}
-use Rattle.lists.specs.declared.Checked.TheVariants.{Accepted}
 use Rattle.checks.proofs.Chain.{both_accept}
 use Rattle.lists.proofs.Fields.{within, first_most}
 use Rattle.lists.proofs.Search.{first_nothing}
@@ -33,7 +31,7 @@ pub room_places : (places n : ℕ) → room_for places 1 n ≡ true → places �
 room_places places n e = omega (arith, leb-true places (n / 1) e)
 
 -- the components and frontiers of an accepted scene
-module _ {cs : List ℤ} {width connections : ℕ} {found : Found} {fs : List ℤ} {enough : Bool} (s : Scene cs width connections found fs enough) where
+module _ {cs : List ℤ} {width connections : ℕ} {found : Option ℕ} {fs : List ℤ} {enough : Bool} (s : Scene cs width connections found fs enough) where
   components_within : Components cs
   components_within = within component_limit component_low component_high cs s.lengths.components_few s.ranges.components
 
@@ -45,9 +43,9 @@ pub record GroupingScene (cs ps fs : List ℤ) (enough : Bool) : Type 0 where
   pub components : Components cs
   pub connections : Connections ps
   pub frontiers : Frontiers fs
-  pub ascending : first_not_ascending connection_order connection_width ps ≡ Nothing
+  pub ascending : first_not_ascending connection_order connection_width ps ≡ None
 
-pub grouping_accept : (cs ps fs : List ℤ) (enough : Bool) → grouping_lists cs ps fs enough ≡ Accepted → GroupingScene cs ps fs enough
+pub grouping_accept : (cs ps fs : List ℤ) (enough : Bool) → grouping_lists cs ps fs enough ≡ Ok tt → GroupingScene cs ps fs enough
 grouping_accept cs ps fs enough e =
     let parts =
     both_accept (scene_of cs connection_width (length ps) (first_out_of_range connection_low connection_high ps) fs enough) (refuse 6 1 (first_not_ascending connection_order connection_width ps))
@@ -66,9 +64,9 @@ pub record LivenessScene (cs ps fs : List ℤ) (enough : Bool) : Type 0 where
   pub components : Components cs
   pub connections : PortConnections ps
   pub frontiers : Frontiers fs
-  pub ends : first_end_missing cs ps ≡ Nothing
+  pub ends : first_end_missing cs ps ≡ None
 
-pub liveness_accept : (cs ps fs : List ℤ) (enough : Bool) → liveness_lists cs ps fs enough ≡ Accepted → LivenessScene cs ps fs enough
+pub liveness_accept : (cs ps fs : List ℤ) (enough : Bool) → liveness_lists cs ps fs enough ≡ Ok tt → LivenessScene cs ps fs enough
 liveness_accept cs ps fs enough e =
     let parts =
     both_accept (scene_of cs port_width (length ps) (first_out_of_range port_low port_high ps) fs enough) (refuse 7 1 (first_end_missing cs ps))
@@ -83,7 +81,7 @@ liveness_accept cs ps fs enough e =
     }
 
 -- no component has an id past the greatest
-pub id_past : (cs : List ℤ) → Components cs → (id : ℕ) → 4294967295 < id → place_of cs id ≡ Nothing
+pub id_past : (cs : List ℤ) → Components cs → (id : ℕ) → 4294967295 < id → place_of cs id ≡ None
 unfolding place_below
 id_past cs w id h =
     first_nothing (λ k. eqb (component cs k).id id) 0 (component_count cs)

@@ -5,6 +5,7 @@
 --     scene_accept                         1 to 5 accept
 --     grouping_parts, liveness_parts       the chains of checks, in the parts in which the code makes them
 -- Assumes nothing.
+use Rattle.std.specs.Prelude.{Option, Some, None, Ok}
 use mathlib.Core.Path.{◌≡◌, refl}
 use mathlib.Core.Bool.{Bool, true, false, not, cond, ◌||◌}
 use mathlib.Core.List.{List}
@@ -20,18 +21,15 @@ use Rattle.lists.specs.Order.{first_not_ascending, component_order, connection_o
 use Rattle.lists.specs.Ids.{first_repeated, first_end_missing}
 use Rattle.checks.specs.Refusals.{refuse, ◌or_else◌, not_whole, too_short, grouping_lists, liveness_lists}
 use Rattle.checks.specs.Checks.{lengths_of, ranges_of, order_of, scene_of}
-use Rattle.lists.specs.declared.Found.{Found}
-use Rattle.lists.specs.declared.Found.TheVariants.{At, Nothing}
-use Rattle.lists.specs.declared.Checked.TheVariants.{Accepted}
 use Rattle.checks.proofs.Chain.{both_accept, or_else_assoc}
 
-pub refuse_none : (number list : ℕ) (f : Found) → refuse number list f ≡ Accepted → f ≡ Nothing
-refuse_none number list (At k) e = let z : ◌≡◌ {A = ℕ} 0 1 = cc in absurd (omega arith)
-refuse_none number list Nothing e = refl
+pub refuse_none : (number list : ℕ) (f : Option ℕ) → refuse number list f ≡ Ok tt → f ≡ None
+refuse_none number list (Some k) e = let z : ◌≡◌ {A = ℕ} 0 1 = cc in absurd (omega arith)
+refuse_none number list None e = refl
 
 -- ---- 1
 
-at_or_none : (t : Bool) (k : ℕ) → cond t (At k) Nothing ≡ Nothing → t ≡ false
+at_or_none : (t : Bool) (k : ℕ) → cond t (Some k) None ≡ None → t ≡ false
 at_or_none true k e = let z : ◌≡◌ {A = ℕ} 0 1 = cc in absurd (omega arith)
 at_or_none false k e = refl
 
@@ -39,7 +37,7 @@ or_false : (s t : Bool) → (s || t) ≡ false → (s ≡ false) × (t ≡ false
 or_false true t e = let z : ◌≡◌ {A = ℕ} 0 1 = cc in absurd (omega arith)
 or_false false t e = (refl, e)
 
-module _ (width limit n : ℕ) (e : not_whole width limit n ≡ Nothing) where
+module _ (width limit n : ℕ) (e : not_whole width limit n ≡ None) where
   tests : (ltb limit (n / width) ≡ false) × (not (eqb (n % width) 0) ≡ false)
   unfolding not_whole
   tests = or_false _ _ (at_or_none (ltb limit (n / width) || not (eqb (n % width) 0)) (min limit (n / width)) e)
@@ -52,7 +50,7 @@ module _ (width limit n : ℕ) (e : not_whole width limit n ≡ Nothing) where
 
 -- ---- 2
 
-pub short_none : (enough : Bool) → too_short enough ≡ Nothing → enough ≡ true
+pub short_none : (enough : Bool) → too_short enough ≡ None → enough ≡ true
 short_none true e = refl
 short_none false e = let z : ◌≡◌ {A = ℕ} 0 1 = cc in absurd (omega arith)
 
@@ -66,7 +64,7 @@ pub record Lengths (components width connections frontiers : ℕ) (enough : Bool
   pub frontiers_whole : frontiers % frontier_width ≡ 0
   pub room : enough ≡ true
 
-pub lengths_accept : (components width connections frontiers : ℕ) (enough : Bool) → lengths_of components width connections frontiers enough ≡ Accepted
+pub lengths_accept : (components width connections frontiers : ℕ) (enough : Bool) → lengths_of components width connections frontiers enough ≡ Ok tt
     → Lengths components width connections frontiers enough
 lengths_accept components width connections frontiers enough e =
     let first = both_accept _ _ e in
@@ -88,12 +86,12 @@ lengths_accept components width connections frontiers enough e =
 -- ---- 3
 
 -- the ranges of three lists, given what was found in the second
-pub record Ranged (cs : List ℤ) (found : Found) (fs : List ℤ) : Type 0 where
-  pub components : first_out_of_range component_low component_high cs ≡ Nothing
-  pub connections : found ≡ Nothing
-  pub frontiers : first_out_of_range frontier_low frontier_high fs ≡ Nothing
+pub record Ranged (cs : List ℤ) (found : Option ℕ) (fs : List ℤ) : Type 0 where
+  pub components : first_out_of_range component_low component_high cs ≡ None
+  pub connections : found ≡ None
+  pub frontiers : first_out_of_range frontier_low frontier_high fs ≡ None
 
-pub ranges_accept : (cs : List ℤ) (found : Found) (fs : List ℤ) → ranges_of cs found fs ≡ Accepted → Ranged cs found fs
+pub ranges_accept : (cs : List ℤ) (found : Option ℕ) (fs : List ℤ) → ranges_of cs found fs ≡ Ok tt → Ranged cs found fs
 ranges_accept cs found fs e =
     let first = both_accept _ _ e in
     let second = both_accept _ _ first.1 in
@@ -119,14 +117,14 @@ unfolding liveness_lists
 liveness_parts cs ps fs enough = simp or_else_assoc
 
 -- 1 to 5 accept: the lists are within their limits and ranges
-pub record Scene (cs : List ℤ) (width connections : ℕ) (found : Found) (fs : List ℤ) (enough : Bool) : Type 0 where
+pub record Scene (cs : List ℤ) (width connections : ℕ) (found : Option ℕ) (fs : List ℤ) (enough : Bool) : Type 0 where
   pub lengths : Lengths (length cs) width connections (length fs) enough
   pub ranges : Ranged cs found fs
-  pub ascending : first_not_ascending component_order component_width cs ≡ Nothing
-  pub once : first_repeated cs ≡ Nothing
+  pub ascending : first_not_ascending component_order component_width cs ≡ None
+  pub once : first_repeated cs ≡ None
 
-pub scene_accept : (cs : List ℤ) (width connections : ℕ) (found : Found) (fs : List ℤ) (enough : Bool)
-    → scene_of cs width connections found fs enough ≡ Accepted → Scene cs width connections found fs enough
+pub scene_accept : (cs : List ℤ) (width connections : ℕ) (found : Option ℕ) (fs : List ℤ) (enough : Bool)
+    → scene_of cs width connections found fs enough ≡ Ok tt → Scene cs width connections found fs enough
 scene_accept cs width connections found fs enough e =
     let outer = both_accept (lengths_of (length cs) width connections (length fs) enough or_else ranges_of cs found fs) (order_of cs) e in
     let inner = both_accept (lengths_of (length cs) width connections (length fs) enough) (ranges_of cs found fs) outer.0 in

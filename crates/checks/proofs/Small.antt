@@ -4,6 +4,8 @@
 --     whole_small                          number 1
 --     grouping_small, liveness_small       the checks of the lists
 -- Assumes nothing.
+use Rattle.std.specs.Prelude.{⊤, Option, Some, None, Result, Ok, Err}
+use Rattle.lists.specs.declared.Refusal.{Refusal}
 use mathlib.Core.Path.{◌≡◌, refl}
 use mathlib.Core.Bool.{Bool, true, false, not, cond, ◌||◌}
 use mathlib.Core.List.{List}
@@ -19,44 +21,40 @@ use Rattle.lists.specs.Order.{record_before, first_not_ascending, component_orde
 use Rattle.lists.specs.Ids.{used_earlier, first_repeated, end_missing, first_end_missing}
 use Rattle.checks.specs.Refusals.{refuse, ◌or_else◌, not_whole, too_short, grouping_lists, liveness_lists, Small}
 use Rattle.checks.specs.Checks.{lengths_of, ranges_of, order_of, scene_of}
-use Rattle.lists.specs.declared.Found.{Found}
-use Rattle.lists.specs.declared.Found.TheVariants.{At, Nothing}
-use Rattle.lists.specs.declared.Checked.{Checked}
-use Rattle.lists.specs.declared.Checked.TheVariants.{Accepted, Refused}
 use Rattle.lists.proofs.Search.{found_at}
 use Rattle.checks.proofs.Chain.{both_accept}
 use Rattle.checks.proofs.Accepts.{Lengths, lengths_accept, scene_accept, grouping_parts, liveness_parts}
 
 -- ---- a chain of checks
 
-pub small_or_else : (a b : Checked) → Small a → (a ≡ Accepted → Small b) → Small (a or_else b)
-small_or_else Accepted b s t = t refl
-small_or_else (Refused r) b s t = s
+pub small_or_else : (a b : Result ⊤ Refusal) → Small a → (a ≡ Ok tt → Small b) → Small (a or_else b)
+small_or_else (Ok tt) b s t = t refl
+small_or_else (Err r) b s t = s
 
 -- the same as a record, from which the check can be inferred
-record Fit (a : Checked) : Type 0 where
+record Fit (a : Result ⊤ Refusal) : Type 0 where
   small : Small a
 
-then : {a b : Checked} → Fit a → (a ≡ Accepted → Fit b) → Fit (a or_else b)
+then : {a b : Result ⊤ Refusal} → Fit a → (a ≡ Ok tt → Fit b) → Fit (a or_else b)
 then {a} {b} s t = record { small = small_or_else a b s.small (λ e. (t e).small) }
 
 -- an item that was found is at most n
-record AtMost (n : ℕ) (f : Found) : Type 0 where
-  item : (k : ℕ) → f ≡ At k → k ≤ n
+record AtMost (n : ℕ) (f : Option ℕ) : Type 0 where
+  item : (k : ℕ) → f ≡ Some k → k ≤ n
 
-fit_refuse : (number list : ℕ) {f : Found} {n : ℕ} → AtMost n f → number < 256 → list < 256 → n ≤ connection_limit → Fit (refuse number list f)
+fit_refuse : (number list : ℕ) {f : Option ℕ} {n : ℕ} → AtMost n f → number < 256 → list < 256 → n ≤ connection_limit → Fit (refuse number list f)
 fit_refuse number list {f} {n} m a b h = record { small = go f m.item }
   where
-    go : (g : Found) → ((k : ℕ) → g ≡ At k → k ≤ n) → Small (refuse number list g)
-    go (At k) most = let l = most k refl in (a, (b, omega arith))
-    go Nothing most = tt
+    go : (g : Option ℕ) → ((k : ℕ) → g ≡ Some k → k ≤ n) → Small (refuse number list g)
+    go (Some k) most = let l = most k refl in (a, (b, omega arith))
+    go None most = tt
 
 -- ---- the item of each check
 
-same_item : {j k : ℕ} → At j ≡ At k → j ≡ k
+same_item : {j k : ℕ} → Some j ≡ Some k → j ≡ k
 same_item e = cc
 
-cond_item : (t : Bool) (j k : ℕ) → cond t (At j) Nothing ≡ At k → j ≡ k
+cond_item : (t : Bool) (j k : ℕ) → cond t (Some j) None ≡ Some k → j ≡ k
 cond_item true j k e = same_item e
 cond_item false j k e = let z : ◌≡◌ {A = ℕ} 0 1 = cc in absurd (omega arith)
 
@@ -104,7 +102,7 @@ lengths_fit components width connections frontiers enough =
     then (fit_refuse 1 2 (whole_item frontier_width frontier_limit frontiers) (lit< tt) (lit< tt) (lit≤ tt)) (λ _.
     fit_refuse 2 3 (short_item enough) (lit< tt) (lit< tt) (lit≤ tt))))
 
-module _ (cs : List ℤ) (width connections : ℕ) (found : Found) (fs : List ℤ) (enough : Bool) (most : AtMost (connections / width) found) where
+module _ (cs : List ℤ) (width connections : ℕ) (found : Option ℕ) (fs : List ℤ) (enough : Bool) (most : AtMost (connections / width) found) where
   module _ (l : Lengths (length cs) width connections (length fs) enough) where
     components_few : component_count cs ≤ connection_limit
     components_few = omega (arith, l.components_few)

@@ -1,6 +1,8 @@
 -- What the functions that check the lists answer, in the parts in which they do it, and what they leave for the work: the table of ids, and
 -- the ends of port connections.
 -- Assumes nothing: these are definitions.
+use Rattle.std.specs.Prelude.{⊤, Option, Result, Ok}
+use Rattle.lists.specs.declared.Refusal.{Refusal}
 use Rattle.std.specs.Prelude.{ℕ, ◌≡◌, Bool, List, length, take, ℤ}
 use Rattle.lists.specs.Limits.{component_limit, connection_limit, frontier_limit, component_width, frontier_width}
 use Rattle.lists.specs.Records.{component_count}
@@ -9,12 +11,9 @@ use Rattle.lists.specs.Order.{first_not_ascending, component_order}
 use Rattle.lists.specs.Ids.{first_repeated, IdTable}
 use Rattle.lists.specs.Ends.{SettledEnds}
 use Rattle.checks.specs.Refusals.{refuse, ◌or_else◌, not_whole, too_short}
-use Rattle.lists.specs.declared.Found.{Found}
-use Rattle.lists.specs.declared.Checked.{Checked}
-use Rattle.lists.specs.declared.Checked.TheVariants.{Accepted}
 
 -- 1 and 2, by the lengths
-abbrev pub lengths_of : ℕ → ℕ → ℕ → ℕ → Bool → Checked
+abbrev pub lengths_of : ℕ → ℕ → ℕ → ℕ → Bool → Result ⊤ Refusal
 lengths_of components width connections frontiers enough =
     refuse 1 0 (not_whole component_width component_limit components)
     or_else refuse 1 1 (not_whole width connection_limit connections)
@@ -22,34 +21,34 @@ lengths_of components width connections frontiers enough =
     or_else refuse 2 3 (too_short enough)
 
 -- 3, given what was found in the second list
-abbrev pub ranges_of : List ℤ → Found → List ℤ → Checked
+abbrev pub ranges_of : List ℤ → Option ℕ → List ℤ → Result ⊤ Refusal
 ranges_of cs found fs =
     refuse 3 0 (first_out_of_range component_low component_high cs)
     or_else refuse 3 1 found
     or_else refuse 3 2 (first_out_of_range frontier_low frontier_high fs)
 
 -- 4 and 5
-abbrev pub order_of : List ℤ → Checked
+abbrev pub order_of : List ℤ → Result ⊤ Refusal
 order_of cs =
     refuse 4 0 (first_not_ascending component_order component_width cs)
     or_else refuse 5 0 (first_repeated cs)
 
 -- 1 to 5
-abbrev pub scene_of : List ℤ → ℕ → ℕ → Found → List ℤ → Bool → Checked
+abbrev pub scene_of : List ℤ → ℕ → ℕ → Option ℕ → List ℤ → Bool → Result ⊤ Refusal
 scene_of cs width connections found fs enough =
     (lengths_of (length cs) width connections (length fs) enough or_else ranges_of cs found fs) or_else order_of cs
 
 -- the order and the ids of the components, with their table of ids
-pub record Ordered (cs : List ℤ) (keys : List ℕ) (r : Checked) : Type 0 where
+pub record Ordered (cs : List ℤ) (keys : List ℕ) (r : Result ⊤ Refusal) : Type 0 where
   pub answer : r ≡ order_of cs
   pub table : IdTable cs keys
 
 -- the answer is that of the checks; where they accept, the keys begin with the table of ids
-pub record CheckedBy (checks : Checked) (cs : List ℤ) (keys : List ℕ) (r : Checked) : Type 0 where
+pub record CheckedBy (checks : Result ⊤ Refusal) (cs : List ℤ) (keys : List ℕ) (r : Result ⊤ Refusal) : Type 0 where
   pub answer : r ≡ checks
-  pub table : r ≡ Accepted → IdTable cs (take (component_count cs) keys)
+  pub table : r ≡ Ok tt → IdTable cs (take (component_count cs) keys)
 
 -- and so are the ends of the port connections settled
-pub record LivenessChecked (checks : Checked) (cs ps : List ℤ) (keys sources sinks : List ℕ) (r : Checked) : Type 0 where
+pub record LivenessChecked (checks : Result ⊤ Refusal) (cs ps : List ℤ) (keys sources sinks : List ℕ) (r : Result ⊤ Refusal) : Type 0 where
   pub lists : CheckedBy checks cs keys r
-  pub ends : r ≡ Accepted → SettledEnds cs ps sources sinks
+  pub ends : r ≡ Ok tt → SettledEnds cs ps sources sinks

@@ -1,44 +1,41 @@
 -- Refusals 1 to 7 (document 01, the table in "The scene taken in"): for each entry the lowest number that applies, at its earliest item,
 -- components before connections before frontiers. Lists are 0 components, 1 connections, 2 frontiers, 3 none.
 -- Assumes nothing: these are definitions.
+use Rattle.std.specs.Prelude.{⊤, Option, Some, None, Result, Ok, Err}
 use Rattle.std.specs.Prelude.{ℕ, ◌+◌, ◌*◌, ◌/◌, ◌%◌, ◌≤◌, ◌<◌, min, Bool, true, not, cond, ◌&&◌, ◌||◌, List, [], ◌∷◌, length, eqb, leb, ltb, ℤ}
 use Rattle.lists.specs.Limits.{component_limit, connection_limit, frontier_limit, component_width, connection_width, port_width, frontier_width}
 use Rattle.lists.specs.Records.{component_count, connection_count}
 use Rattle.lists.specs.Ranges.{first_out_of_range, component_low, component_high, connection_low, connection_high, port_low, port_high, frontier_low, frontier_high}
 use Rattle.lists.specs.Order.{first_not_ascending, component_order, connection_order}
 use Rattle.lists.specs.Ids.{first_repeated, first_end_missing}
-use Rattle.lists.specs.declared.Found.{Found}
-use Rattle.lists.specs.declared.Found.TheVariants.{At, Nothing}
 use Rattle.lists.specs.declared.Refusal.{Refusal}
-use Rattle.lists.specs.declared.Checked.{Checked}
-use Rattle.lists.specs.declared.Checked.TheVariants.{Accepted, Refused}
 
 -- a fault that was found is refused with its number, its list and the item
-abbrev pub refuse : ℕ → ℕ → Found → Checked
-refuse number list (At item) = Refused (record { number = number; list = list; item = item })
-refuse number list Nothing = Accepted
+abbrev pub refuse : ℕ → ℕ → Option ℕ → Result ⊤ Refusal
+refuse number list (Some item) = Err (record { number = number; list = list; item = item })
+refuse number list None = Ok tt
 
 infixr 20 ◌or_else◌
 -- the first of two checks that refuses
-abbrev pub ◌or_else◌ : Checked → Checked → Checked
-Accepted or_else next = next
-Refused r or_else next = Refused r
+abbrev pub ◌or_else◌ : Result ⊤ Refusal → Result ⊤ Refusal → Result ⊤ Refusal
+(Ok tt) or_else next = next
+Err r or_else next = Err r
 
 -- 1: a list of n numbers over its limit, or not whole records. The item is the smaller of the limit and the count of whole records.
-unfoldable pub not_whole : ℕ → ℕ → ℕ → Found
-not_whole width limit n = cond (ltb limit (n / width) || not (eqb (n % width) 0)) (At (min limit (n / width))) Nothing
+unfoldable pub not_whole : ℕ → ℕ → ℕ → Option ℕ
+not_whole width limit n = cond (ltb limit (n / width) || not (eqb (n % width) 0)) (Some (min limit (n / width))) None
 
 -- 2: a lent slice of n numbers has so many places of a width
 abbrev pub room_for : ℕ → ℕ → ℕ → Bool
 room_for places width n = leb places (n / width)
 
-abbrev pub too_short : Bool → Found
-too_short enough = cond enough Nothing (At 0)
+abbrev pub too_short : Bool → Option ℕ
+too_short enough = cond enough None (Some 0)
 
 -- ---- the checks of the lists, given whether the lent slices are long enough
 
 -- the grouping and the ports entry, whose frontiers are none, and the lists of a sheet
-unfoldable pub grouping_lists : List ℤ → List ℤ → List ℤ → Bool → Checked
+unfoldable pub grouping_lists : List ℤ → List ℤ → List ℤ → Bool → Result ⊤ Refusal
 grouping_lists cs ps fs enough =
     refuse 1 0 (not_whole component_width component_limit (length cs))
     or_else refuse 1 1 (not_whole connection_width connection_limit (length ps))
@@ -52,7 +49,7 @@ grouping_lists cs ps fs enough =
     or_else refuse 6 1 (first_not_ascending connection_order connection_width ps)
 
 -- the liveness entry and the input query
-unfoldable pub liveness_lists : List ℤ → List ℤ → List ℤ → Bool → Checked
+unfoldable pub liveness_lists : List ℤ → List ℤ → List ℤ → Bool → Result ⊤ Refusal
 liveness_lists cs ps fs enough =
     refuse 1 0 (not_whole component_width component_limit (length cs))
     or_else refuse 1 1 (not_whole port_width connection_limit (length ps))
@@ -68,11 +65,11 @@ liveness_lists cs ps fs enough =
 -- ---- the entries, given how many numbers each lent slice has
 
 -- nets and fragments: a place per component
-abbrev pub grouping_refusal : List ℤ → List ℤ → ℕ → ℕ → Checked
+abbrev pub grouping_refusal : List ℤ → List ℤ → ℕ → ℕ → Result ⊤ Refusal
 grouping_refusal cs ps nets fragments = grouping_lists cs ps [] (room_for (component_count cs) 1 nets && room_for (component_count cs) 1 fragments)
 
 -- port connections: a place per grouping connection
-abbrev pub ports_refusal : List ℤ → List ℤ → ℕ → Checked
+abbrev pub ports_refusal : List ℤ → List ℤ → ℕ → Result ⊤ Refusal
 ports_refusal cs ps ports = grouping_lists cs ps [] (room_for (connection_count ps) port_width ports)
 
 -- per component one region, two source rows of two numbers, four verdict rows of three, one pair of the walk's stack
@@ -82,15 +79,15 @@ liveness_room cs regions sources inputs stack =
     && (room_for (component_count cs * 2) 2 sources
     && (room_for (component_count cs * 4) 3 inputs && room_for (component_count cs) 2 stack))
 
-abbrev pub liveness_refusal : List ℤ → List ℤ → List ℤ → ℕ → ℕ → ℕ → ℕ → Checked
+abbrev pub liveness_refusal : List ℤ → List ℤ → List ℤ → ℕ → ℕ → ℕ → ℕ → Result ⊤ Refusal
 liveness_refusal cs ps fs regions sources inputs stack = liveness_lists cs ps fs (liveness_room cs regions sources inputs stack)
 
 -- the stack alone; number 8 comes after these
-abbrev pub query_refusal : List ℤ → List ℤ → List ℤ → ℕ → Checked
+abbrev pub query_refusal : List ℤ → List ℤ → List ℤ → ℕ → Result ⊤ Refusal
 query_refusal cs ps fs stack = liveness_lists cs ps fs (room_for (component_count cs) 2 stack)
 
 -- the lists that a sheet counted. Number 1 does not arise there, since a count over its limit was refused by its line.
-abbrev pub sheet_refusal : List ℤ → List ℤ → List ℤ → Checked
+abbrev pub sheet_refusal : List ℤ → List ℤ → List ℤ → Result ⊤ Refusal
 sheet_refusal cs ps fs = grouping_lists cs ps fs true
 
 -- ---- an answer in the paper's numbers
@@ -100,18 +97,18 @@ abbrev pub refusal_numbers : Refusal → List ℕ
 refusal_numbers r = r.number ∷ r.list ∷ r.item ∷ []
 
 -- 0 and what the entry counts, or the numbers of the refusal
-abbrev pub numbers_by : Checked → List ℕ → List ℕ
-numbers_by Accepted counts = 0 ∷ counts
-numbers_by (Refused r) counts = refusal_numbers r
+abbrev pub numbers_by : Result ⊤ Refusal → List ℕ → List ℕ
+numbers_by (Ok tt) counts = 0 ∷ counts
+numbers_by (Err r) counts = refusal_numbers r
 
 -- ---- an answer as one number
 
 -- each part of a refusal has room in its digits
-abbrev pub Small : Checked → Type 0
-Small Accepted = Unit
-Small (Refused r) = (r.number < 256) × ((r.list < 256) × (r.item ≤ connection_limit))
+abbrev pub Small : Result ⊤ Refusal → Type 0
+Small (Ok tt) = Unit
+Small (Err r) = (r.number < 256) × ((r.list < 256) × (r.item ≤ connection_limit))
 
 -- 0 where the checks accept, else the number, the list and the item, from the lowest digits on
-abbrev pub packed : Checked → ℕ
-packed Accepted = 0
-packed (Refused r) = r.number + 256 * r.list + 65536 * r.item
+abbrev pub packed : Result ⊤ Refusal → ℕ
+packed (Ok tt) = 0
+packed (Err r) = r.number + 256 * r.list + 65536 * r.item

@@ -14,33 +14,33 @@ use lists::ranges::{
     first_port_connection_out_of_range,
 };
 use lists::{
-    COMPONENT, COMPONENTS, CONNECTION, CONNECTIONS, Checked, FRONTIER, FRONTIERS, Found, PORT,
+    COMPONENT, COMPONENTS, CONNECTION, CONNECTIONS, FRONTIER, FRONTIERS, PORT,
     Refusal,
 };
 
 // A fault that was found is refused with its number and list.
-pub fn refuse_at(number: u64, list: u64, found: Found) -> Checked
+pub fn refuse_at(number: u64, list: u64, found: Option<usize>) -> Result<(), Refusal>
     ensures { result ≡ refuse number list found }
 {
     match found {
-        Found::At(item) => Checked::Refused(Refusal { number, list, item }),
-        Found::Nothing => Checked::Accepted,
+        Some(item) => Err(Refusal { number, list, item }),
+        None => Ok(()),
     }
 }
 
 // 1: a list of so many numbers that is over its limit or has no whole records.
-pub fn not_whole(width: usize, limit: usize, len: usize) -> Found
+pub fn not_whole(width: usize, limit: usize, len: usize) -> Option<usize>
     requires { 0 < width }
     ensures { result ≡ not_whole width limit len }
 {
     let count = len / width;
     if limit < count {
-        return Found::At(limit);
+        return Some(limit);
     }
     if len % width != 0 {
-        return Found::At(count);
+        return Some(count);
     }
-    Found::Nothing
+    None
 }
 
 // Whether a slice of so many numbers has the places of a width.
@@ -52,20 +52,20 @@ pub fn room_for(places: usize, width: usize, len: usize) -> bool
 }
 
 // The first of two checks that refuses.
-pub fn or_else(first: Checked, next: Checked) -> Checked
+pub fn or_else(first: Result<(), Refusal>, next: Result<(), Refusal>) -> Result<(), Refusal>
     ensures { result ≡ first or_else next }
 {
     match first {
-        Checked::Accepted => next,
-        Checked::Refused(refusal) => Checked::Refused(refusal),
+        Ok(()) => next,
+        Err(refusal) => Err(refusal),
     }
 }
 
 // 2: a lent slice is too short.
-fn too_short(enough: bool) -> Found
+fn too_short(enough: bool) -> Option<usize>
     ensures { result ≡ too_short enough }
 {
-    if enough { Found::Nothing } else { Found::At(0) }
+    if enough { None } else { Some(0) }
 }
 
 // 1 and 2, by the lengths alone: three lists, the second of records of a width, and whether the lent slices are long enough.
@@ -75,7 +75,7 @@ fn refuse_lengths(
     connections: usize,
     frontiers: usize,
     enough: bool,
-) -> Checked
+) -> Result<(), Refusal>
     requires { 0 < width }
     ensures { result ≡ lengths_of components width connections frontiers enough }
 {
@@ -87,7 +87,7 @@ fn refuse_lengths(
 }
 
 // 4 and 5: the order and the ids of the components. `keys` is left with their table of ids.
-fn refuse_components(components: &[i64], keys: &mut [u64]) -> Checked
+fn refuse_components(components: &[i64], keys: &mut [u64]) -> Result<(), Refusal>
     requires components { Components components.now }
     requires keys_len { length keys.old ≡ component_count components.now }
     ensures { Ordered components.now keys.new result }
@@ -99,7 +99,7 @@ fn refuse_components(components: &[i64], keys: &mut [u64]) -> Checked
 }
 
 // 3, given what the second list's check found.
-fn refuse_ranges(components: &[i64], connections: Found, frontiers: &[i64]) -> Checked
+fn refuse_ranges(components: &[i64], connections: Option<usize>, frontiers: &[i64]) -> Result<(), Refusal>
     ensures { result ≡ ranges_of components.now connections frontiers.now }
 {
     let first = refuse_at(3, 0, first_component_out_of_range(components));
@@ -113,11 +113,11 @@ fn refuse_scene(
     components: &[i64],
     width: usize,
     connections: usize,
-    found: Found,
+    found: Option<usize>,
     frontiers: &[i64],
     enough: bool,
     keys: &mut [u64],
-) -> Checked
+) -> Result<(), Refusal>
     requires { (0 < width) × (component_limit ≤ length keys.old) }
     ensures { CheckedBy (scene_of components.now width connections found frontiers.now enough) components.now keys.new result }
 {
@@ -129,7 +129,7 @@ fn refuse_scene(
         enough,
     );
     let checked = or_else(lengths, refuse_ranges(components, found, frontiers));
-    let Checked::Accepted = checked else {
+    let Ok(()) = checked else {
         return checked;
     };
     let count = components.len() / COMPONENT;
@@ -143,7 +143,7 @@ pub fn grouping_lists(
     frontiers: &[i64],
     enough: bool,
     keys: &mut [u64],
-) -> Checked
+) -> Result<(), Refusal>
     requires { component_limit ≤ length keys.old }
     ensures { CheckedBy (grouping_lists components.now connections.now frontiers.now enough) components.now keys.new result }
 {
@@ -173,7 +173,7 @@ pub fn liveness_lists(
     keys: &mut [u64],
     sources: &mut [usize],
     sinks: &mut [usize],
-) -> Checked
+) -> Result<(), Refusal>
     requires { (component_limit ≤ length keys.old) × ((connection_limit ≤ length sources.old) × (connection_limit ≤ length sinks.old)) }
     ensures { LivenessChecked (liveness_lists components.now ports.now frontiers.now enough) components.now ports.now keys.new sources.new sinks.new result }
 {
@@ -187,7 +187,7 @@ pub fn liveness_lists(
         enough,
         keys,
     );
-    let Checked::Accepted = scene else {
+    let Ok(()) = scene else {
         return scene;
     };
     let count = components.len() / COMPONENT;
@@ -200,13 +200,13 @@ pub fn liveness_lists(
 }
 
 // An answer as one number: 0 where the checks accept, else the number, the list and the item, from the lowest digits on.
-pub fn pack(checked: Checked) -> u64
+pub fn pack(checked: Result<(), Refusal>) -> u64
     requires { Small checked }
     ensures { result ≡ packed checked }
 {
     match checked {
-        Checked::Accepted => 0,
-        Checked::Refused(refusal) => {
+        Ok(()) => 0,
+        Err(refusal) => {
             refusal.number + 256 * refusal.list + 65536 * refusal.item as u64
         }
     }

@@ -4,6 +4,7 @@
 --     member_stands     a component has an id where the key at the id's member says so
 --     member_past       and none where there is no key
 -- Assumes nothing.
+use Rattle.std.specs.Prelude.{Option, Some, None}
 use mathlib.Core.Path.{◌≡◌, refl, sym, ap, ◌∙◌, subst}
 use mathlib.Core.Bool.{Bool, false}
 use mathlib.Core.Logic.{◌⊎◌, ⊎_elim}
@@ -25,8 +26,6 @@ use Rattle.lists.specs.Ranges.{port_low, port_high}
 use Rattle.lists.specs.First.{first_from, is_found}
 use Rattle.lists.specs.Ids.{has_component, IdTable, smaller_ids}
 use Rattle.lists.specs.Ends.{SettledEnds}
-use Rattle.lists.specs.declared.Found.{Found}
-use Rattle.lists.specs.declared.Found.TheVariants.{At, Nothing}
 use Rattle.lists.proofs.Search.{found_at, none_found}
 use Rattle.lists.proofs.Table.{place_found, place_none}
 use Rattle.lists.proofs.Members.{smaller_at}
@@ -47,8 +46,8 @@ lower_bound keys v = go (first_from test 0 (length keys)) refl
     test : ℕ → Bool
     test i = leb v (get_or keys i 0)
 
-    go : (f : Found) → first_from test 0 (length keys) ≡ f → (r : ℕ) × LowerBound keys v r
-    go (At i) e =
+    go : (f : Option ℕ) → first_from test 0 (length keys) ≡ f → (r : ℕ) × LowerBound keys v r
+    go (Some i) e =
         let f = found_at test 0 (length keys) i e in (
           i,
           record {
@@ -57,7 +56,7 @@ lower_bound keys v = go (first_from test 0 (length keys)) refl
             from = λ o k l h. omega (arith, leb-true v (get_or keys i 0) f.passes, o.at i k l h);
           },
         )
-    go Nothing e = (
+    go None e = (
       length keys,
       record {
         within = omega arith;

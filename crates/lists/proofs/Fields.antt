@@ -1,5 +1,6 @@
 -- What the checks of ranges and lengths leave: each field of each record in its range (`Within`), and natural numbers among them.
 -- Assumes nothing.
+use Rattle.std.specs.Prelude.{None}
 use mathlib.Core.Path.{◌≡◌}
 use mathlib.Core.Bool.{not}
 use mathlib.Core.List.{List}
@@ -15,12 +16,11 @@ use Rattle.lists.specs.Signed.{at, in_range}
 use Rattle.lists.specs.Records.{natural_at}
 use Rattle.lists.specs.Ranges.{record_in_range, first_out_of_range}
 use Rattle.lists.specs.Within.{Within}
-use Rattle.lists.specs.declared.Found.TheVariants.{Nothing}
 use Rattle.lists.proofs.Search.{none_found, all_at}
 use Rattle.lists.proofs.Signed.{range_non_neg, range_most}
 
 -- a list in which no record is out of range
-pub within : (limit : ℕ) (low high list : List ℤ) → length list / length low ≤ limit → first_out_of_range low high list ≡ Nothing → Within limit low high list
+pub within : (limit : ℕ) (low high list : List ℤ) → length list / length low ≤ limit → first_out_of_range low high list ≡ None → Within limit low high list
 unfolding first_out_of_range record_in_range
 within limit low high list few e =
     let each = none_found (λ k. not (record_in_range low high list (k * length low))) 0 (length list / length low) e in

@@ -6,6 +6,7 @@
 --     member_id_lem                                the id of member k is that of the component for which it stands
 --     member_below, member_rises, member_inj   members are below the count, rise with the ids, and are distinct
 -- Assumes nothing.
+use Rattle.std.specs.Prelude.{Option, Some, None}
 use mathlib.Core.Path.{◌≡◌, refl, sym, ap, ◌∙◌}
 use mathlib.Core.Bool.{Bool, true, false}
 use mathlib.Core.Logic.{◌↔◌, ⊎_elim}
@@ -25,8 +26,6 @@ use Rattle.sets.proofs.Counts.{count_cong, count_le, count_none}
 use Rattle.lists.specs.Records.{component, component_count}
 use Rattle.lists.specs.First.{is_found}
 use Rattle.lists.specs.Ids.{place_below, used_earlier, first_repeated, id_key, keys_up_to, IdTable, smaller_ids, member_of, MemberPlace, MemberId}
-use Rattle.lists.specs.declared.Found.{Found}
-use Rattle.lists.specs.declared.Found.TheVariants.{At, Nothing}
 use Rattle.lists.proofs.Search.{never, none_found}
 use Rattle.lists.proofs.Table.{table_rising, table_place, table_id}
 
@@ -72,11 +71,11 @@ count_once P (suc n) h = go (P n) refl (count_once P n (λ i j l m. h i j l (ome
 
 -- ---- ids that are used once
 
-found_none : (f : Found) → is_found f ≡ false → f ≡ Nothing
-found_none (At k) e = never (sym e)
-found_none Nothing e = refl
+found_none : (f : Option ℕ) → is_found f ≡ false → f ≡ None
+found_none (Some k) e = never (sym e)
+found_none None e = refl
 
-module _ (cs : List ℤ) (once : first_repeated cs ≡ Nothing) where
+module _ (cs : List ℤ) (once : first_repeated cs ≡ None) where
   not_earlier : (j k : ℕ) → j < k → k < component_count cs → (component cs j).id ≡ (component cs k).id → ⊥
   unfolding first_repeated place_below
   not_earlier j k l h e =
@@ -129,7 +128,7 @@ module _ (cs : List ℤ) where
         (order? (component cs k).id (component cs j).id),
   )
 
-  pub member_inj : first_repeated cs ≡ Nothing → (j k : ℕ) → j < component_count cs → k < component_count cs → member_of cs j ≡ member_of cs k → j ≡ k
+  pub member_inj : first_repeated cs ≡ None → (j k : ℕ) → j < component_count cs → k < component_count cs → member_of cs j ≡ member_of cs k → j ≡ k
   member_inj once j k h l e =
       let le : (component cs j).id ≤ (component cs k).id =
       ⊎_elim (λ m. m) (λ m. absurd (omega (arith, smaller_less k (component cs j).id l m))) (order? (component cs j).id (component cs k).id) in
@@ -182,7 +181,7 @@ module _ {cs : List ℤ} {keys : List ℕ} (t : IdTable cs keys) where
 
   module _ (k : ℕ) (h : k < length keys) where
     -- where no id is repeated, the keys before key k have smaller ids
-    before_key : first_repeated cs ≡ Nothing → (j : ℕ) → j < k → get_or keys j 0 < get_or keys k 0 / span * span
+    before_key : first_repeated cs ≡ None → (j : ℕ) → j < k → get_or keys j 0 < get_or keys k 0 / span * span
     before_key once j l =
         let g : j < length keys = omega arith in
         let less = table_strict.at j k l h in
@@ -209,7 +208,7 @@ module _ {cs : List ℤ} {keys : List ℕ} (t : IdTable cs keys) where
     member_key = record { place = get_or keys k 0 % span; stands = member_place; id = sym (table_id t k h) }
 
 -- the id of member k is that of every component for which k stands
-pub member_id_lem : {cs : List ℤ} {k r : ℕ} → MemberId cs k r → first_repeated cs ≡ Nothing → (p : ℕ) → p < component_count cs → member_of cs p ≡ k
+pub member_id_lem : {cs : List ℤ} {k r : ℕ} → MemberId cs k r → first_repeated cs ≡ None → (p : ℕ) → p < component_count cs → member_of cs p ≡ k
     → r ≡ (component cs p).id
 member_id_lem {cs} m once p h e =
     m.id ∙ ap (λ (q : ℕ). (component cs q).id) (member_inj cs once m.place p m.stands.below h (m.stands.member once ∙ sym e))

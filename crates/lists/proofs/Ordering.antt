@@ -4,6 +4,7 @@
 --     then_step                                              it is transitive where what decides after it is
 --     ascending_at                                           a record comes before the next
 -- Assumes nothing.
+use Rattle.std.specs.Prelude.{None}
 use mathlib.Core.Path.{◌≡◌, refl, ◌∙◌, subst}
 use mathlib.Core.Bool.{Bool, true, false, not, ◌&&◌, ◌||◌}
 use mathlib.Core.Logic.{◌⊎◌, inl, inr, ⊎_elim}
@@ -19,7 +20,6 @@ use lib.Signed.{lt_z}
 use Rattle.lists.specs.Signed.{at, less_then}
 use borrow.Author.Tests.{not-false}
 use Rattle.lists.specs.Order.{FieldsBelow, record_before, first_not_ascending}
-use Rattle.lists.specs.declared.Found.TheVariants.{Nothing}
 use Rattle.lists.proofs.Search.{never, none_found}
 use Rattle.lists.proofs.Signed.{lt_z_self, lt_z_trans, lt_z_neither}
 
@@ -81,7 +81,7 @@ then_step a b c r s t after e f =
 
 -- ---- records that ascend
 
-pub ascending_at : (fields : List ℕ) (width : ℕ) (list : List ℤ) → first_not_ascending fields width list ≡ Nothing
+pub ascending_at : (fields : List ℕ) (width : ℕ) (list : List ℤ) → first_not_ascending fields width list ≡ None
     → (k : ℕ) → suc k < length list / width → record_before fields list (k * width) (suc k * width) ≡ true
 unfolding first_not_ascending
 ascending_at fields width list e k h =

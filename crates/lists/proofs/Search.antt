@@ -6,6 +6,7 @@
 --     found_more, some_more                    one place more at the end of the run
 --     record_within                            record k lies within its list
 -- Assumes nothing.
+use Rattle.std.specs.Prelude.{Option, Some, None}
 use mathlib.Core.Path.{◌≡◌, refl, sym, ◌∙◌, subst}
 use mathlib.Core.Bool.{Bool, true, false, cond, ◌&&◌, ◌||◌}
 use mathlib.Core.Logic.{⊎_elim}
@@ -15,8 +16,6 @@ use native.Mathlib.Numerals.{add-one}
 use native.Mathlib.Omega.{arith}
 use lib.Dec.{T}
 use Rattle.lists.specs.First.{first_from, all_from, is_found, some}
-use Rattle.lists.specs.declared.Found.{Found}
-use Rattle.lists.specs.declared.Found.TheVariants.{At, Nothing}
 
 pub never : {X : Type 0} → false ≡ true → X
 never e = absurd (subst T (sym e) tt)
@@ -39,17 +38,17 @@ module _ (test : ℕ → Bool) (k n : ℕ) where
   left : k < n → n - k ≡ suc (n - (k + 1))
   left h = omega arith
 
-  turn : k < n → first_from test k (n - k) ≡ cond (test k) (At k) (first_from test (k + 1) (n - (k + 1)))
+  turn : k < n → first_from test k (n - k) ≡ cond (test k) (Some k) (first_from test (k + 1) (n - (k + 1)))
   unfolding first_from
   turn h = rw (left h, add-one k)
 
-  pub first_here : k < n → test k ≡ true → first_from test k (n - k) ≡ At k
+  pub first_here : k < n → test k ≡ true → first_from test k (n - k) ≡ Some k
   first_here h e = turn h ∙ rw e
 
   pub first_later : k < n → test k ≡ false → first_from test k (n - k) ≡ first_from test (k + 1) (n - (k + 1))
   first_later h e = turn h ∙ rw e
 
-  pub first_none : n ≤ k → first_from test k (n - k) ≡ Nothing
+  pub first_none : n ≤ k → first_from test k (n - k) ≡ None
   unfolding first_from
   first_none h = let none : n - k ≡ 0 = omega arith in rw none
 
@@ -76,12 +75,12 @@ all_at test k (suc n) e j p q =
     let s = both (test k) (all_from test (suc k) n) e in
     ⊎_elim (λ (same : k ≡ j). subst (λ (i : ℕ). test i ≡ true) same s.0) (λ (later : k < j). all_at test (suc k) n s.1 j later (omega arith)) (eq-or-lt_of_le p)
 
-step_none : (t : Bool) (k : ℕ) (f : Found) → cond t (At k) f ≡ Nothing → (t ≡ false) × (f ≡ Nothing)
+step_none : (t : Bool) (k : ℕ) (f : Option ℕ) → cond t (Some k) f ≡ None → (t ≡ false) × (f ≡ None)
 step_none true k f e = let z : ◌≡◌ {A = ℕ} 0 1 = cc in absurd (omega arith)
 step_none false k f e = (refl, e)
 
 -- nothing was found: every place failed the test
-pub none_found : (test : ℕ → Bool) (k n : ℕ) → first_from test k n ≡ Nothing → (j : ℕ) → k ≤ j → j < k + n → test j ≡ false
+pub none_found : (test : ℕ → Bool) (k n : ℕ) → first_from test k n ≡ None → (j : ℕ) → k ≤ j → j < k + n → test j ≡ false
 unfolding first_from
 none_found test k zero e j p q = absurd (omega arith)
 none_found test k (suc n) e j p q =
@@ -89,7 +88,7 @@ none_found test k (suc n) e j p q =
     ⊎_elim (λ (same : k ≡ j). subst (λ (i : ℕ). test i ≡ false) same s.0) (λ (later : k < j). none_found test (suc k) n s.1 j later (omega arith)) (eq-or-lt_of_le p)
 
 -- the first place that passes is found
-pub first_is : (test : ℕ → Bool) (k n p : ℕ) → k ≤ p → p < k + n → test p ≡ true → ((j : ℕ) → k ≤ j → j < p → test j ≡ false) → first_from test k n ≡ At p
+pub first_is : (test : ℕ → Bool) (k n p : ℕ) → k ≤ p → p < k + n → test p ≡ true → ((j : ℕ) → k ≤ j → j < p → test j ≡ false) → first_from test k n ≡ Some p
 unfolding first_from
 first_is test k zero p l h e none = absurd (omega arith)
 first_is test k (suc n) p l h e none =
@@ -99,7 +98,7 @@ first_is test k (suc n) p l h e none =
     (eq-or-lt_of_le l)
 
 -- no place passes: nothing is found
-pub first_nothing : (test : ℕ → Bool) (k n : ℕ) → ((j : ℕ) → k ≤ j → j < k + n → test j ≡ false) → first_from test k n ≡ Nothing
+pub first_nothing : (test : ℕ → Bool) (k n : ℕ) → ((j : ℕ) → k ≤ j → j < k + n → test j ≡ false) → first_from test k n ≡ None
 unfolding first_from
 first_nothing test k zero none = refl
 first_nothing test k (suc n) none = rw (none k (omega arith) (omega arith)) (first_nothing test (suc k) n (λ j a b. none j (omega arith) (omega arith)))
@@ -111,15 +110,15 @@ pub record FoundAt (test : ℕ → Bool) (k n p : ℕ) : Type 0 where
   pub passes : test p ≡ true
   pub first : (j : ℕ) → k ≤ j → j < p → test j ≡ false
 
-found_here : {a b : ℕ} → At a ≡ At b → a ≡ b
+found_here : {a b : ℕ} → Some a ≡ Some b → a ≡ b
 found_here e = cc
 
-pub found_at : (test : ℕ → Bool) (k n p : ℕ) → first_from test k n ≡ At p → FoundAt test k n p
+pub found_at : (test : ℕ → Bool) (k n p : ℕ) → first_from test k n ≡ Some p → FoundAt test k n p
 unfolding first_from
 found_at test k zero p e = let z : ◌≡◌ {A = ℕ} 0 1 = cc in absurd (omega arith)
 found_at test k (suc n) p e = go (test k) refl (found_at test (suc k) n p)
   where
-    go : (t : Bool) → test k ≡ t → (first_from test (suc k) n ≡ At p → FoundAt test (suc k) n p) → FoundAt test k (suc n) p
+    go : (t : Bool) → test k ≡ t → (first_from test (suc k) n ≡ Some p → FoundAt test (suc k) n p) → FoundAt test k (suc n) p
     go true q later =
         let s : k ≡ p = found_here (rw q at e) in
         record { from = omega arith; below = omega arith; passes = subst (λ (i : ℕ). test i ≡ true) s q; first = λ j a b. absurd (omega arith) }
@@ -143,13 +142,13 @@ pub found_more : (test : ℕ → Bool) (k n : ℕ) → is_found (first_from test
 unfolding first_from
 found_more test k zero = go (test k) refl
   where
-    go : (t : Bool) → test k ≡ t → is_found (cond (test k) (At k) Nothing) ≡ test (k + 0)
+    go : (t : Bool) → test k ≡ t → is_found (cond (test k) (Some k) None) ≡ test (k + 0)
     go true e = rw (add-zero, e)
     go false e = rw (add-zero, e)
 found_more test k (suc n) = go (test k) refl (found_more test (suc k) n)
   where
     go : (t : Bool) → test k ≡ t → is_found (first_from test (suc k) (suc n)) ≡ (is_found (first_from test (suc k) n) || test (suc k + n))
-        → is_found (cond (test k) (At k) (first_from test (suc k) (suc n))) ≡ (is_found (cond (test k) (At k) (first_from test (suc k) n)) || test (k + suc n))
+        → is_found (cond (test k) (Some k) (first_from test (suc k) (suc n))) ≡ (is_found (cond (test k) (Some k) (first_from test (suc k) n)) || test (k + suc n))
     go true e h = rw e
     go false e h = let same : k + suc n ≡ suc k + n = omega arith in rw (e, same) h
 

@@ -10,6 +10,7 @@
 --     used_found, used_none          and whether an earlier component has it
 --     unrepeated_none                where no neighbours in the table have one id, no id is used twice
 -- Assumes nothing.
+use Rattle.std.specs.Prelude.{Some, None}
 use mathlib.Core.Path.{◌≡◌, refl, sym, ap, ◌∙◌}
 use mathlib.Core.Bool.{Bool, true, false}
 use mathlib.Core.Logic.{⊎_elim}
@@ -30,7 +31,6 @@ use Rattle.lists.specs.Records.{component, component_count}
 use Rattle.lists.specs.First.{is_found}
 use Rattle.lists.specs.Ids.{place_below, place_of, used_earlier, id_key, keys_up_to, id_keys, IdTable, Unrepeated, first_repeated}
 use Rattle.lists.specs.Within.{Components}
-use Rattle.lists.specs.declared.Found.TheVariants.{At, Nothing}
 use Rattle.lists.proofs.Fields.{first_most}
 use Rattle.lists.proofs.Search.{first_is, first_nothing, found_at, none_found}
 
@@ -116,7 +116,7 @@ module _ (cs : List ℤ) {keys : List ℕ} (t : IdTable cs keys) (id : ℕ) {i :
       let q : get_or keys m.0 0 ≡ id * span + k = m.2 ∙ ap (λ (x : ℕ). x * span + k) e in
       (m.0, ⊎_elim (λ l. l) (λ l. absurd (omega (arith, s.before (table_rising t) m.0 l, q))) (order? i m.0), m.1, q)
 
-  pub place_found : i < length keys → get_or keys i 0 / span ≡ id → place_of cs id ≡ At (get_or keys i 0 % span)
+  pub place_found : i < length keys → get_or keys i 0 / span ≡ id → place_of cs id ≡ Some (get_or keys i 0 % span)
   unfolding place_below
   place_found h e =
       first_is (λ k. eqb (component cs k).id id) 0 (component_count cs) (get_or keys i 0 % span) (omega arith) (omega (arith, table_place t i h))
@@ -126,7 +126,7 @@ module _ (cs : List ℤ) {keys : List ℕ} (t : IdTable cs keys) (id : ℕ) {i :
       let up = (table_rising t).at i f.0 f.1 f.2 in
       omega (arith, f.3, t.few)))
 
-  pub place_none : (i < length keys → get_or keys i 0 / span ≡ id → ⊥) → place_of cs id ≡ Nothing
+  pub place_none : (i < length keys → get_or keys i 0 / span ≡ id → ⊥) → place_of cs id ≡ None
   unfolding place_below
   place_none none =
       first_nothing (λ k. eqb (component cs k).id id) 0 (component_count cs)
@@ -140,7 +140,7 @@ module _ (cs : List ℤ) {keys : List ℕ} (t : IdTable cs keys) (id : ℕ) {i :
 -- ---- whether an earlier component has it
 
 module _ (cs : List ℤ) (k : ℕ) (h : k < component_count cs) where
-  pub used_found : (p : ℕ) → place_of cs (component cs k).id ≡ At p → used_earlier cs k ≡ ltb p k
+  pub used_found : (p : ℕ) → place_of cs (component cs k).id ≡ Some p → used_earlier cs k ≡ ltb p k
   unfolding place_below
   used_found p e =
       let test : ℕ → Bool = λ j. eqb (component cs j).id (component cs k).id in
@@ -150,14 +150,14 @@ module _ (cs : List ℤ) (k : ℕ) (h : k < component_count cs) where
       (λ l. ap is_found (first_is test 0 k p (omega arith) (omega arith) f.passes f.first) ∙ sym (lt-ltb p k l))
       (order? k p)
 
-  pub used_none : place_of cs (component cs k).id ≡ Nothing → used_earlier cs k ≡ false
+  pub used_none : place_of cs (component cs k).id ≡ None → used_earlier cs k ≡ false
   unfolding place_below
   used_none e =
       let test : ℕ → Bool = λ j. eqb (component cs j).id (component cs k).id in
       ap is_found (first_nothing test 0 k (λ j a b. none_found test 0 (component_count cs) e j a (omega arith)))
 
 -- an id that is used twice has two keys, and all between them have it too
-pub unrepeated_none : {cs : List ℤ} {keys : List ℕ} → IdTable cs keys → Unrepeated keys → first_repeated cs ≡ Nothing
+pub unrepeated_none : {cs : List ℤ} {keys : List ℕ} → IdTable cs keys → Unrepeated keys → first_repeated cs ≡ None
 unfolding first_repeated place_below
 unrepeated_none {cs} {keys} t u = first_nothing (used_earlier cs) 0 (component_count cs) (λ k _ b.
     ap is_found (first_nothing (λ j. eqb (component cs j).id (component cs k).id) 0 k (λ j _ l.
@@ -171,6 +171,6 @@ unrepeated_none {cs} {keys} t u = first_nothing (used_earlier cs) 0 (component_c
     u.at first.0 (omega (arith, later.1)) (omega (arith, first.2, later.2, t.few))))))
 
 -- a place that was found is below the number of components
-pub place_below_lem : (cs : List ℤ) (id p : ℕ) → place_of cs id ≡ At p → p < component_count cs
+pub place_below_lem : (cs : List ℤ) (id p : ℕ) → place_of cs id ≡ Some p → p < component_count cs
 unfolding place_below
 place_below_lem cs id p e = omega (arith, (found_at (λ k. eqb (component cs k).id id) 0 (component_count cs) p e).below)

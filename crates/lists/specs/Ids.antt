@@ -1,20 +1,19 @@
 -- Ids: the list place of an id, ids used twice (refusal 5), endpoints of port connections (refusal 7), the table of ids, and members.
 -- Assumes nothing: these are definitions.
+use Rattle.std.specs.Prelude.{Option, None}
 use Rattle.std.specs.Prelude.{ℕ, zero, suc, ◌+◌, ◌/◌, ◌≤◌, ◌<◌, length, get_or, ◌≡◌, Bool, not, ◌&&◌, List, [], ◌∷◌, ◌++◌, eqb, ltb, ℤ}
 use Rattle.tables.specs.Order.{Sorted}
 use Rattle.tables.specs.Pairs.{pair, span}
 use Rattle.sets.specs.Members.{count_below}
 use Rattle.lists.specs.Records.{component, port_connection, component_count, port_count}
 use Rattle.lists.specs.First.{first_from, is_found}
-use Rattle.lists.specs.declared.Found.{Found}
-use Rattle.lists.specs.declared.Found.TheVariants.{Nothing}
 
 -- the first place below n whose component has the id
-unfoldable pub place_below : List ℤ → ℕ → ℕ → Found
+unfoldable pub place_below : List ℤ → ℕ → ℕ → Option ℕ
 place_below cs n id = first_from (λ k. eqb (component cs k).id id) 0 n
 
 -- the list place of an id
-abbrev pub place_of : List ℤ → ℕ → Found
+abbrev pub place_of : List ℤ → ℕ → Option ℕ
 place_of cs id = place_below cs (component_count cs) id
 
 abbrev pub has_component : List ℤ → ℕ → Bool
@@ -24,7 +23,7 @@ has_component cs id = is_found (place_of cs id)
 abbrev pub used_earlier : List ℤ → ℕ → Bool
 used_earlier cs k = is_found (place_below cs k (component cs k).id)
 
-unfoldable pub first_repeated : List ℤ → Found
+unfoldable pub first_repeated : List ℤ → Option ℕ
 first_repeated cs = first_from (used_earlier cs) 0 (component_count cs)
 
 -- 7: an endpoint of a non-support port connection is no component. Transfer 6 is StructuralSupport.
@@ -36,7 +35,7 @@ end_missing cs ps k =
     not (eqb (port_connection ps k).transfer support_transfer)
     && not (has_component cs (port_connection ps k).source && has_component cs (port_connection ps k).sink)
 
-unfoldable pub first_end_missing : List ℤ → List ℤ → Found
+unfoldable pub first_end_missing : List ℤ → List ℤ → Option ℕ
 first_end_missing cs ps = first_from (end_missing cs ps) 0 (port_count ps)
 
 -- ---- the table of ids
@@ -79,7 +78,7 @@ member_of cs k = smaller_ids cs (component cs k).id
 -- r is the list place of the component that member k stands for, where no id is used twice
 pub record MemberPlace (cs : List ℤ) (k r : ℕ) : Type 0 where
   pub below : r < component_count cs
-  pub member : first_repeated cs ≡ Nothing → member_of cs r ≡ k
+  pub member : first_repeated cs ≡ None → member_of cs r ≡ k
 
 -- r is its id
 pub record MemberId (cs : List ℤ) (k r : ℕ) : Type 0 where

@@ -1,9 +1,9 @@
 -- The strict orders of components (refusal 4) and of grouping connections (refusal 6).
 -- Assumes nothing: these are definitions.
+use Rattle.std.specs.Prelude.{Option}
 use Rattle.std.specs.Prelude.{ℕ, ◌+◌, ◌*◌, ◌-◌, ◌/◌, ◌<◌, Bool, false, not, List, ◌∷◌, [], length, ℤ}
 use Rattle.lists.specs.Signed.{at, less_then}
 use Rattle.lists.specs.First.{first_from}
-use Rattle.lists.specs.declared.Found.{Found}
 
 -- the record at `a` comes strictly before the one at `b`, by the named fields, the first that differs deciding
 unfoldable pub record_before : List ℕ → List ℤ → ℕ → ℕ → Bool
@@ -16,7 +16,7 @@ FieldsBelow width [] = Unit
 FieldsBelow width (f ∷ fields) = (f < width) × FieldsBelow width fields
 
 -- the first record that does not come strictly after the one before it
-unfoldable pub first_not_ascending : List ℕ → ℕ → List ℤ → Found
+unfoldable pub first_not_ascending : List ℕ → ℕ → List ℤ → Option ℕ
 first_not_ascending fields width list =
     first_from (λ k. not (record_before fields list ((k - 1) * width) (k * width))) 1 (length list / width - 1)
 

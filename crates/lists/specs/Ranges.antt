@@ -1,16 +1,16 @@
 -- Ranges (refusal 3): field f of a record is from low[f] to high[f]. They hold for every kind and in every list.
 -- Assumes nothing: these are definitions.
+use Rattle.std.specs.Prelude.{Option}
 use Rattle.std.specs.Prelude.{ℕ, ◌+◌, ◌*◌, ◌/◌, Bool, not, List, ◌∷◌, [], length, ℤ, pos, negsuc}
 use Rattle.lists.specs.Signed.{at, in_range}
 use Rattle.lists.specs.First.{first_from, all_from}
-use Rattle.lists.specs.declared.Found.{Found}
 
 -- each field of the record at `i` is in its range
 unfoldable pub record_in_range : List ℤ → List ℤ → List ℤ → ℕ → Bool
 record_in_range low high list i = all_from (λ f. in_range (at low f) (at high f) (at list (i + f))) 0 (length low)
 
 -- the first record with a field outside its range
-unfoldable pub first_out_of_range : List ℤ → List ℤ → List ℤ → Found
+unfoldable pub first_out_of_range : List ℤ → List ℤ → List ℤ → Option ℕ
 first_out_of_range low high list = first_from (λ k. not (record_in_range low high list (k * length low))) 0 (length list / length low)
 
 -- ids are 0 to 4,294,967,295

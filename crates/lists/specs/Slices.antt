@@ -1,9 +1,9 @@
 -- What an entry leaves in the slices that it was lent (document 01, after the table of refusals): an accepted call writes only its rows
 -- and leaves work slices zero; a refusal changes no slice.
 -- Assumes nothing: these are definitions.
+use Rattle.std.specs.Prelude.{⊤, Result, Ok, Err}
+use Rattle.lists.specs.declared.Refusal.{Refusal}
 use Rattle.std.specs.Prelude.{List, ◌++◌, ℕ, length, drop, replicate}
-use Rattle.lists.specs.declared.Checked.{Checked}
-use Rattle.lists.specs.declared.Checked.TheVariants.{Accepted, Refused}
 
 -- the rows stand at the front of the slice, and the rest is as it was
 abbrev pub laid : {A : Type 0} → List A → List A → List A
@@ -16,11 +16,11 @@ cleared old = replicate (length old) 0
 -- ---- by what the checks say
 
 -- an output slice: the rows of an accepted call, or what it held
-abbrev pub left_of : {A : Type 0} → Checked → List A → List A → List A
-left_of Accepted rows old = laid rows old
-left_of (Refused refusal) rows old = old
+abbrev pub left_of : {A : Type 0} → Result ⊤ Refusal → List A → List A → List A
+left_of (Ok tt) rows old = laid rows old
+left_of (Err refusal) rows old = old
 
 -- a work slice: all zero after an accepted call, or what it held
-abbrev pub work_of : Checked → List ℕ → List ℕ
-work_of Accepted old = cleared old
-work_of (Refused refusal) old = old
+abbrev pub work_of : Result ⊤ Refusal → List ℕ → List ℕ
+work_of (Ok tt) old = cleared old
+work_of (Err refusal) old = old

@@ -8,7 +8,7 @@ ghost use Rattle.lists.specs.Within.{PortConnections};
 use super::hints::{HINTS, hint_ids, member_near};
 use super::ids::SUPPORT;
 use super::numbers::natural_at;
-use super::{Found, PORT};
+use super::{PORT};
 use tables::SPAN;
 
 // The member of field f of each port connection, 0 the sources and 2 the sinks.
@@ -61,7 +61,7 @@ fn end_missing(keys: &[u64], ports: &[i64], sources: &[usize], sinks: &[usize], 
 }
 
 // The first port connection with a missing end, given their settled ends.
-pub fn first_end_missing(keys: &[u64], ports: &[i64], sources: &[usize], sinks: &[usize]) -> Found
+pub fn first_end_missing(keys: &[u64], ports: &[i64], sources: &[usize], sinks: &[usize]) -> Option<usize>
     requires port_connections { PortConnections ports.now }
     requires ports_in_bounds { (port_count ports.now ≤ length sources.now) × (port_count ports.now ≤ length sinks.now) }
     ensures { (cs : List ℤ) → IdTable cs keys.now → SettledEnds cs ports.now sources.now sinks.now → result ≡ first_end_missing cs ports.now }
@@ -70,9 +70,9 @@ pub fn first_end_missing(keys: &[u64], ports: &[i64], sources: &[usize], sinks: 
     let mut k: usize = 0;
     while k < count {
         if end_missing(keys, ports, sources, sinks, k) {
-            return Found::At(k);
+            return Some(k);
         }
         k += 1;
     }
-    Found::Nothing
+    None
 }

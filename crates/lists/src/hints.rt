@@ -5,7 +5,6 @@ ghost use Rattle.tables.specs.Order.{LowerBound};
 ghost use Rattle.tables.specs.Pairs.{span};
 ghost use Rattle.lists.specs.Ids.{place_of, IdTable, smaller_ids};
 
-use super::Found;
 use tables::SPAN;
 
 const SLOTS: usize = 1 << 12;
@@ -54,7 +53,7 @@ fn position_of(keys: &[u64], hints: &[u16; HINTS], id: u64) -> usize
 }
 
 // What `place_of` gives, by the hints.
-pub fn place_near(keys: &[u64], hints: &[u16; HINTS], id: u64) -> Found
+pub fn place_near(keys: &[u64], hints: &[u16; HINTS], id: u64) -> Option<usize>
     requires { id < 4294967296 }
     ensures { (cs : List ℤ) → IdTable cs keys.now → result ≡ place_of cs id }
 {
@@ -62,10 +61,10 @@ pub fn place_near(keys: &[u64], hints: &[u16; HINTS], id: u64) -> Found
     if i < keys.len() {
         let key = keys[i];
         if key / SPAN == id {
-            return Found::At((key % SPAN) as usize);
+            return Some((key % SPAN) as usize);
         }
     }
-    Found::Nothing
+    None
 }
 
 // What `member_of` gives, by the hints.

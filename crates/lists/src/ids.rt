@@ -6,7 +6,7 @@ ghost use Rattle.lists.specs.Ids.{place_of, has_component, used_earlier, first_r
 ghost use Rattle.lists.specs.Within.{Components};
 
 use super::numbers::natural_at;
-use super::{COMPONENT, Found};
+use super::{COMPONENT};
 use tables::SPAN;
 
 // The pair of the id of component k and its place.
@@ -34,7 +34,7 @@ pub fn id_table(components: &[i64], keys: &mut [u64], spare: &mut [u64])
 }
 
 // The list place of an id.
-pub fn place_of(keys: &[u64], id: u64) -> Found
+pub fn place_of(keys: &[u64], id: u64) -> Option<usize>
     requires { id < 4294967296 }
     ensures { (cs : List ℤ) → IdTable cs keys.now → result ≡ place_of cs id }
 {
@@ -42,10 +42,10 @@ pub fn place_of(keys: &[u64], id: u64) -> Found
     if i < keys.len() {
         let key = keys[i];
         if key / SPAN == id {
-            return Found::At((key % SPAN) as usize);
+            return Some((key % SPAN) as usize);
         }
     }
-    Found::Nothing
+    None
 }
 
 // Whether a component has the id.
@@ -55,8 +55,8 @@ pub fn has_component(keys: &[u64], id: u64) -> bool
 {
     let place = place_of(keys, id);
     match place {
-        Found::At(_) => true,
-        Found::Nothing => false,
+        Some(_) => true,
+        None => false,
     }
 }
 
@@ -69,8 +69,8 @@ fn used_earlier(keys: &[u64], components: &[i64], k: usize) -> bool
 {
     let place = place_of(keys, natural_at(components, k * COMPONENT));
     match place {
-        Found::At(p) => p < k,
-        Found::Nothing => false,
+        Some(p) => p < k,
+        None => false,
     }
 }
 
@@ -89,23 +89,23 @@ fn none_repeated(keys: &[u64]) -> bool
 }
 
 // The first component whose id an earlier one has.
-pub fn first_repeated(keys: &[u64], components: &[i64]) -> Found
+pub fn first_repeated(keys: &[u64], components: &[i64]) -> Option<usize>
     requires components { Components components.now }
     requires id_table { IdTable components.now keys.now }
     ensures { result ≡ first_repeated components.now }
 {
     if none_repeated(keys) {
-        return Found::Nothing;
+        return None;
     }
     let count = components.len() / COMPONENT;
     let mut k: usize = 0;
     while k < count {
         if used_earlier(keys, components, k) {
-            return Found::At(k);
+            return Some(k);
         }
         k += 1;
     }
-    Found::Nothing
+    None
 }
 
 // Transfer 6, StructuralSupport, makes no signal edge.

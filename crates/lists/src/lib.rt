@@ -8,6 +8,9 @@ pub mod numbers;
 pub mod order;
 pub mod ranges;
 
+ghost use Rattle.std.specs.Prelude.{◌≡◌};
+ghost use Rattle.lists.specs.Refusal.{fault_number, list_number};
+
 // ---- limits: nothing else in the product repeats these numbers
 
 // The most components of a scene.
@@ -36,26 +39,55 @@ pub const PORT: usize = 5;
 // x, y, z
 pub const FRONTIER: usize = 3;
 
-// ---- answers
+// ---- refusals
 
-// What a search finds: a place, or nothing.
+// The lists of a scene.
 #[derive(Clone, Copy)]
-pub enum Found {
-    At(usize),
-    Nothing,
+pub enum Section {
+    Components,
+    Connections,
+    Frontiers,
 }
 
-// A refusal: its number, the list (0 components, 1 connections, 2 frontiers, 3 none) and the item from 0.
+// Why a scene or a sheet is refused, in the order in which it is looked for.
+#[derive(Clone, Copy)]
+pub enum Fault {
+    // A list has too many records, or no whole ones.
+    ListLength,
+    // A lent slice is too short.
+    ShortSlice,
+    OutOfRange,
+    UnsortedComponents,
+    RepeatedId,
+    UnsortedConnections,
+    // An end of a port connection that is no support is no component.
+    MissingEnd,
+    // The port asked for has no verdict row.
+    NoVerdictRow,
+    BadLine,
+}
+
+// A refusal: what is wrong, in which list, and at which item, from 0.
 #[derive(Clone, Copy)]
 pub struct Refusal {
-    pub number: u64,
-    pub list: u64,
+    pub fault: Fault,
+    pub list: Option<Section>,
     pub item: usize,
 }
 
-// What the checks of an entry say.
-#[derive(Clone, Copy)]
-pub enum Checked {
-    Accepted,
-    Refused(Refusal),
+// The number of a fault in answers.
+pub fn fault_number(fault: Fault) -> u64
+    ensures { result ≡ fault_number fault }
+{
+    fault as u64 + 1
+}
+
+// The number of a list in answers, 3 for none.
+pub fn list_number(list: Option<Section>) -> u64
+    ensures { result ≡ list_number list }
+{
+    match list {
+        Some(section) => section as u64,
+        None => 3,
+    }
 }

@@ -1,11 +1,11 @@
 // The strict order of records by named fields.
+ghost use Rattle.std.specs.Prelude.{None};
 ghost use Rattle.std.specs.Prelude.{◌≡◌, true, ◌+◌, ◌≤◌, ◌<◌, length};
-ghost use Rattle.lists.specs.declared.Found.TheVariants.{Nothing};
 ghost use Rattle.lists.specs.Limits.{component_width, connection_width};
 ghost use Rattle.lists.specs.Order.{FieldsBelow, record_before, first_not_ascending, component_order, connection_order};
 
 use super::numbers::number_less;
-use super::{COMPONENT, CONNECTION, Found};
+use super::{COMPONENT, CONNECTION};
 
 // Whether the record at `a` comes strictly before the one at `b`, the first field that differs deciding.
 fn record_before(fields: &[usize], width: usize, list: &[i64], a: usize, b: usize) -> bool
@@ -28,7 +28,7 @@ fn record_before(fields: &[usize], width: usize, list: &[i64], a: usize, b: usiz
 }
 
 // The first record that does not come strictly after the one before it.
-fn first_not_ascending(fields: &[usize], width: usize, list: &[i64]) -> Found
+fn first_not_ascending(fields: &[usize], width: usize, list: &[i64]) -> Option<usize>
     requires fields_below { FieldsBelow width fields.now }
     requires width_nonzero { 0 < width }
     ensures { result ≡ first_not_ascending fields.now width list.now }
@@ -37,11 +37,11 @@ fn first_not_ascending(fields: &[usize], width: usize, list: &[i64]) -> Found
     let mut k: usize = 1;
     while k < count {
         if !record_before(fields, width, list, (k - 1) * width, k * width) {
-            return Found::At(k);
+            return Some(k);
         }
         k += 1;
     }
-    Found::Nothing
+    None
 }
 
 // Whether the connection at `a` comes strictly before the one at `b`. There is no branch: sources and sinks change in no
@@ -60,7 +60,7 @@ fn connection_before(list: &[i64], a: usize, b: usize) -> bool
 
 // Whether each connection comes strictly after the one before it.
 fn all_ascending(list: &[i64]) -> bool
-    ensures { result ≡ true → first_not_ascending connection_order connection_width list.now ≡ Nothing }
+    ensures { result ≡ true → first_not_ascending connection_order connection_width list.now ≡ None }
 {
     let count = list.len() / CONNECTION;
     let mut all = true;
@@ -78,18 +78,18 @@ const COMPONENT_ORDER: [usize; 4] = [1, 2, 3, 0];
 // By source, sink, kind.
 const CONNECTION_ORDER: [usize; 3] = [0, 1, 2];
 
-pub fn first_component_not_ascending(components: &[i64]) -> Found
+pub fn first_component_not_ascending(components: &[i64]) -> Option<usize>
     ensures { result ≡ first_not_ascending component_order component_width components.now }
 {
     let fields = COMPONENT_ORDER;
     first_not_ascending(&fields, COMPONENT, components)
 }
 
-pub fn first_connection_not_ascending(connections: &[i64]) -> Found
+pub fn first_connection_not_ascending(connections: &[i64]) -> Option<usize>
     ensures { result ≡ first_not_ascending connection_order connection_width connections.now }
 {
     if all_ascending(connections) {
-        return Found::Nothing;
+        return None;
     }
     let fields = CONNECTION_ORDER;
     first_not_ascending(&fields, CONNECTION, connections)

@@ -3,7 +3,7 @@ ghost use Rattle.std.specs.Prelude.{◌≡◌, ◌+◌, ◌≤◌, ◌<◌, leng
 ghost use Rattle.lists.specs.Signed.{at, in_range};
 ghost use Rattle.lists.specs.Ranges.{record_in_range, first_out_of_range, component_low, component_high, connection_low, connection_high, port_low, port_high, frontier_low, frontier_high};
 
-use super::{FAR, Found};
+use super::{FAR};
 
 // Whether low[f] <= list[i] <= high[f].
 fn field_in_range(low: &[i64], high: &[i64], f: usize, list: &[i64], i: usize) -> bool
@@ -29,7 +29,7 @@ fn record_in_range(low: &[i64], high: &[i64], list: &[i64], i: usize) -> bool
 }
 
 // The first record with a field outside its range.
-fn first_out_of_range(low: &[i64], high: &[i64], list: &[i64]) -> Found
+fn first_out_of_range(low: &[i64], high: &[i64], list: &[i64]) -> Option<usize>
     requires { (length high.now ≡ length low.now) × (0 < length low.now) }
     ensures { result ≡ first_out_of_range low.now high.now list.now }
 {
@@ -38,11 +38,11 @@ fn first_out_of_range(low: &[i64], high: &[i64], list: &[i64]) -> Found
     let mut k: usize = 0;
     while k < count {
         if !record_in_range(low, high, list, k * width) {
-            return Found::At(k);
+            return Some(k);
         }
         k += 1;
     }
-    Found::Nothing
+    None
 }
 
 const GREATEST_ID: i64 = 4294967295;
@@ -63,7 +63,7 @@ const FRONTIER_LOW: [i64; 3] = [-FAR, -FAR, -FAR];
 
 const FRONTIER_HIGH: [i64; 3] = [FAR, FAR, FAR];
 
-pub fn first_component_out_of_range(components: &[i64]) -> Found
+pub fn first_component_out_of_range(components: &[i64]) -> Option<usize>
     ensures { result ≡ first_out_of_range component_low component_high components.now }
 {
     let low = COMPONENT_LOW;
@@ -71,7 +71,7 @@ pub fn first_component_out_of_range(components: &[i64]) -> Found
     first_out_of_range(&low, &high, components)
 }
 
-pub fn first_connection_out_of_range(connections: &[i64]) -> Found
+pub fn first_connection_out_of_range(connections: &[i64]) -> Option<usize>
     ensures { result ≡ first_out_of_range connection_low connection_high connections.now }
 {
     let low = CONNECTION_LOW;
@@ -79,7 +79,7 @@ pub fn first_connection_out_of_range(connections: &[i64]) -> Found
     first_out_of_range(&low, &high, connections)
 }
 
-pub fn first_port_connection_out_of_range(ports: &[i64]) -> Found
+pub fn first_port_connection_out_of_range(ports: &[i64]) -> Option<usize>
     ensures { result ≡ first_out_of_range port_low port_high ports.now }
 {
     let low = PORT_LOW;
@@ -87,7 +87,7 @@ pub fn first_port_connection_out_of_range(ports: &[i64]) -> Found
     first_out_of_range(&low, &high, ports)
 }
 
-pub fn first_frontier_out_of_range(frontiers: &[i64]) -> Found
+pub fn first_frontier_out_of_range(frontiers: &[i64]) -> Option<usize>
     ensures { result ≡ first_out_of_range frontier_low frontier_high frontiers.now }
 {
     let low = FRONTIER_LOW;

@@ -1,5 +1,6 @@
 -- `checks::refusals::liveness_lists` meets its contract: the table of ids that the checks left serves the ends of the port connections.
 -- Assumes nothing.
+use Rattle.std.specs.Prelude.{Ok}
 use mathlib.Core.Path.{◌≡◌, sym, ap, ◌∙◌}
 use native.Mathlib.Omega.{arith}
 use Prim.Native.Nat.{◌≤◌}
@@ -11,7 +12,6 @@ use Rattle.lists.specs.Ranges.{first_out_of_range, port_low, port_high}
 use Rattle.lists.specs.Within.{PortConnections}
 use Rattle.checks.specs.Refusals.{refuse}
 use Rattle.checks.specs.Checks.{scene_of}
-use Rattle.lists.specs.declared.Checked.TheVariants.{Accepted}
 use Rattle.checks.proofs.Chain.{stops, goes, refused_not}
 use Rattle.lists.proofs.Fields.{within}
 use Rattle.checks.proofs.Accepts.{Scene, scene_accept, liveness_parts}
@@ -26,22 +26,22 @@ first c = cc c.refuse_scene-scene.ensures.answer
 
 -- where they pass
 passed : (c : After-refuse_scene-scene)
-    → c.refuse_scene-scene.result ≡ Accepted
+    → c.refuse_scene-scene.result ≡ Ok tt
     → Scene c.args.components.now port_width (length c.args.ports.now) (first_out_of_range port_low port_high c.args.ports.now) c.args.frontiers.now c.args.enough
 passed c accepted = scene_accept _ _ _ _ _ _ (sym (first c) ∙ accepted)
 
 -- the keys kept their length
 room : (c : After-refuse_scene-scene)
-    → c.refuse_scene-scene.result ≡ Accepted
+    → c.refuse_scene-scene.result ≡ Ok tt
     → component_count c.args.components.now ≤ length c.refuse_scene-scene.new.keys
 room c accepted = omega (arith, (passed c accepted).lengths.components_few, c.refuse_scene-scene.auto.keys, c.requires.0)
 
 lent : (c : After-refuse_scene-scene)
-    → c.refuse_scene-scene.result ≡ Accepted
+    → c.refuse_scene-scene.result ≡ Ok tt
     → let n = component_count c.args.components.now in length (take n c.refuse_scene-scene.new.keys) ≡ n
 lent c accepted = length-take-le _ c.refuse_scene-scene.new.keys (room c accepted)
 
-connections : (c : After-refuse_scene-scene) → c.refuse_scene-scene.result ≡ Accepted → PortConnections c.args.ports.now
+connections : (c : After-refuse_scene-scene) → c.refuse_scene-scene.result ≡ Ok tt → PortConnections c.args.ports.now
 connections c accepted =
     let p = passed c accepted in
     within connection_limit port_low port_high c.args.ports.now p.lengths.connections_few p.ranges.connections
@@ -60,7 +60,7 @@ returns-in_default c =
 
 pub settle_ends-requires : goal.settle_ends-requires
 settle_ends-requires c =
-    let all = connections (goal.at.settle_ends-requires c).After-refuse_scene-scene c.in-Accepted.is in
+    let all = connections (goal.at.settle_ends-requires c).After-refuse_scene-scene c.in-Ok.is in
     let few = all.few in
     let pre = c.requires in record {
       port_connections = all;
@@ -69,7 +69,7 @@ settle_ends-requires c =
 
 pub first_end_missing-requires : goal.first_end_missing-requires
 first_end_missing-requires c =
-    let all = connections (goal.at.first_end_missing-requires c).After-refuse_scene-scene c.in-Accepted.is in
+    let all = connections (goal.at.first_end_missing-requires c).After-refuse_scene-scene c.in-Ok.is in
     let few = all.few in
     let pre = c.requires in record {
       port_connections = all;
@@ -78,13 +78,13 @@ first_end_missing-requires c =
 
 pub returns : goal.returns
 returns c =
-    let table = c.refuse_scene-scene.ensures.table c.in-Accepted.is in
+    let table = c.refuse_scene-scene.ensures.table c.in-Ok.is in
     let ends = c.settle_ends.ensures c.args.components.now table in
     let last = c.refuse_at.ensures ∙ ap (refuse 7 1) (c.first_end_missing.ensures c.args.components.now table ends) in
     record {
       lists = record {
         answer =
-            goes (first (goal.at.returns c).After-refuse_scene-scene) c.in-Accepted.is last
+            goes (first (goal.at.returns c).After-refuse_scene-scene) c.in-Ok.is last
             ∙ liveness_parts c.args.components.now c.args.ports.now c.args.frontiers.now c.args.enough;
         table = λ e. table;
       };
@@ -95,17 +95,17 @@ pub shape_of-keys-in_default : goal.shape_of-keys-in_default
 shape_of-keys-in_default c = c.refuse_scene-scene.auto.keys
 
 pub slice_bounds-settle_ends-end : goal.slice_bounds-settle_ends-end
-slice_bounds-settle_ends-end c = room (goal.at.slice_bounds-settle_ends-end c).After-refuse_scene-scene c.in-Accepted.is
+slice_bounds-settle_ends-end c = room (goal.at.slice_bounds-settle_ends-end c).After-refuse_scene-scene c.in-Ok.is
 
 pub slice_bounds-settle_ends-end-2 : goal.slice_bounds-settle_ends-end-2
-slice_bounds-settle_ends-end-2 c = sym (lent (goal.at.slice_bounds-settle_ends-end-2 c).After-refuse_scene-scene c.in-Accepted.is)
+slice_bounds-settle_ends-end-2 c = sym (lent (goal.at.slice_bounds-settle_ends-end-2 c).After-refuse_scene-scene c.in-Ok.is)
 
 pub slice_bounds-first_end_missing-end : goal.slice_bounds-first_end_missing-end
-slice_bounds-first_end_missing-end c = room (goal.at.slice_bounds-first_end_missing-end c).After-refuse_scene-scene c.in-Accepted.is
+slice_bounds-first_end_missing-end c = room (goal.at.slice_bounds-first_end_missing-end c).After-refuse_scene-scene c.in-Ok.is
 
 pub slice_bounds-first_end_missing-end-2 : goal.slice_bounds-first_end_missing-end-2
 slice_bounds-first_end_missing-end-2 c =
-    sym (lent (goal.at.slice_bounds-first_end_missing-end-2 c).After-refuse_scene-scene c.in-Accepted.is)
+    sym (lent (goal.at.slice_bounds-first_end_missing-end-2 c).After-refuse_scene-scene c.in-Ok.is)
 
 pub shape_of-keys : goal.shape_of-keys
 shape_of-keys c = c.refuse_scene-scene.auto.keys

@@ -1,25 +1,25 @@
 -- `checks::refusals::pack` meets its contract: a small refusal has at most 29 bits.
 -- Assumes nothing.
+use Rattle.std.specs.Prelude.{Err}
 use native.Mathlib.Omega.{arith}
 use Rattle.checks.specs.Refusals.{Small}
-use Rattle.lists.specs.declared.Checked.TheVariants.{Refused}
 use Rattle.checks.proofs.refusals.pack.Goals as goal
 
 -- what is known of the refusal
 pub overflow_mul-result : goal.overflow_mul-result
-overflow_mul-result c = let known : Small (Refused c.in-Refused.refusal) = rw c.in-Refused.is at c.requires in omega arith
+overflow_mul-result c = let known : Small (Err c.in-Err.refusal) = rw c.in-Err.is at c.requires in omega arith
 
 pub overflow_add-result : goal.overflow_add-result
-overflow_add-result c = let known : Small (Refused c.in-Refused.refusal) = rw c.in-Refused.is at c.requires in omega arith
+overflow_add-result c = let known : Small (Err c.in-Err.refusal) = rw c.in-Err.is at c.requires in omega arith
 
-pub overflow_mul-result-in-Refused : goal.overflow_mul-result-in-Refused
-overflow_mul-result-in-Refused c = let known : Small (Refused c.in-Refused.refusal) = rw c.in-Refused.is at c.requires in omega arith
+pub overflow_mul-result-in-Err : goal.overflow_mul-result-in-Err
+overflow_mul-result-in-Err c = let known : Small (Err c.in-Err.refusal) = rw c.in-Err.is at c.requires in omega arith
 
-pub overflow_add-result-in-Refused : goal.overflow_add-result-in-Refused
-overflow_add-result-in-Refused c = let known : Small (Refused c.in-Refused.refusal) = rw c.in-Refused.is at c.requires in omega arith
+pub overflow_add-result-in-Err : goal.overflow_add-result-in-Err
+overflow_add-result-in-Err c = let known : Small (Err c.in-Err.refusal) = rw c.in-Err.is at c.requires in omega arith
 
-pub returns-in-Accepted : goal.returns-in-Accepted
-returns-in-Accepted c = rw c.in-Accepted.is
+pub returns-in-Ok : goal.returns-in-Ok
+returns-in-Ok c = rw c.in-Ok.is
 
-pub returns-in-Refused : goal.returns-in-Refused
-returns-in-Refused c = rw c.in-Refused.is
+pub returns-in-Err : goal.returns-in-Err
+returns-in-Err c = rw c.in-Err.is

@@ -1,5 +1,6 @@
 -- `checks::refusals::refuse_scene` meets its contract: where lengths and ranges pass, the components have their table of ids.
 -- Assumes nothing.
+use Rattle.std.specs.Prelude.{Ok}
 use mathlib.Core.Path.{◌≡◌, sym, ◌∙◌}
 use native.Mathlib.Omega.{arith}
 use lib.ListN.{length, take}
@@ -10,7 +11,6 @@ use Rattle.lists.specs.Ranges.{component_low, component_high}
 use Rattle.lists.specs.Within.{Components}
 use Rattle.checks.specs.Refusals.{◌or_else◌}
 use Rattle.checks.specs.Checks.{lengths_of, ranges_of}
-use Rattle.lists.specs.declared.Checked.TheVariants.{Accepted}
 use Rattle.checks.proofs.Chain.{stops, goes, both_accept, refused_not}
 use Rattle.checks.proofs.Accepts.{lengths_accept, ranges_accept}
 use Rattle.lists.proofs.Fields.{within}
@@ -26,7 +26,7 @@ first : (c : After-or_else-checked)
 first c = cc
 
 -- where they pass, the components are within their limit and ranges
-passed : (c : After-or_else-checked) → c.or_else-checked.result ≡ Accepted → Components c.args.components.now
+passed : (c : After-or_else-checked) → c.or_else-checked.result ≡ Ok tt → Components c.args.components.now
 passed c accepted =
     let cs = c.args.components.now in
     let lengths = lengths_of (length cs) c.args.width c.args.connections (length c.args.frontiers.now) c.args.enough in
@@ -38,7 +38,7 @@ passed c accepted =
 
 -- and there is a key for each
 prefix : (c : After-or_else-checked)
-    → c.or_else-checked.result ≡ Accepted
+    → c.or_else-checked.result ≡ Ok tt
     → length (take (component_count c.args.components.now) c.args.keys.now) ≡ component_count c.args.components.now
 prefix c accepted = length-take-le _ c.args.keys.now (omega (arith, (passed c accepted).few, c.requires.1))
 
@@ -52,18 +52,18 @@ returns-in_default c =
 pub slice_bounds-refuse_components-end : goal.slice_bounds-refuse_components-end
 slice_bounds-refuse_components-end c =
     let now = (goal.at.slice_bounds-refuse_components-end c).After-or_else-checked in
-    omega (arith, (passed now c.in-Accepted.is).few, c.requires.1)
+    omega (arith, (passed now c.in-Ok.is).few, c.requires.1)
 
 pub slice_bounds-refuse_components-end-2 : goal.slice_bounds-refuse_components-end-2
 slice_bounds-refuse_components-end-2 c =
-    sym (prefix (goal.at.slice_bounds-refuse_components-end-2 c).After-or_else-checked c.in-Accepted.is)
+    sym (prefix (goal.at.slice_bounds-refuse_components-end-2 c).After-or_else-checked c.in-Ok.is)
 
 pub refuse_components-requires : goal.refuse_components-requires
 refuse_components-requires c =
     let now = (goal.at.refuse_components-requires c).After-or_else-checked in
     record {
-      components = passed now c.in-Accepted.is;
-      keys_len = prefix now c.in-Accepted.is;
+      components = passed now c.in-Ok.is;
+      keys_len = prefix now c.in-Ok.is;
     }
 
 pub shape_of-keys : goal.shape_of-keys
@@ -73,8 +73,8 @@ shape_of-keys c =
 pub returns : goal.returns
 returns c =
     let now = (goal.at.returns c).After-or_else-checked in
-    let long = c.refuse_components.auto.keys ∙ prefix now c.in-Accepted.is in
+    let long = c.refuse_components.auto.keys ∙ prefix now c.in-Ok.is in
     record {
-      answer = goes (first now) c.in-Accepted.is c.refuse_components.ensures.answer;
+      answer = goes (first now) c.in-Ok.is c.refuse_components.ensures.answer;
       table = λ e. rw (take_at _ _ _ long) c.refuse_components.ensures.table;
     }

@@ -4,8 +4,8 @@ use mathlib.Core.Path.{sym, ap, ◌∙◌}
 use Rattle.lists.specs.First.{is_found}
 use Rattle.lists.proofs.ids.has_component.Goals as goal
 
-pub returns-in-At : goal.returns-in-At
-returns-in-At c cs t = sym (ap is_found (sym (c.place_of-place.ensures cs t) ∙ c.in-At.is))
+pub returns-in-Some : goal.returns-in-Some
+returns-in-Some c cs t = sym (ap is_found (sym (c.place_of-place.ensures cs t) ∙ c.in-Some.is))
 
-pub returns-in-Nothing : goal.returns-in-Nothing
-returns-in-Nothing c cs t = sym (ap is_found (sym (c.place_of-place.ensures cs t) ∙ c.in-Nothing.is))
+pub returns-in-None : goal.returns-in-None
+returns-in-None c cs t = sym (ap is_found (sym (c.place_of-place.ensures cs t) ∙ c.in-None.is))

@@ -29,13 +29,13 @@ looked : (c : After-place_of-place)
 looked c =
     c.place_of-place.ensures c.args.components.now c.requires.id_table ∙ ap (place_of c.args.components.now) c.natural_at.ensures
 
-pub returns-in-At : goal.returns-in-At
-returns-in-At c =
-    sym (used_found c.args.components.now c.args.k c.requires.k_bound _ (sym (looked (goal.at.returns-in-At c).After-place_of-place) ∙ c.in-At.is))
+pub returns-in-Some : goal.returns-in-Some
+returns-in-Some c =
+    sym (used_found c.args.components.now c.args.k c.requires.k_bound _ (sym (looked (goal.at.returns-in-Some c).After-place_of-place) ∙ c.in-Some.is))
 
-pub returns-in-Nothing : goal.returns-in-Nothing
-returns-in-Nothing c =
-    sym (used_none c.args.components.now c.args.k c.requires.k_bound (sym (looked (goal.at.returns-in-Nothing c).After-place_of-place) ∙ c.in-Nothing.is))
+pub returns-in-None : goal.returns-in-None
+returns-in-None c =
+    sym (used_none c.args.components.now c.args.k c.requires.k_bound (sym (looked (goal.at.returns-in-None c).After-place_of-place) ∙ c.in-None.is))
 
 pub overflow_mul-k : goal.overflow_mul-k
 overflow_mul-k c = omega (arith, within c.before.before)

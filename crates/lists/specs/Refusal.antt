@@ -1,0 +1,24 @@
+-- Refusals in the paper's numbers (document 01, the table in "The scene taken in").
+-- Assumes nothing: these are definitions.
+use Rattle.std.specs.Prelude.{ℕ, Option, Some, None}
+use Rattle.lists.specs.declared.Fault.{Fault}
+use Rattle.lists.specs.declared.Section.{Section}
+
+-- 1 to 9
+abbrev pub fault_number : Fault → ℕ
+fault_number Fault.ListLength = 1
+fault_number Fault.ShortSlice = 2
+fault_number Fault.OutOfRange = 3
+fault_number Fault.UnsortedComponents = 4
+fault_number Fault.RepeatedId = 5
+fault_number Fault.UnsortedConnections = 6
+fault_number Fault.MissingEnd = 7
+fault_number Fault.NoVerdictRow = 8
+fault_number Fault.BadLine = 9
+
+-- 0 components, 1 connections, 2 frontiers, 3 none
+abbrev pub list_number : Option Section → ℕ
+list_number (Some Section.Components) = 0
+list_number (Some Section.Connections) = 1
+list_number (Some Section.Frontiers) = 2
+list_number None = 3
