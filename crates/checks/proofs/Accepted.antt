@@ -4,6 +4,9 @@
 --     room_places           a slice with room for places of one number
 --     id_past               no component has an id past the greatest
 -- Assumes nothing.
+use Rattle.lists.specs.declared.Fault.{Fault}
+use Rattle.lists.specs.declared.Section.{Section}
+use Rattle.std.specs.Prelude.{Some}
 use Rattle.std.specs.Prelude.{Option, None, Ok}
 use mathlib.Core.Path.{◌≡◌, refl, ◌∙◌}
 use mathlib.Core.Bool.{Bool, true}
@@ -48,7 +51,7 @@ pub record GroupingScene (cs ps fs : List ℤ) (enough : Bool) : Type 0 where
 pub grouping_accept : (cs ps fs : List ℤ) (enough : Bool) → grouping_lists cs ps fs enough ≡ Ok tt → GroupingScene cs ps fs enough
 grouping_accept cs ps fs enough e =
     let parts =
-    both_accept (scene_of cs connection_width (length ps) (first_out_of_range connection_low connection_high ps) fs enough) (refuse 6 1 (first_not_ascending connection_order connection_width ps))
+    both_accept (scene_of cs connection_width (length ps) (first_out_of_range connection_low connection_high ps) fs enough) (refuse Fault.UnsortedConnections (Some Section.Connections) (first_not_ascending connection_order connection_width ps))
     (grouping_parts cs ps fs enough ∙ e) in
     let s = scene_accept cs connection_width (length ps) (first_out_of_range connection_low connection_high ps) fs enough parts.0 in
     record {
@@ -56,7 +59,7 @@ grouping_accept cs ps fs enough e =
       components = components_within s;
       connections = within connection_limit connection_low connection_high ps s.lengths.connections_few s.ranges.connections;
       frontiers = frontiers_within s;
-      ascending = refuse_none 6 1 _ parts.1;
+      ascending = refuse_none Fault.UnsortedConnections (Some Section.Connections) _ parts.1;
     }
 
 pub record LivenessScene (cs ps fs : List ℤ) (enough : Bool) : Type 0 where
@@ -69,7 +72,7 @@ pub record LivenessScene (cs ps fs : List ℤ) (enough : Bool) : Type 0 where
 pub liveness_accept : (cs ps fs : List ℤ) (enough : Bool) → liveness_lists cs ps fs enough ≡ Ok tt → LivenessScene cs ps fs enough
 liveness_accept cs ps fs enough e =
     let parts =
-    both_accept (scene_of cs port_width (length ps) (first_out_of_range port_low port_high ps) fs enough) (refuse 7 1 (first_end_missing cs ps))
+    both_accept (scene_of cs port_width (length ps) (first_out_of_range port_low port_high ps) fs enough) (refuse Fault.MissingEnd (Some Section.Connections) (first_end_missing cs ps))
     (liveness_parts cs ps fs enough ∙ e) in
     let s = scene_accept cs port_width (length ps) (first_out_of_range port_low port_high ps) fs enough parts.0 in
     record {
@@ -77,7 +80,7 @@ liveness_accept cs ps fs enough e =
       components = components_within s;
       connections = within connection_limit port_low port_high ps s.lengths.connections_few s.ranges.connections;
       frontiers = frontiers_within s;
-      ends = refuse_none 7 1 _ parts.1;
+      ends = refuse_none Fault.MissingEnd (Some Section.Connections) _ parts.1;
     }
 
 -- no component has an id past the greatest

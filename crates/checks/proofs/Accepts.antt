@@ -5,6 +5,8 @@
 --     scene_accept                         1 to 5 accept
 --     grouping_parts, liveness_parts       the chains of checks, in the parts in which the code makes them
 -- Assumes nothing.
+use Rattle.lists.specs.declared.Fault.{Fault}
+use Rattle.lists.specs.declared.Section.{Section}
 use Rattle.std.specs.Prelude.{Option, Some, None, Ok}
 use mathlib.Core.Path.{◌≡◌, refl}
 use mathlib.Core.Bool.{Bool, true, false, not, cond, ◌||◌}
@@ -22,10 +24,12 @@ use Rattle.lists.specs.Ids.{first_repeated, first_end_missing}
 use Rattle.checks.specs.Refusals.{refuse, ◌or_else◌, not_whole, too_short, grouping_lists, liveness_lists}
 use Rattle.checks.specs.Checks.{lengths_of, ranges_of, order_of, scene_of}
 use Rattle.checks.proofs.Chain.{both_accept, or_else_assoc}
+use Rattle.lists.specs.Within.{Components}
+use Rattle.lists.proofs.Fields.{within}
 
-pub refuse_none : (number list : ℕ) (f : Option ℕ) → refuse number list f ≡ Ok tt → f ≡ None
-refuse_none number list (Some k) e = let z : ◌≡◌ {A = ℕ} 0 1 = cc in absurd (omega arith)
-refuse_none number list None e = refl
+pub refuse_none : (fault : Fault) (list : Option Section) (f : Option ℕ) → refuse fault list f ≡ Ok tt → f ≡ None
+refuse_none fault list (Some k) e = let z : ◌≡◌ {A = ℕ} 0 1 = cc in absurd (omega arith)
+refuse_none fault list None e = refl
 
 -- ---- 1
 
@@ -70,9 +74,9 @@ lengths_accept components width connections frontiers enough e =
     let first = both_accept _ _ e in
     let second = both_accept _ _ first.1 in
     let third = both_accept _ _ second.1 in
-    let c = refuse_none 1 0 _ first.0 in
-    let p = refuse_none 1 1 _ second.0 in
-    let f = refuse_none 1 2 _ third.0 in
+    let c = refuse_none Fault.ListLength (Some Section.Components) _ first.0 in
+    let p = refuse_none Fault.ListLength (Some Section.Connections) _ second.0 in
+    let f = refuse_none Fault.ListLength (Some Section.Frontiers) _ third.0 in
     record {
       components_few = whole_few _ _ _ c;
       components_whole = whole_all _ _ _ c;
@@ -80,7 +84,7 @@ lengths_accept components width connections frontiers enough e =
       connections_whole = whole_all _ _ _ p;
       frontiers_few = whole_few _ _ _ f;
       frontiers_whole = whole_all _ _ _ f;
-      room = short_none enough (refuse_none 2 3 _ third.1);
+      room = short_none enough (refuse_none Fault.ShortSlice None _ third.1);
     }
 
 -- ---- 3
@@ -96,22 +100,28 @@ ranges_accept cs found fs e =
     let first = both_accept _ _ e in
     let second = both_accept _ _ first.1 in
     record {
-      components = refuse_none 3 0 _ first.0;
-      connections = refuse_none 3 1 _ second.0;
-      frontiers = refuse_none 3 2 _ second.1;
+      components = refuse_none Fault.OutOfRange (Some Section.Components) _ first.0;
+      connections = refuse_none Fault.OutOfRange (Some Section.Connections) _ second.0;
+      frontiers = refuse_none Fault.OutOfRange (Some Section.Frontiers) _ second.1;
     }
+
+-- where both accept, the components are within their limit and ranges
+pub components_pass : (cs : List ℤ) (width connections : ℕ) (found : Option ℕ) (fs : List ℤ) (enough : Bool)
+    → lengths_of (length cs) width connections (length fs) enough ≡ Ok tt → ranges_of cs found fs ≡ Ok tt → Components cs
+components_pass cs width connections found fs enough lengths ranges =
+    within component_limit component_low component_high cs (lengths_accept _ _ _ _ _ lengths).components_few (ranges_accept _ _ _ ranges).components
 
 -- ---- the chains in the parts in which the code makes them
 
 pub grouping_parts : (cs ps fs : List ℤ) (enough : Bool)
     → scene_of cs connection_width (length ps) (first_out_of_range connection_low connection_high ps) fs enough
-    or_else refuse 6 1 (first_not_ascending connection_order connection_width ps)
+    or_else refuse Fault.UnsortedConnections (Some Section.Connections) (first_not_ascending connection_order connection_width ps)
     ≡ grouping_lists cs ps fs enough
 unfolding grouping_lists
 grouping_parts cs ps fs enough = simp or_else_assoc
 
 pub liveness_parts : (cs ps fs : List ℤ) (enough : Bool)
-    → scene_of cs port_width (length ps) (first_out_of_range port_low port_high ps) fs enough or_else refuse 7 1 (first_end_missing cs ps)
+    → scene_of cs port_width (length ps) (first_out_of_range port_low port_high ps) fs enough or_else refuse Fault.MissingEnd (Some Section.Connections) (first_end_missing cs ps)
     ≡ liveness_lists cs ps fs enough
 unfolding liveness_lists
 liveness_parts cs ps fs enough = simp or_else_assoc
@@ -128,10 +138,10 @@ pub scene_accept : (cs : List ℤ) (width connections : ℕ) (found : Option ℕ
 scene_accept cs width connections found fs enough e =
     let outer = both_accept (lengths_of (length cs) width connections (length fs) enough or_else ranges_of cs found fs) (order_of cs) e in
     let inner = both_accept (lengths_of (length cs) width connections (length fs) enough) (ranges_of cs found fs) outer.0 in
-    let order = both_accept (refuse 4 0 (first_not_ascending component_order component_width cs)) (refuse 5 0 (first_repeated cs)) outer.1 in
+    let order = both_accept (refuse Fault.UnsortedComponents (Some Section.Components) (first_not_ascending component_order component_width cs)) (refuse Fault.RepeatedId (Some Section.Components) (first_repeated cs)) outer.1 in
     record {
       lengths = lengths_accept _ _ _ _ _ inner.0;
       ranges = ranges_accept _ _ _ inner.1;
-      ascending = refuse_none 4 0 _ order.0;
-      once = refuse_none 5 0 _ order.1;
+      ascending = refuse_none Fault.UnsortedComponents (Some Section.Components) _ order.0;
+      once = refuse_none Fault.RepeatedId (Some Section.Components) _ order.1;
     }

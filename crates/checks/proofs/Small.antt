@@ -4,8 +4,11 @@
 --     whole_small                          number 1
 --     grouping_small, liveness_small       the checks of the lists
 -- Assumes nothing.
+use Rattle.lists.specs.declared.Fault.{Fault}
+use Rattle.lists.specs.declared.Section.{Section}
 use Rattle.std.specs.Prelude.{⊤, Option, Some, None, Result, Ok, Err}
 use Rattle.lists.specs.declared.Refusal.{Refusal}
+use Rattle.lists.specs.Refusal.{fault_number, list_number}
 use mathlib.Core.Path.{◌≡◌, refl}
 use mathlib.Core.Bool.{Bool, true, false, not, cond, ◌||◌}
 use mathlib.Core.List.{List}
@@ -42,12 +45,31 @@ then {a} {b} s t = record { small = small_or_else a b s.small (λ e. (t e).small
 record AtMost (n : ℕ) (f : Option ℕ) : Type 0 where
   item : (k : ℕ) → f ≡ Some k → k ≤ n
 
-fit_refuse : (number list : ℕ) {f : Option ℕ} {n : ℕ} → AtMost n f → number < 256 → list < 256 → n ≤ connection_limit → Fit (refuse number list f)
-fit_refuse number list {f} {n} m a b h = record { small = go f m.item }
+fit_refuse : (fault : Fault) (list : Option Section) {f : Option ℕ} {n : ℕ} → AtMost n f → n ≤ connection_limit → Fit (refuse fault list f)
+fit_refuse fault list {f} {n} m h = record { small = go f m.item }
   where
-    go : (g : Option ℕ) → ((k : ℕ) → g ≡ Some k → k ≤ n) → Small (refuse number list g)
-    go (Some k) most = let l = most k refl in (a, (b, omega arith))
+    go : (g : Option ℕ) → ((k : ℕ) → g ≡ Some k → k ≤ n) → Small (refuse fault list g)
+    go (Some k) most = let l = most k refl in omega arith
     go None most = tt
+
+-- ---- numbers of faults and lists have room in their digits
+
+pub fault_few : (fault : Fault) → fault_number fault < 256
+fault_few Fault.ListLength = lit< tt
+fault_few Fault.ShortSlice = lit< tt
+fault_few Fault.OutOfRange = lit< tt
+fault_few Fault.UnsortedComponents = lit< tt
+fault_few Fault.RepeatedId = lit< tt
+fault_few Fault.UnsortedConnections = lit< tt
+fault_few Fault.MissingEnd = lit< tt
+fault_few Fault.NoVerdictRow = lit< tt
+fault_few Fault.BadLine = lit< tt
+
+pub list_few : (list : Option Section) → list_number list < 256
+list_few (Some Section.Components) = lit< tt
+list_few (Some Section.Connections) = lit< tt
+list_few (Some Section.Frontiers) = lit< tt
+list_few None = lit< tt
 
 -- ---- the item of each check
 
@@ -64,8 +86,8 @@ whole_item width limit n = record {
   item = λ k e. omega (arith, cond_item (ltb limit (n / width) || not (eqb (n % width) 0)) (min limit (n / width)) k e);
 }
 
-pub whole_small : (list width limit n : ℕ) → list < 256 → limit ≤ connection_limit → Small (refuse 1 list (not_whole width limit n))
-whole_small list width limit n a h = (fit_refuse 1 list (whole_item width limit n) (lit< tt) a h).small
+pub whole_small : (list : Option Section) (width limit n : ℕ) → limit ≤ connection_limit → Small (refuse Fault.ListLength list (not_whole width limit n))
+whole_small list width limit n h = (fit_refuse Fault.ListLength list (whole_item width limit n) h).small
 
 short_item : (enough : Bool) → AtMost 0 (too_short enough)
 short_item true = record { item = λ k e. let z : ◌≡◌ {A = ℕ} 0 1 = cc in absurd (omega arith) }
@@ -97,10 +119,10 @@ end_item cs ps = record { item = λ k e. omega (arith, (found_at (end_missing cs
 
 lengths_fit : (components width connections frontiers : ℕ) (enough : Bool) → Fit (lengths_of components width connections frontiers enough)
 lengths_fit components width connections frontiers enough =
-    then (fit_refuse 1 0 (whole_item component_width component_limit components) (lit< tt) (lit< tt) (lit≤ tt)) (λ _.
-    then (fit_refuse 1 1 (whole_item width connection_limit connections) (lit< tt) (lit< tt) (lit≤ tt)) (λ _.
-    then (fit_refuse 1 2 (whole_item frontier_width frontier_limit frontiers) (lit< tt) (lit< tt) (lit≤ tt)) (λ _.
-    fit_refuse 2 3 (short_item enough) (lit< tt) (lit< tt) (lit≤ tt))))
+    then (fit_refuse Fault.ListLength (Some Section.Components) (whole_item component_width component_limit components) (lit≤ tt)) (λ _.
+    then (fit_refuse Fault.ListLength (Some Section.Connections) (whole_item width connection_limit connections) (lit≤ tt)) (λ _.
+    then (fit_refuse Fault.ListLength (Some Section.Frontiers) (whole_item frontier_width frontier_limit frontiers) (lit≤ tt)) (λ _.
+    fit_refuse Fault.ShortSlice None (short_item enough) (lit≤ tt))))
 
 module _ (cs : List ℤ) (width connections : ℕ) (found : Option ℕ) (fs : List ℤ) (enough : Bool) (most : AtMost (connections / width) found) where
   module _ (l : Lengths (length cs) width connections (length fs) enough) where
@@ -109,14 +131,14 @@ module _ (cs : List ℤ) (width connections : ℕ) (found : Option ℕ) (fs : Li
 
     ranges_fit : Fit (ranges_of cs found fs)
     ranges_fit =
-        then (fit_refuse 3 0 (range_item component_low component_high cs) (lit< tt) (lit< tt) components_few) (λ _.
-        then (fit_refuse 3 1 most (lit< tt) (lit< tt) l.connections_few) (λ _.
-        fit_refuse 3 2 (range_item frontier_low frontier_high fs) (lit< tt) (lit< tt) (omega (arith, l.frontiers_few))))
+        then (fit_refuse Fault.OutOfRange (Some Section.Components) (range_item component_low component_high cs) components_few) (λ _.
+        then (fit_refuse Fault.OutOfRange (Some Section.Connections) most l.connections_few) (λ _.
+        fit_refuse Fault.OutOfRange (Some Section.Frontiers) (range_item frontier_low frontier_high fs) (omega (arith, l.frontiers_few))))
 
     order_fit : Fit (order_of cs)
     order_fit =
-        then (fit_refuse 4 0 (order_item component_order component_width cs) (lit< tt) (lit< tt) components_few) (λ _.
-        fit_refuse 5 0 (repeated_item cs) (lit< tt) (lit< tt) components_few)
+        then (fit_refuse Fault.UnsortedComponents (Some Section.Components) (order_item component_order component_width cs) components_few) (λ _.
+        fit_refuse Fault.RepeatedId (Some Section.Components) (repeated_item cs) components_few)
 
   scene_fit : Fit (scene_of cs width connections found fs enough)
   scene_fit =
@@ -131,7 +153,7 @@ module _ (cs ps fs : List ℤ) (enough : Bool) where
   grouping_small =
       let found = first_out_of_range connection_low connection_high ps in
       let all = then (scene_fit cs connection_width (length ps) found fs enough (range_item connection_low connection_high ps)) (λ e.
-      fit_refuse 6 1 (order_item connection_order connection_width ps) (lit< tt) (lit< tt)
+      fit_refuse Fault.UnsortedConnections (Some Section.Connections) (order_item connection_order connection_width ps)
       (scene_accept cs connection_width (length ps) found fs enough e).lengths.connections_few) in
       rw (grouping_parts cs ps fs enough) at all.small
 
@@ -139,6 +161,6 @@ module _ (cs ps fs : List ℤ) (enough : Bool) where
   liveness_small =
       let found = first_out_of_range port_low port_high ps in
       let all = then (scene_fit cs port_width (length ps) found fs enough (range_item port_low port_high ps)) (λ e.
-      fit_refuse 7 1 (end_item cs ps) (lit< tt) (lit< tt)
+      fit_refuse Fault.MissingEnd (Some Section.Connections) (end_item cs ps)
       (scene_accept cs port_width (length ps) found fs enough e).lengths.connections_few) in
       rw (liveness_parts cs ps fs enough) at all.small

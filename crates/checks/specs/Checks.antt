@@ -1,6 +1,9 @@
 -- What the functions that check the lists answer, in the parts in which they do it, and what they leave for the work: the table of ids, and
 -- the ends of port connections.
 -- Assumes nothing: these are definitions.
+use Rattle.lists.specs.declared.Fault.{Fault}
+use Rattle.lists.specs.declared.Section.{Section}
+use Rattle.std.specs.Prelude.{Some, None}
 use Rattle.std.specs.Prelude.{⊤, Option, Result, Ok}
 use Rattle.lists.specs.declared.Refusal.{Refusal}
 use Rattle.std.specs.Prelude.{ℕ, ◌≡◌, Bool, List, length, take, ℤ}
@@ -15,23 +18,23 @@ use Rattle.checks.specs.Refusals.{refuse, ◌or_else◌, not_whole, too_short}
 -- 1 and 2, by the lengths
 abbrev pub lengths_of : ℕ → ℕ → ℕ → ℕ → Bool → Result ⊤ Refusal
 lengths_of components width connections frontiers enough =
-    refuse 1 0 (not_whole component_width component_limit components)
-    or_else refuse 1 1 (not_whole width connection_limit connections)
-    or_else refuse 1 2 (not_whole frontier_width frontier_limit frontiers)
-    or_else refuse 2 3 (too_short enough)
+    refuse Fault.ListLength (Some Section.Components) (not_whole component_width component_limit components)
+    or_else refuse Fault.ListLength (Some Section.Connections) (not_whole width connection_limit connections)
+    or_else refuse Fault.ListLength (Some Section.Frontiers) (not_whole frontier_width frontier_limit frontiers)
+    or_else refuse Fault.ShortSlice None (too_short enough)
 
 -- 3, given what was found in the second list
 abbrev pub ranges_of : List ℤ → Option ℕ → List ℤ → Result ⊤ Refusal
 ranges_of cs found fs =
-    refuse 3 0 (first_out_of_range component_low component_high cs)
-    or_else refuse 3 1 found
-    or_else refuse 3 2 (first_out_of_range frontier_low frontier_high fs)
+    refuse Fault.OutOfRange (Some Section.Components) (first_out_of_range component_low component_high cs)
+    or_else refuse Fault.OutOfRange (Some Section.Connections) found
+    or_else refuse Fault.OutOfRange (Some Section.Frontiers) (first_out_of_range frontier_low frontier_high fs)
 
 -- 4 and 5
 abbrev pub order_of : List ℤ → Result ⊤ Refusal
 order_of cs =
-    refuse 4 0 (first_not_ascending component_order component_width cs)
-    or_else refuse 5 0 (first_repeated cs)
+    refuse Fault.UnsortedComponents (Some Section.Components) (first_not_ascending component_order component_width cs)
+    or_else refuse Fault.RepeatedId (Some Section.Components) (first_repeated cs)
 
 -- 1 to 5
 abbrev pub scene_of : List ℤ → ℕ → ℕ → Option ℕ → List ℤ → Bool → Result ⊤ Refusal

@@ -1,19 +1,22 @@
 -- Refusals 1 to 7 (document 01, the table in "The scene taken in"): for each entry the lowest number that applies, at its earliest item,
 -- components before connections before frontiers. Lists are 0 components, 1 connections, 2 frontiers, 3 none.
 -- Assumes nothing: these are definitions.
+use Rattle.lists.specs.declared.Fault.{Fault}
+use Rattle.lists.specs.declared.Section.{Section}
 use Rattle.std.specs.Prelude.{⊤, Option, Some, None, Result, Ok, Err}
-use Rattle.std.specs.Prelude.{ℕ, ◌+◌, ◌*◌, ◌/◌, ◌%◌, ◌≤◌, ◌<◌, min, Bool, true, not, cond, ◌&&◌, ◌||◌, List, [], ◌∷◌, length, eqb, leb, ltb, ℤ}
+use Rattle.std.specs.Prelude.{ℕ, ◌+◌, ◌*◌, ◌/◌, ◌%◌, ◌≤◌, min, Bool, true, not, cond, ◌&&◌, ◌||◌, List, [], ◌∷◌, length, eqb, leb, ltb, ℤ}
 use Rattle.lists.specs.Limits.{component_limit, connection_limit, frontier_limit, component_width, connection_width, port_width, frontier_width}
 use Rattle.lists.specs.Records.{component_count, connection_count}
 use Rattle.lists.specs.Ranges.{first_out_of_range, component_low, component_high, connection_low, connection_high, port_low, port_high, frontier_low, frontier_high}
 use Rattle.lists.specs.Order.{first_not_ascending, component_order, connection_order}
 use Rattle.lists.specs.Ids.{first_repeated, first_end_missing}
 use Rattle.lists.specs.declared.Refusal.{Refusal}
+use Rattle.lists.specs.Refusal.{fault_number, list_number}
 
--- a fault that was found is refused with its number, its list and the item
-abbrev pub refuse : ℕ → ℕ → Option ℕ → Result ⊤ Refusal
-refuse number list (Some item) = Err (record { number = number; list = list; item = item })
-refuse number list None = Ok tt
+-- a fault that was found is refused with its list and the item
+abbrev pub refuse : Fault → Option Section → Option ℕ → Result ⊤ Refusal
+refuse fault list (Some item) = Err (record { fault = fault; list = list; item = item })
+refuse fault list None = Ok tt
 
 infixr 20 ◌or_else◌
 -- the first of two checks that refuses
@@ -37,30 +40,30 @@ too_short enough = cond enough None (Some 0)
 -- the grouping and the ports entry, whose frontiers are none, and the lists of a sheet
 unfoldable pub grouping_lists : List ℤ → List ℤ → List ℤ → Bool → Result ⊤ Refusal
 grouping_lists cs ps fs enough =
-    refuse 1 0 (not_whole component_width component_limit (length cs))
-    or_else refuse 1 1 (not_whole connection_width connection_limit (length ps))
-    or_else refuse 1 2 (not_whole frontier_width frontier_limit (length fs))
-    or_else refuse 2 3 (too_short enough)
-    or_else refuse 3 0 (first_out_of_range component_low component_high cs)
-    or_else refuse 3 1 (first_out_of_range connection_low connection_high ps)
-    or_else refuse 3 2 (first_out_of_range frontier_low frontier_high fs)
-    or_else refuse 4 0 (first_not_ascending component_order component_width cs)
-    or_else refuse 5 0 (first_repeated cs)
-    or_else refuse 6 1 (first_not_ascending connection_order connection_width ps)
+    refuse Fault.ListLength (Some Section.Components) (not_whole component_width component_limit (length cs))
+    or_else refuse Fault.ListLength (Some Section.Connections) (not_whole connection_width connection_limit (length ps))
+    or_else refuse Fault.ListLength (Some Section.Frontiers) (not_whole frontier_width frontier_limit (length fs))
+    or_else refuse Fault.ShortSlice None (too_short enough)
+    or_else refuse Fault.OutOfRange (Some Section.Components) (first_out_of_range component_low component_high cs)
+    or_else refuse Fault.OutOfRange (Some Section.Connections) (first_out_of_range connection_low connection_high ps)
+    or_else refuse Fault.OutOfRange (Some Section.Frontiers) (first_out_of_range frontier_low frontier_high fs)
+    or_else refuse Fault.UnsortedComponents (Some Section.Components) (first_not_ascending component_order component_width cs)
+    or_else refuse Fault.RepeatedId (Some Section.Components) (first_repeated cs)
+    or_else refuse Fault.UnsortedConnections (Some Section.Connections) (first_not_ascending connection_order connection_width ps)
 
 -- the liveness entry and the input query
 unfoldable pub liveness_lists : List ℤ → List ℤ → List ℤ → Bool → Result ⊤ Refusal
 liveness_lists cs ps fs enough =
-    refuse 1 0 (not_whole component_width component_limit (length cs))
-    or_else refuse 1 1 (not_whole port_width connection_limit (length ps))
-    or_else refuse 1 2 (not_whole frontier_width frontier_limit (length fs))
-    or_else refuse 2 3 (too_short enough)
-    or_else refuse 3 0 (first_out_of_range component_low component_high cs)
-    or_else refuse 3 1 (first_out_of_range port_low port_high ps)
-    or_else refuse 3 2 (first_out_of_range frontier_low frontier_high fs)
-    or_else refuse 4 0 (first_not_ascending component_order component_width cs)
-    or_else refuse 5 0 (first_repeated cs)
-    or_else refuse 7 1 (first_end_missing cs ps)
+    refuse Fault.ListLength (Some Section.Components) (not_whole component_width component_limit (length cs))
+    or_else refuse Fault.ListLength (Some Section.Connections) (not_whole port_width connection_limit (length ps))
+    or_else refuse Fault.ListLength (Some Section.Frontiers) (not_whole frontier_width frontier_limit (length fs))
+    or_else refuse Fault.ShortSlice None (too_short enough)
+    or_else refuse Fault.OutOfRange (Some Section.Components) (first_out_of_range component_low component_high cs)
+    or_else refuse Fault.OutOfRange (Some Section.Connections) (first_out_of_range port_low port_high ps)
+    or_else refuse Fault.OutOfRange (Some Section.Frontiers) (first_out_of_range frontier_low frontier_high fs)
+    or_else refuse Fault.UnsortedComponents (Some Section.Components) (first_not_ascending component_order component_width cs)
+    or_else refuse Fault.RepeatedId (Some Section.Components) (first_repeated cs)
+    or_else refuse Fault.MissingEnd (Some Section.Connections) (first_end_missing cs ps)
 
 -- ---- the entries, given how many numbers each lent slice has
 
@@ -94,7 +97,7 @@ sheet_refusal cs ps fs = grouping_lists cs ps fs true
 
 -- a refusal returns the number, the list and the item
 abbrev pub refusal_numbers : Refusal → List ℕ
-refusal_numbers r = r.number ∷ r.list ∷ r.item ∷ []
+refusal_numbers r = fault_number r.fault ∷ list_number r.list ∷ r.item ∷ []
 
 -- 0 and what the entry counts, or the numbers of the refusal
 abbrev pub numbers_by : Result ⊤ Refusal → List ℕ → List ℕ
@@ -103,12 +106,12 @@ numbers_by (Err r) counts = refusal_numbers r
 
 -- ---- an answer as one number
 
--- each part of a refusal has room in its digits
+-- the item of a refusal has room in its digits
 abbrev pub Small : Result ⊤ Refusal → Type 0
 Small (Ok tt) = Unit
-Small (Err r) = (r.number < 256) × ((r.list < 256) × (r.item ≤ connection_limit))
+Small (Err r) = r.item ≤ connection_limit
 
 -- 0 where the checks accept, else the number, the list and the item, from the lowest digits on
 abbrev pub packed : Result ⊤ Refusal → ℕ
 packed (Ok tt) = 0
-packed (Err r) = r.number + 256 * r.list + 65536 * r.item
+packed (Err r) = fault_number r.fault + 256 * list_number r.list + 65536 * r.item

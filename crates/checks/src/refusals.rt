@@ -14,16 +14,16 @@ use lists::ranges::{
     first_port_connection_out_of_range,
 };
 use lists::{
-    COMPONENT, COMPONENTS, CONNECTION, CONNECTIONS, FRONTIER, FRONTIERS, PORT,
-    Refusal,
+    COMPONENT, COMPONENTS, CONNECTION, CONNECTIONS, FRONTIER, FRONTIERS, Fault, PORT, Refusal,
+    Section, fault_number, list_number,
 };
 
-// A fault that was found is refused with its number and list.
-pub fn refuse_at(number: u64, list: u64, found: Option<usize>) -> Result<(), Refusal>
-    ensures { result ≡ refuse number list found }
+// A fault that was found is refused with its list.
+pub fn refuse_at(fault: Fault, list: Option<Section>, found: Option<usize>) -> Result<(), Refusal>
+    ensures { result ≡ refuse fault list found }
 {
     match found {
-        Some(item) => Err(Refusal { number, list, item }),
+        Some(item) => Err(Refusal { fault, list, item }),
         None => Ok(()),
     }
 }
@@ -51,16 +51,6 @@ pub fn room_for(places: usize, width: usize, len: usize) -> bool
     places <= len / width
 }
 
-// The first of two checks that refuses.
-pub fn or_else(first: Result<(), Refusal>, next: Result<(), Refusal>) -> Result<(), Refusal>
-    ensures { result ≡ first or_else next }
-{
-    match first {
-        Ok(()) => next,
-        Err(refusal) => Err(refusal),
-    }
-}
-
 // 2: a lent slice is too short.
 fn too_short(enough: bool) -> Option<usize>
     ensures { result ≡ too_short enough }
@@ -79,11 +69,23 @@ fn refuse_lengths(
     requires { 0 < width }
     ensures { result ≡ lengths_of components width connections frontiers enough }
 {
-    let first = refuse_at(1, 0, not_whole(COMPONENT, COMPONENTS, components));
-    let second = refuse_at(1, 1, not_whole(width, CONNECTIONS, connections));
-    let third = refuse_at(1, 2, not_whole(FRONTIER, FRONTIERS, frontiers));
-    let fourth = refuse_at(2, 3, too_short(enough));
-    or_else(first, or_else(second, or_else(third, fourth)))
+    let list_length = Fault::ListLength;
+    refuse_at(
+        list_length,
+        Some(Section::Components),
+        not_whole(COMPONENT, COMPONENTS, components),
+    )?;
+    refuse_at(
+        list_length,
+        Some(Section::Connections),
+        not_whole(width, CONNECTIONS, connections),
+    )?;
+    refuse_at(
+        list_length,
+        Some(Section::Frontiers),
+        not_whole(FRONTIER, FRONTIERS, frontiers),
+    )?;
+    refuse_at(Fault::ShortSlice, None, too_short(enough))
 }
 
 // 4 and 5: the order and the ids of the components. `keys` is left with their table of ids.
@@ -94,18 +96,39 @@ fn refuse_components(components: &[i64], keys: &mut [u64]) -> Result<(), Refusal
 {
     let mut spare = [0u64; COMPONENTS];
     id_table(components, keys, &mut spare);
-    let order = refuse_at(4, 0, first_component_not_ascending(components));
-    or_else(order, refuse_at(5, 0, first_repeated(keys, components)))
+    let unsorted = first_component_not_ascending(components);
+    refuse_at(
+        Fault::UnsortedComponents,
+        Some(Section::Components),
+        unsorted,
+    )?;
+    refuse_at(
+        Fault::RepeatedId,
+        Some(Section::Components),
+        first_repeated(keys, components),
+    )
 }
 
 // 3, given what the second list's check found.
-fn refuse_ranges(components: &[i64], connections: Option<usize>, frontiers: &[i64]) -> Result<(), Refusal>
+fn refuse_ranges(
+    components: &[i64],
+    connections: Option<usize>,
+    frontiers: &[i64],
+) -> Result<(), Refusal>
     ensures { result ≡ ranges_of components.now connections frontiers.now }
 {
-    let first = refuse_at(3, 0, first_component_out_of_range(components));
-    let second = refuse_at(3, 1, connections);
-    let third = refuse_at(3, 2, first_frontier_out_of_range(frontiers));
-    or_else(first, or_else(second, third))
+    let out_of_range = Fault::OutOfRange;
+    refuse_at(
+        out_of_range,
+        Some(Section::Components),
+        first_component_out_of_range(components),
+    )?;
+    refuse_at(out_of_range, Some(Section::Connections), connections)?;
+    refuse_at(
+        out_of_range,
+        Some(Section::Frontiers),
+        first_frontier_out_of_range(frontiers),
+    )
 }
 
 // 1 to 5, given what the second list's check of ranges found. Where they accept, `keys` begins with the table of ids.
@@ -121,17 +144,14 @@ fn refuse_scene(
     requires { (0 < width) × (component_limit ≤ length keys.old) }
     ensures { CheckedBy (scene_of components.now width connections found frontiers.now enough) components.now keys.new result }
 {
-    let lengths = refuse_lengths(
+    refuse_lengths(
         components.len(),
         width,
         connections,
         frontiers.len(),
         enough,
-    );
-    let checked = or_else(lengths, refuse_ranges(components, found, frontiers));
-    let Ok(()) = checked else {
-        return checked;
-    };
+    )?;
+    refuse_ranges(components, found, frontiers)?;
     let count = components.len() / COMPONENT;
     refuse_components(components, &mut keys[..count])
 }
@@ -148,7 +168,7 @@ pub fn grouping_lists(
     ensures { CheckedBy (grouping_lists components.now connections.now frontiers.now enough) components.now keys.new result }
 {
     let found = first_connection_out_of_range(connections);
-    let scene = refuse_scene(
+    refuse_scene(
         components,
         CONNECTION,
         connections.len(),
@@ -156,10 +176,12 @@ pub fn grouping_lists(
         frontiers,
         enough,
         keys,
-    );
-    or_else(
-        scene,
-        refuse_at(6, 1, first_connection_not_ascending(connections)),
+    )?;
+    let unsorted = first_connection_not_ascending(connections);
+    refuse_at(
+        Fault::UnsortedConnections,
+        Some(Section::Connections),
+        unsorted,
     )
 }
 
@@ -178,7 +200,7 @@ pub fn liveness_lists(
     ensures { LivenessChecked (liveness_lists components.now ports.now frontiers.now enough) components.now ports.now keys.new sources.new sinks.new result }
 {
     let found = first_port_connection_out_of_range(ports);
-    let scene = refuse_scene(
+    refuse_scene(
         components,
         PORT,
         ports.len(),
@@ -186,15 +208,12 @@ pub fn liveness_lists(
         frontiers,
         enough,
         keys,
-    );
-    let Ok(()) = scene else {
-        return scene;
-    };
+    )?;
     let count = components.len() / COMPONENT;
     settle_ends(&keys[..count], ports, sources, sinks);
     refuse_at(
-        7,
-        1,
+        Fault::MissingEnd,
+        Some(Section::Connections),
         first_end_missing(&keys[..count], ports, sources, sinks),
     )
 }
@@ -207,7 +226,9 @@ pub fn pack(checked: Result<(), Refusal>) -> u64
     match checked {
         Ok(()) => 0,
         Err(refusal) => {
-            refusal.number + 256 * refusal.list + 65536 * refusal.item as u64
+            fault_number(refusal.fault)
+                + 256 * list_number(refusal.list)
+                + 65536 * refusal.item as u64
         }
     }
 }

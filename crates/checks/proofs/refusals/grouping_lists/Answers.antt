@@ -1,25 +1,28 @@
 -- `checks::refusals::grouping_lists` meets its contract.
 -- Assumes nothing.
-use mathlib.Core.Path.{◌≡◌, sym, ◌∙◌}
-use lib.ListN.{length}
-use Rattle.lists.specs.Limits.{connection_width}
-use Rattle.lists.specs.Ranges.{first_out_of_range, connection_low, connection_high}
-use Rattle.lists.specs.Order.{first_not_ascending, connection_order}
-use Rattle.checks.specs.Refusals.{refuse, ◌or_else◌}
-use Rattle.checks.specs.Checks.{scene_of}
-use Rattle.checks.proofs.Chain.{both_accept}
+use Rattle.std.specs.Prelude.{Err, Some}
+use Rattle.lists.specs.declared.Fault.{Fault}
+use Rattle.lists.specs.declared.Section.{Section}
+use Rattle.checks.specs.Refusals.{refuse}
+use mathlib.Core.Path.{◌≡◌, ap, ◌∙◌}
+use Rattle.std.proofs.Common.{rules}
+use Rattle.checks.proofs.Chain.{stopped, goes}
 use Rattle.checks.proofs.Accepts.{grouping_parts}
 use Rattle.checks.proofs.refusals.grouping_lists.Goals as goal
 
+pub returns-in_err-refuse_scene : goal.returns-in_err-refuse_scene
+returns-in_err-refuse_scene c =
+    let a = c.args in
+    let back : c.from_residual.result ≡ Err c.in_err-refuse_scene.field-0.0 = search rules in
+    let parts = grouping_parts a.components.now a.connections.now a.frontiers.now a.enough in
+    stopped _ _ (rw c.first_connection_out_of_range-found.ensures at c.in_err-refuse_scene.ensures) back parts
+
 pub returns : goal.returns
 returns c =
-    let cs = c.args.components.now in
-    let ps = c.args.connections.now in
-    let e : c.or_else.result
-    ≡ scene_of cs connection_width (length ps) (first_out_of_range connection_low connection_high ps) c.args.frontiers.now c.args.enough
-    or_else refuse 6 1 (first_not_ascending connection_order connection_width ps) =
-    cc c.refuse_scene-scene.ensures.answer in
+    let a = c.args in
+    let first = rw c.first_connection_out_of_range-found.ensures at c.refuse_scene.ensures.answer in
+    let last = c.refuse_at.ensures ∙ ap (refuse Fault.UnsortedConnections (Some Section.Connections)) c.first_connection_not_ascending-unsorted.ensures in
     record {
-      answer = e ∙ grouping_parts cs ps c.args.frontiers.now c.args.enough;
-      table = λ a. c.refuse_scene-scene.ensures.table (both_accept c.refuse_scene-scene.result c.refuse_at.result (sym c.or_else.ensures ∙ a)).0;
+      answer = goes first c.in_ok-refuse_scene.was last ∙ grouping_parts a.components.now a.connections.now a.frontiers.now a.enough;
+      table = λ e. c.refuse_scene.ensures.table c.in_ok-refuse_scene.was;
     }
