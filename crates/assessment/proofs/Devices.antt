@@ -4,6 +4,7 @@
 --     rows_read, sources_read                the same rows by numbers that are equal
 --     below_none, below_more, below_all      a component more
 -- Assumes nothing.
+use Rattle.std.specs.Prelude.{Option, Some, None}
 use mathlib.Core.Path.{◌≡◌, refl, sym, ◌∙◌}
 use mathlib.Core.Bool.{Bool, true, false}
 use mathlib.Core.List.{List, [], ◌∷◌, ◌++◌}
@@ -12,8 +13,6 @@ use native.Mathlib.Nat.{zero-add, add-mul, zero-mul, mul-suc}
 use native.Mathlib.Numerals.{add-one}
 use native.Mathlib.Omega.{arith}
 use lib.ListN.{length, length-append}
-use Rattle.lists.specs.declared.Found.{Found}
-use Rattle.lists.specs.declared.Found.TheVariants.{At, Nothing}
 use Rattle.lists.proofs.Search.{never}
 use Rattle.signals.specs.Sources.{source_kind}
 use Rattle.assessment.specs.Verdicts.{row_if, kind_row}
@@ -85,18 +84,18 @@ device_few id kind first status =
     let long = device_length id first status (required_count kind) in
     record { turns = required_count kind; whole = long; few = omega (arith, count_most kind) }
 
-pub sources_few : (id : ℕ) (found : Found) (frontier inferred : Bool) → (inferred ≡ true → frontier ≡ false) → Few (sources_of id found frontier inferred) 2 4
+pub sources_few : (id : ℕ) (found : Option ℕ) (frontier inferred : Bool) → (inferred ≡ true → frontier ≡ false) → Few (sources_of id found frontier inferred) 2 4
 sources_few id found true true alone = never (sym (alone refl))
-sources_few id (At k) true false alone = record { turns = 2; whole = refl; few = omega arith }
-sources_few id (At k) false true alone = record { turns = 2; whole = refl; few = omega arith }
-sources_few id (At k) false false alone = record { turns = 1; whole = refl; few = omega arith }
-sources_few id Nothing true false alone = record { turns = 1; whole = refl; few = omega arith }
-sources_few id Nothing false true alone = record { turns = 1; whole = refl; few = omega arith }
-sources_few id Nothing false false alone = record { turns = 0; whole = refl; few = omega arith }
+sources_few id (Some k) true false alone = record { turns = 2; whole = refl; few = omega arith }
+sources_few id (Some k) false true alone = record { turns = 2; whole = refl; few = omega arith }
+sources_few id (Some k) false false alone = record { turns = 1; whole = refl; few = omega arith }
+sources_few id None true false alone = record { turns = 1; whole = refl; few = omega arith }
+sources_few id None false true alone = record { turns = 1; whole = refl; few = omega arith }
+sources_few id None false false alone = record { turns = 0; whole = refl; few = omega arith }
 
-pub kind_few : (id : ℕ) (found : Found) → length (kind_row id found) ≤ 2
-kind_few id (At k) = omega arith
-kind_few id Nothing = omega arith
+pub kind_few : (id : ℕ) (found : Option ℕ) → length (kind_row id found) ≤ 2
+kind_few id (Some k) = omega arith
+kind_few id None = omega arith
 
 pub row_few : (test : Bool) (id kind : ℕ) → length (row_if test id kind) ≤ 2
 row_few true id kind = omega arith

@@ -4,6 +4,7 @@
 --     on_first                                  component p is the first at one of the first n frontiers
 --     frontier_none, frontier_more             its flags: one frontier more
 -- Assumes nothing.
+use Rattle.std.specs.Prelude.{Option, Some, None}
 use mathlib.Core.Path.{◌≡◌, refl, sym, ap, ◌∙◌}
 use mathlib.Core.Bool.{Bool, false, ◌||◌}
 use mathlib.Core.List.{List, [], ◌∷◌}
@@ -13,22 +14,20 @@ use lib.ListN.{length, replicate, length-set, length-replicate, get_or-replicate
 use lib.IntN.{ℤ}
 use Rattle.lists.specs.First.{first_from, some}
 use Rattle.lists.specs.Records.{Position, component, frontier, component_count}
-use Rattle.lists.specs.declared.Found.{Found}
-use Rattle.lists.specs.declared.Found.TheVariants.{At, Nothing}
 use Rattle.lists.proofs.Search.{or_false, found_at, some_more}
 use Rattle.regions.specs.Graph.{marked}
 use Rattle.signals.specs.Flags.{Flags, flag_found, FirstFlagged}
 use Rattle.signals.specs.Sources.{source_kind, same_position, first_at, is_at}
 use Rattle.signals.proofs.Marks.{set_marked}
 
-pub kind_below : (kind : ℕ) → kind < 3 → source_kind kind ≡ Nothing
+pub kind_below : (kind : ℕ) → kind < 3 → source_kind kind ≡ None
 unfolding source_kind
 kind_below zero h = refl
 kind_below (suc zero) h = refl
 kind_below (suc (suc zero)) h = refl
 kind_below (suc (suc (suc kind))) h = absurd (omega arith)
 
-pub kind_within : (kind : ℕ) → 3 < kind → kind < 7 → source_kind kind ≡ At 0
+pub kind_within : (kind : ℕ) → 3 < kind → kind < 7 → source_kind kind ≡ Some 0
 unfolding source_kind
 kind_within zero h l = absurd (omega arith)
 kind_within (suc zero) h l = absurd (omega arith)
@@ -39,23 +38,23 @@ kind_within (suc (suc (suc (suc (suc zero))))) h l = refl
 kind_within (suc (suc (suc (suc (suc (suc zero)))))) h l = refl
 kind_within (suc (suc (suc (suc (suc (suc (suc kind))))))) h l = absurd (omega arith)
 
-pub kind_past : (kind : ℕ) → 8 ≤ kind → source_kind kind ≡ Nothing
+pub kind_past : (kind : ℕ) → 8 ≤ kind → source_kind kind ≡ None
 unfolding source_kind
-kind_past kind h = get_or-eq_default (Nothing ∷ Nothing ∷ Nothing ∷ At 1 ∷ At 0 ∷ At 0 ∷ At 0 ∷ At 1 ∷ []) Nothing h
+kind_past kind h = get_or-eq_default (None ∷ None ∷ None ∷ Some 1 ∷ Some 0 ∷ Some 0 ∷ Some 0 ∷ Some 1 ∷ []) None h
 
-pub first_below : (cs : List ℤ) (position : Position) (p : ℕ) → first_at cs position ≡ At p → p < component_count cs
+pub first_below : (cs : List ℤ) (position : Position) (p : ℕ) → first_at cs position ≡ Some p → p < component_count cs
 unfolding first_at
 first_below cs position p e = omega (arith, (found_at (λ q. same_position (component cs q) position) 0 (component_count cs) p e).below)
 
 -- ---- flags
 
-flag_found_lem : (found : Found) (flags : List Bool) → ((q : ℕ) → found ≡ At q → q < length flags) → (p : ℕ) → marked (flag_found found flags) p ≡ (marked flags p || is_at p found)
-flag_found_lem (At q) flags h p = set_marked flags q p (h q refl)
-flag_found_lem Nothing flags h p = or_false (marked flags p)
+flag_found_lem : (found : Option ℕ) (flags : List Bool) → ((q : ℕ) → found ≡ Some q → q < length flags) → (p : ℕ) → marked (flag_found found flags) p ≡ (marked flags p || is_at p found)
+flag_found_lem (Some q) flags h p = set_marked flags q p (h q refl)
+flag_found_lem None flags h p = or_false (marked flags p)
 
-pub flag_length : (found : Found) (flags : List Bool) → length (flag_found found flags) ≡ length flags
-flag_length (At q) flags = simp length-set
-flag_length Nothing flags = refl
+pub flag_length : (found : Option ℕ) (flags : List Bool) → length (flag_found found flags) ≡ length flags
+flag_length (Some q) flags = simp length-set
+flag_length None flags = refl
 
 abbrev pub on_first : List ℤ → List ℤ → ℕ → ℕ → Bool
 on_first cs fs n p = some (λ j. is_at p (first_at cs (frontier fs j))) n

@@ -5,6 +5,7 @@
 --     found_first, found_past,       the first component at a position, where they part
 --     found_none
 -- Assumes nothing.
+use Rattle.std.specs.Prelude.{Some, None}
 use mathlib.Core.Path.{◌≡◌, refl, sym, ap, ◌∙◌, subst}
 use mathlib.Core.Bool.{Bool, true, false, not, ◌&&◌, ◌||◌}
 use mathlib.Core.Logic.{⊎_elim}
@@ -19,7 +20,6 @@ use Rattle.lists.specs.Limits.{component_width}
 use Rattle.lists.specs.Signed.{eq_z, less_then}
 use Rattle.lists.specs.Order.{record_before, first_not_ascending, component_order}
 use Rattle.lists.specs.Records.{Component, Position, component, component_count}
-use Rattle.lists.specs.declared.Found.TheVariants.{At, Nothing}
 use Rattle.lists.proofs.Search.{never, both, or_false, first_is, first_nothing}
 use Rattle.lists.proofs.Signed.{eq_z_same, eq_z_self}
 use Rattle.lists.proofs.Ordering.{then_cases, then_less, then_rest, then_step, ascending_at}
@@ -67,7 +67,7 @@ then_same c position p q =
 
 -- ---- the components of an accepted list
 
-module _ (cs : List ℤ) (ascending : first_not_ascending component_order component_width cs ≡ Nothing) (position : Position) where
+module _ (cs : List ℤ) (ascending : first_not_ascending component_order component_width cs ≡ None) (position : Position) where
   next : (rest : Bool) (k : ℕ) → suc k < component_count cs → before_then (component cs (suc k)) position rest ≡ true → before_then (component cs k) position rest ≡ true
   unfolding record_before
   next rest k h e =
@@ -117,15 +117,15 @@ module _ (cs : List ℤ) (ascending : first_not_ascending component_order compon
             never (sym none ∙ then_same c position up (sym (before_is c position) ∙ parted.from r (omega arith) (omega arith)))
         go false e = refl
 
-    pub found_first : r < component_count cs → same_position (component cs r) position ≡ true → first_at cs position ≡ At r
+    pub found_first : r < component_count cs → same_position (component cs r) position ≡ true → first_at cs position ≡ Some r
     unfolding first_at
     found_first h e = first_is (λ p. same_position (component cs p) position) 0 (component_count cs) r (omega arith) (omega arith) e (λ p a b. not_before p b)
 
-    pub found_past : component_count cs ≤ r → first_at cs position ≡ Nothing
+    pub found_past : component_count cs ≤ r → first_at cs position ≡ None
     unfolding first_at
     found_past h = first_nothing (λ p. same_position (component cs p) position) 0 (component_count cs) (λ p a b. not_before p (omega arith))
 
-    pub found_none : same_position (component cs r) position ≡ false → first_at cs position ≡ Nothing
+    pub found_none : same_position (component cs r) position ≡ false → first_at cs position ≡ None
     unfolding first_at
     found_none none = first_nothing (λ p. same_position (component cs p) position) 0 (component_count cs) (λ p a b.
         ⊎_elim (λ (le : r ≤ p). not_from none p le (omega arith)) (λ (less : p < r). not_before p less) (order? r p))

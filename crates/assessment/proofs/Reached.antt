@@ -1,6 +1,7 @@
 -- Marks of regions, carried along the pairs of regions, are what the components of the marked regions reach.
 --     drive_is, potential_is           carried from the drive sources, and from the inferred inputs too
 -- Assumes nothing.
+use Rattle.std.specs.Prelude.{None}
 use mathlib.Core.Path.{◌≡◌, refl, sym, ap, ◌∙◌}
 use mathlib.Core.Bool.{Bool, true, false, ◌&&◌, ◌||◌}
 use mathlib.Core.List.{List}
@@ -16,7 +17,6 @@ use Rattle.lists.specs.Limits.{component_limit}
 use Rattle.lists.specs.Records.{component_count}
 use Rattle.lists.specs.First.{is_found, some}
 use Rattle.lists.specs.Ids.{member_of, first_end_missing}
-use Rattle.lists.specs.declared.Found.TheVariants.{Nothing}
 use Rattle.lists.proofs.Search.{both}
 use Rattle.lists.proofs.Members.{member_below}
 use Rattle.regions.specs.Graph.{Reach, at, marked}
@@ -64,7 +64,7 @@ some_or P Q t n =
     some_at any n p h (and_true (P p || Q p) (t p) (or_right (P p) x) y))
     (either (some one n) (some other n) e))
 
-module _ (cs ps : List ℤ) (few : component_count cs ≤ component_limit) (ends : first_end_missing cs ps ≡ Nothing) {keys : List ℕ}
+module _ (cs ps : List ℤ) (few : component_count cs ≤ component_limit) (ends : first_end_missing cs ps ≡ None) {keys : List ℕ}
     (pairs : Crossings (signals cs ps) (labels cs ps) keys) where
   n : ℕ
   n = component_count cs

@@ -5,6 +5,7 @@
 --     sources_are          the source rows
 --     inferred_alone       an inferred component is on no frontier
 -- Assumes nothing.
+use Rattle.std.specs.Prelude.{None}
 use mathlib.Core.Path.{◌≡◌, refl, sym, ap, ◌∙◌}
 use mathlib.Core.Bool.{Bool, true, false, not, ◌&&◌}
 use mathlib.Core.List.{List, [], ◌++◌}
@@ -18,7 +19,6 @@ use Rattle.lists.specs.Limits.{component_limit}
 use Rattle.lists.specs.Records.{component, component_count, port_count}
 use Rattle.lists.specs.Ids.{member_of, first_end_missing}
 use Rattle.lists.specs.Ends.{Settled}
-use Rattle.lists.specs.declared.Found.TheVariants.{Nothing}
 use Rattle.lists.specs.First.{is_found}
 use Rattle.lists.proofs.Members.{member_below}
 use Rattle.lists.proofs.Search.{never, both, or_true}
@@ -88,7 +88,7 @@ module _ (cs ps fs : List ℤ) (status : ℕ → ℕ → ℕ) (same : (p port : 
       (λ j l. same p (first_required kind + j) (omega arith) (omega (arith, count_most kind, first_most kind)))))
 
 module _ {cs ps : List ℤ} {sources sinks members : List ℕ} {drive potential fed driven possible : List Bool} (few : component_count cs ≤ component_limit)
-    (s : Settled cs ps 0 sources) (t : Settled cs ps 2 sinks) (ends : first_end_missing cs ps ≡ Nothing) (numbers : Numbers (component_count cs) (member_of cs) members)
+    (s : Settled cs ps 0 sources) (t : Settled cs ps 2 sinks) (ends : first_end_missing cs ps ≡ None) (numbers : Numbers (component_count cs) (member_of cs) members)
     (f : SlotFlags (port_count ps) ps sources sinks drive potential fed driven possible) (room : SlotRoom fed driven possible) where
   pub verdicts_are : (fs : List ℤ) → LiveMarks cs ps fs drive potential
       → rows_below cs (λ p port. status_at fed driven possible (slot_of (get_or members p 0) port)) (component_count cs) ≡ input_rows cs ps fs

@@ -3,6 +3,7 @@
 --     fed_same                   `slot_fed` by the connections
 --     slot_feeds, status_is      a port connection feeds a slot exactly where it feeds its port; so `status_at` is `status_of`
 -- Assumes nothing.
+use Rattle.std.specs.Prelude.{None}
 use mathlib.Core.Path.{◌≡◌, refl, sym, ap, ◌∙◌}
 use mathlib.Core.Bool.{Bool, true, false, cond, ◌&&◌}
 use mathlib.Core.List.{List}
@@ -22,7 +23,6 @@ use Rattle.lists.specs.First.{is_found, some}
 use Rattle.lists.specs.Ids.{member_of, first_end_missing}
 use Rattle.lists.specs.Ends.{Settled}
 use Rattle.lists.specs.Within.{PortConnections}
-use Rattle.lists.specs.declared.Found.TheVariants.{Nothing}
 use Rattle.lists.proofs.Search.{both}
 use Rattle.lists.proofs.Members.{member_below}
 use Rattle.regions.specs.Graph.{marked}
@@ -43,7 +43,7 @@ use Rattle.assessment.proofs.Required.{and_none}
 
 module _ {cs ps : List ℤ} {sources sinks slots keys : List ℕ} (few : component_count cs ≤ component_limit) (w : PortConnections ps)
     (s : Settled cs ps 0 sources) (t : Settled cs ps 2 sinks) (u : Slots ps sinks slots) (table : KeysOf ps slots sources no_slot keys)
-    (ends : first_end_missing cs ps ≡ Nothing) where
+    (ends : first_end_missing cs ps ≡ None) where
   -- the members that feed slots are those of components
   pub fed_within : FedWithin keys (component_count cs)
   fed_within = record {
@@ -61,7 +61,7 @@ module _ {cs ps : List ℤ} {sources sinks slots keys : List ℕ} (few : compone
 
 module _ {cs ps : List ℤ} {sources sinks slots keys : List ℕ} (few : component_count cs ≤ component_limit) (w : PortConnections ps)
     (s : Settled cs ps 0 sources) (t : Settled cs ps 2 sinks) (u : Slots ps sinks slots) (table : KeysOf ps slots sources no_slot keys)
-    (ends : first_end_missing cs ps ≡ Nothing) (p port : ℕ) (h : p < component_count cs) (l : port < ports) where
+    (ends : first_end_missing cs ps ≡ None) (p port : ℕ) (h : p < component_count cs) (l : port < ports) where
   abbrev m : ℕ
   m = member_of cs p
 
@@ -108,7 +108,7 @@ module _ {cs ps : List ℤ} {sources sinks slots keys : List ℕ} (few : compone
 -- ---- flags of slots
 
 module _ {cs ps : List ℤ} {sources sinks : List ℕ} (few : component_count cs ≤ component_limit) (s : Settled cs ps 0 sources) (t : Settled cs ps 2 sinks)
-    (ends : first_end_missing cs ps ≡ Nothing) (p port : ℕ) (h : p < component_count cs) (l : port < places) where
+    (ends : first_end_missing cs ps ≡ None) (p port : ℕ) (h : p < component_count cs) (l : port < places) where
   abbrev j : ℕ
   j = slot_of (member_of cs p) port
 

@@ -2,6 +2,7 @@
 --     device_rows, rows_below        the verdict rows of a device, and of the first n components, by statuses
 --     sources_of, sources_below      their source rows, by flags
 -- Assumes nothing: these are definitions.
+use Rattle.std.specs.Prelude.{Option}
 use Rattle.std.specs.Prelude.{ℕ, zero, suc, ◌+◌, ◌*◌, ◌/◌, ◌%◌, ◌<◌, ◌≡◌, Bool, true, false, List, [], ◌∷◌, ◌++◌, length, get_or, take, drop, ℤ}
 use Rattle.tables.specs.Order.{member}
 use Rattle.tables.specs.Pairs.{pair, span}
@@ -9,7 +10,6 @@ use Rattle.lists.specs.Limits.{component_limit}
 use Rattle.lists.specs.Records.{component, component_count}
 use Rattle.lists.specs.First.{some}
 use Rattle.lists.specs.Slices.{laid}
-use Rattle.lists.specs.declared.Found.{Found}
 use Rattle.regions.specs.Graph.{marked}
 use Rattle.signals.specs.Keys.{slot, ports}
 use Rattle.signals.specs.Sources.{source_kind}
@@ -66,7 +66,7 @@ rows_below cs status (suc p) = rows_below cs status p ++ rows_of (component cs p
 
 -- ---- source rows
 
-abbrev pub sources_of : ℕ → Found → Bool → Bool → List ℕ
+abbrev pub sources_of : ℕ → Option ℕ → Bool → Bool → List ℕ
 sources_of id found frontier inferred = kind_row id found ++ (row_if frontier id 2 ++ row_if inferred id 3)
 
 unfoldable pub sources_below : List ℤ → List Bool → List Bool → ℕ → List ℕ

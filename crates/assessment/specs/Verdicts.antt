@@ -3,11 +3,10 @@
 --     verdict_rows       device, port, status: Repeater, Comparator, Piston, Torch in list order, each Input port, and the Torch's Control
 --     source_rows        id, source kind, by list order, then kind
 -- Assumes nothing: these are definitions.
+use Rattle.std.specs.Prelude.{Option, Some, None}
 use Rattle.std.specs.Prelude.{ℕ, zero, suc, Bool, not, cond, ◌&&◌, ◌||◌, List, [], ◌∷◌, ◌++◌, eqb, length, ℤ}
 use Rattle.lists.specs.Records.{Component, component, port_connection, component_count, port_count}
 use Rattle.lists.specs.First.{some}
-use Rattle.lists.specs.declared.Found.{Found}
-use Rattle.lists.specs.declared.Found.TheVariants.{At, Nothing}
 use Rattle.faces.specs.Ports.{ports_of, Input, Control}
 use Rattle.faces.specs.Select.{port_at}
 use Rattle.regions.specs.Graph.{marked}
@@ -71,9 +70,9 @@ input_rows cs ps fs = verdict_rows cs ps fs (component_count cs)
 abbrev pub row_if : Bool → ℕ → ℕ → List ℕ
 row_if test id kind = cond test (id ∷ kind ∷ []) []
 
-abbrev pub kind_row : ℕ → Found → List ℕ
-kind_row id (At kind) = id ∷ kind ∷ []
-kind_row id Nothing = []
+abbrev pub kind_row : ℕ → Option ℕ → List ℕ
+kind_row id (Some kind) = id ∷ kind ∷ []
+kind_row id None = []
 
 -- at most two: 0 or 1, then 2; 3 stands alone
 unfoldable pub sources_at : List ℤ → List ℤ → List ℤ → ℕ → List ℕ

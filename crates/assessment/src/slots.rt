@@ -1,11 +1,11 @@
 // Verdict rows by flags of slots: one pass over the port connections marks which ports are fed, and by what, so no table is sorted.
+ghost use Rattle.std.specs.Prelude.{None};
 ghost use Rattle.std.specs.Prelude.{◌≡◌, true, false, List, [], ◌∷◌, ◌+◌, ◌*◌, ◌≤◌, ◌<◌, length, get_or, replicate, ℤ};
 ghost use Rattle.lists.specs.Limits.{component_limit};
 ghost use Rattle.lists.specs.Records.{component_count, port_count};
 ghost use Rattle.lists.specs.Ids.{member_of, first_end_missing};
 ghost use Rattle.lists.specs.Ends.{Settled};
 ghost use Rattle.lists.specs.Within.{Components, PortConnections};
-ghost use Rattle.lists.specs.declared.Found.TheVariants.{Nothing};
 ghost use Rattle.regions.specs.Graph.{marked};
 ghost use Rattle.signals.specs.Signals.{is_signal};
 ghost use Rattle.signals.specs.Flags.{Numbers, Indices};
@@ -195,7 +195,7 @@ pub fn write_verdicts(
     potential: &[bool],
     out: &mut [u64],
 ) -> usize
-    requires components { Components components.now × (PortConnections ports.now × (first_end_missing components.now ports.now ≡ Nothing)) }
+    requires components { Components components.now × (PortConnections ports.now × (first_end_missing components.now ports.now ≡ None)) }
     requires settled { Settled components.now ports.now 0 sources.now × Settled components.now ports.now 2 sinks.now }
     requires ports_in_bounds { (port_count ports.now ≤ length sources.now) × (port_count ports.now ≤ length sinks.now) }
     requires numbers { Numbers (component_count components.now) (member_of components.now) members.now × (12 * component_count components.now ≤ length out.old) }

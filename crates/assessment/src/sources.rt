@@ -1,8 +1,8 @@
 // Drive sources by list place.
+ghost use Rattle.std.specs.Prelude.{None};
 ghost use Rattle.std.specs.Prelude.{◌≡◌, ℕ, ◌≤◌, ◌<◌, length, ◌||◌};
 ghost use Rattle.lists.specs.Limits.{component_width};
 ghost use Rattle.lists.specs.Order.{first_not_ascending, component_order};
-ghost use Rattle.lists.specs.declared.Found.TheVariants.{Nothing};
 ghost use Rattle.lists.specs.Records.{component, frontier, component_count, frontier_count};
 ghost use Rattle.lists.specs.Within.{Components};
 ghost use Rattle.signals.specs.Sources.{source_kind, same_position, before_position, Parted, first_at, is_on_frontier};
@@ -11,16 +11,16 @@ ghost use Rattle.regions.specs.Graph.{marked};
 ghost use Rattle.signals.specs.Flags.{Flags, FirstFlagged};
 
 use lists::numbers::{natural_at, number_less, number_same};
-use lists::{COMPONENT, FRONTIER, Found};
+use lists::{COMPONENT, FRONTIER};
 
 // The source kind of a block's kind: levers, buttons and plates 0, torches and redstone blocks 1.
-pub fn source_kind(kind: u64) -> Found
+pub fn source_kind(kind: u64) -> Option<usize>
     ensures { result ≡ source_kind kind }
 {
     match kind {
-        3 | 7 => Found::At(1),
-        4 | 5 | 6 => Found::At(0),
-        _ => Found::Nothing,
+        3 | 7 => Some(1),
+        4 | 5 | 6 => Some(0),
+        _ => None,
     }
 }
 
@@ -52,7 +52,7 @@ fn before_position(components: &[i64], frontiers: &[i64], p: usize, j: usize) ->
 
 // The first component that does not stand before the position of frontier j, or their number. The components ascend.
 fn position_bound(components: &[i64], frontiers: &[i64], j: usize) -> usize
-    requires components_value { first_not_ascending component_order component_width components.now ≡ Nothing }
+    requires components_value { first_not_ascending component_order component_width components.now ≡ None }
     requires j_bound { j < frontier_count frontiers.now }
     ensures { Parted components.now (frontier frontiers.now j) result }
 {
@@ -70,39 +70,39 @@ fn position_bound(components: &[i64], frontiers: &[i64], j: usize) -> usize
 }
 
 // The first listed component at the position of frontier j.
-fn first_at(components: &[i64], frontiers: &[i64], j: usize) -> Found
-    requires components_value { first_not_ascending component_order component_width components.now ≡ Nothing }
+fn first_at(components: &[i64], frontiers: &[i64], j: usize) -> Option<usize>
+    requires components_value { first_not_ascending component_order component_width components.now ≡ None }
     requires j_bound { j < frontier_count frontiers.now }
     ensures { result ≡ first_at components.now (frontier frontiers.now j) }
 {
     let p = position_bound(components, frontiers, j);
     if components.len() / COMPONENT <= p {
-        return Found::Nothing;
+        return None;
     }
     if same_position(components, frontiers, p, j) {
-        return Found::At(p);
+        return Some(p);
     }
-    Found::Nothing
+    None
 }
 
 // Flags the component that is the first at the position of frontier j.
 fn flag_first(components: &[i64], frontiers: &[i64], j: usize, flags: &mut [bool])
-    requires components_value { first_not_ascending component_order component_width components.now ≡ Nothing }
+    requires components_value { first_not_ascending component_order component_width components.now ≡ None }
     requires j_bound { (j < frontier_count frontiers.now) × (component_count components.now ≤ length flags.old) }
     ensures { FirstFlagged (first_at components.now (frontier frontiers.now j)) flags.old flags.new }
 {
     let found = first_at(components, frontiers, j);
     match found {
-        Found::At(p) => {
+        Some(p) => {
             flags[p] = true;
         }
-        Found::Nothing => {}
+        None => {}
     }
 }
 
 // Flags the components on frontiers.
 pub fn frontier_flags(components: &[i64], frontiers: &[i64], flags: &mut [bool])
-    requires components_value { first_not_ascending component_order component_width components.now ≡ Nothing }
+    requires components_value { first_not_ascending component_order component_width components.now ≡ None }
     requires components_in_bounds { component_count components.now ≤ length flags.old }
     ensures { Flags (component_count components.now) (is_on_frontier components.now frontiers.now) flags.new }
 {
@@ -122,8 +122,8 @@ fn is_drive(components: &[i64], p: usize, on_frontier: bool) -> bool
 {
     let kind = source_kind(natural_at(components, p * COMPONENT + 4));
     match kind {
-        Found::At(_) => true,
-        Found::Nothing => on_frontier,
+        Some(_) => true,
+        None => on_frontier,
     }
 }
 

@@ -11,7 +11,7 @@ ghost use Rattle.assessment.specs.Rows.{Put, first_required, required_count, slo
 
 use super::sources::source_kind;
 use lists::numbers::natural_at;
-use lists::{COMPONENT, Found};
+use lists::{COMPONENT};
 use tables::SPAN;
 
 // The first port of a kind that has a verdict row.
@@ -68,8 +68,8 @@ fn put_kind(out: &mut [u64], at: usize, id: u64, kind: u64) -> usize
 {
     let found = source_kind(kind);
     match found {
-        Found::At(source) => put_source(out, at, true, id, source as u64),
-        Found::Nothing => at,
+        Some(source) => put_source(out, at, true, id, source as u64),
+        None => at,
     }
 }
 

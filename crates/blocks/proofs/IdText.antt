@@ -3,6 +3,7 @@
 --     ids_from_lem, ids_room, ids_on, ..   the line's rest, written and measured a member at a time
 --     ids_snoc                         a member more at the end
 -- Assumes nothing.
+use Rattle.std.specs.Prelude.{Option}
 use mathlib.Core.Path.{◌≡◌, refl, sym, ap, ◌∙◌, subst}
 use mathlib.Core.Bool.{Bool, true, false, cond}
 use mathlib.Core.Logic.{⊎_elim}
@@ -17,7 +18,6 @@ use borrow.Author.Tests.{lt-ltb, le-ltb}
 use Rattle.tables.specs.Laws.{order?}
 use Rattle.tables.specs.Pairs.{span}
 use Rattle.sets.specs.Members.{member_of, LeastFrom}
-use Rattle.lists.specs.declared.Found.{Found}
 use Rattle.lines.specs.Decimal.{digits}
 use Rattle.lines.specs.Wrote.{Put}
 use Rattle.lines.proofs.Digits.{digits_append}
@@ -119,7 +119,7 @@ module _ (keys words : List ℕ) where
     pub going : Going listed at old (spaced (ids_from keys words m (length keys - m)) ++ (10 ∷ [])) new p
 
   -- or to be measured
-  pub record IdsLeft (first rest : Found) (m : ℕ) : Type 0 where
+  pub record IdsLeft (first rest : Option ℕ) (m : ℕ) : Type 0 where
     pub member : m < length keys → member_of words m ≡ true
     pub left : left_after rest (length (spaced (ids_from keys words m (length keys - m)))) ≡ left_after first (length (spaced (ids_in keys words)))
 
@@ -138,7 +138,7 @@ module _ (keys words : List ℕ) where
       going = subst (λ (s : List ℕ). Going listed at old (spaced s ++ (10 ∷ [])) old at) (first_ids l) (goes_from h);
     }
 
-    pub left_from : {r : ℕ} {first : Found} → LeastFrom words 0 r → IdsLeft first first r
+    pub left_from : {r : ℕ} {first : Option ℕ} → LeastFrom words 0 r → IdsLeft first first r
     left_from {r} {first} l = record {
       member = found_member l;
       left = ap (λ (s : List ℕ). left_after first (length (spaced s))) (sym (first_ids l));
@@ -169,7 +169,7 @@ module _ (keys words : List ℕ) where
         going = goes_on id_text (spaced (ids_from keys words next (length keys - next)) ++ (10 ∷ [])) (next_going g) s;
       }
 
-      pub left_next : {n : ℕ} {first rest less : Found} → IdsLeft first rest m → n ≡ length id_text → less ≡ left_after rest n → IdsLeft first less next
+      pub left_next : {n : ℕ} {first rest less : Option ℕ} → IdsLeft first rest m → n ≡ length id_text → less ≡ left_after rest n → IdsLeft first less next
       left_next {n} {first} {rest} {less} g e f = record {
         member = found_member l;
         left = left_on rest id_text (spaced (ids_from keys words next (length keys - next))) (next_text (g.member h)) e f g.left;
@@ -186,6 +186,6 @@ module _ (keys words : List ℕ) where
   pub ids_done : {at p q m : ℕ} {old new newer : List ℕ} → length keys ≤ m → IdsGoing at old new p m → Put p (10 ∷ []) new newer q → Put at listed old newer q
   ids_done h g s = goes_done (goes_on (10 ∷ []) [] (last_going h g) s)
 
-  pub left_done : {m : ℕ} {first rest : Found} → length keys ≤ m → IdsLeft first rest m → rest ≡ left_after first (length (spaced (ids_in keys words)))
+  pub left_done : {m : ℕ} {first rest : Option ℕ} → length keys ≤ m → IdsLeft first rest m → rest ≡ left_after first (length (spaced (ids_in keys words)))
   left_done {m} {first} {rest} h g =
       sym (left_none rest) ∙ ap (λ (s : List ℕ). left_after rest (length s)) (sym (text_end keys words m (length keys) h)) ∙ g.left

@@ -4,11 +4,10 @@
 --     ids_in                              the ids of a set's members, by the table of ids
 --     blank_if                            a blank between two ids
 -- Assumes nothing: these are definitions.
+use Rattle.std.specs.Prelude.{Option, Some, None}
 use Rattle.std.specs.Prelude.{ℕ, zero, suc, ◌-◌, ◌/◌, Bool, true, false, cond, List, [], ◌∷◌, eqb, leb, length, get_or}
 use Rattle.tables.specs.Pairs.{span}
 use Rattle.sets.specs.Members.{member_of}
-use Rattle.lists.specs.declared.Found.{Found}
-use Rattle.lists.specs.declared.Found.TheVariants.{At, Nothing}
 use Rattle.lines.specs.Text.{ascii}
 use Rattle.blocks.specs.Lines.{component_keys, connection_keys, region_keys, source_keys, input_keys, block}
 
@@ -31,9 +30,9 @@ block_text b rows = block (count_name b) (block_keys b) rows
 -- ---- room
 
 -- how many bytes are left after n of them, where there are so many
-abbrev pub left_after : Found → ℕ → Found
-left_after (At left) n = cond (leb n left) (At (left - n)) Nothing
-left_after Nothing n = Nothing
+abbrev pub left_after : Option ℕ → ℕ → Option ℕ
+left_after (Some left) n = cond (leb n left) (Some (left - n)) None
+left_after None n = None
 
 -- ---- sets
 

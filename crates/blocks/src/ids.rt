@@ -7,7 +7,6 @@ ghost use Rattle.blocks.specs.Blocks.{ids_in, left_after};
 
 use super::left_after;
 use super::writers::{id_length, put_id, put_key, put_sign};
-use lists::Found;
 use sets::{ComponentSet, next_member};
 use tables::SPAN;
 
@@ -28,7 +27,7 @@ pub fn put_ids(out: &mut [u8], at: usize, key: &[u8], set: ComponentSet, keys: &
 }
 
 // How many bytes are left after that line.
-pub fn left_after_ids(left: Found, key: &[u8], set: ComponentSet, keys: &[u64]) -> Found
+pub fn left_after_ids(left: Option<usize>, key: &[u8], set: ComponentSet, keys: &[u64]) -> Option<usize>
     requires { length keys.now ≤ member_limit }
     ensures { result ≡ left_after left (length (set_line key.now (ids_in keys.now set.words))) }
 {

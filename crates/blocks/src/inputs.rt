@@ -8,7 +8,6 @@ ghost use Rattle.blocks.specs.Blocks.{ids_in, left_after};
 use super::ids::{left_after_ids, put_ids};
 use super::keys::{field_length, put_field};
 use super::left_after;
-use lists::Found;
 use sets::ComponentSet;
 
 // The number of this block.
@@ -38,14 +37,14 @@ pub fn put_input(
 
 // How many bytes are left after a row.
 pub fn left_after_input(
-    left: Found,
+    left: Option<usize>,
     device: u64,
     port: u64,
     status: u64,
     immediate: ComponentSet,
     inferred: ComponentSet,
     keys: &[u64],
-) -> Found
+) -> Option<usize>
     requires { length keys.now ≤ member_limit }
     ensures { result ≡ left_after left (length (input_text device port status (ids_in keys.now immediate.words) (ids_in keys.now inferred.words))) }
 {

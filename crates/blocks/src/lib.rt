@@ -13,25 +13,24 @@ ghost use Rattle.lines.specs.Wrote.{Put};
 ghost use Rattle.blocks.specs.Blocks.{block_text, left_after};
 
 use keys::{count_length, field_length, put_count, put_field, width};
-use lists::Found;
 
 // How many bytes of a buffer are left after n of them, where it has so many. The rest only falls, so that no sum of lengths is taken.
-pub fn left_after(left: Found, n: usize) -> Found
+pub fn left_after(left: Option<usize>, n: usize) -> Option<usize>
     ensures { result ≡ left_after left n }
 {
     match left {
-        Found::Nothing => Found::Nothing,
-        Found::At(rest) => {
+        None => None,
+        Some(rest) => {
             if n <= rest {
-                return Found::At(rest - n);
+                return Some(rest - n);
             }
-            Found::Nothing
+            None
         }
     }
 }
 
 // How many are left after a block.
-pub fn left_after_block(left: Found, block: u64, rows: &[u64]) -> Found
+pub fn left_after_block(left: Option<usize>, block: u64, rows: &[u64]) -> Option<usize>
     ensures { result ≡ left_after left (length (block_text block rows.now)) }
 {
     let count = rows.len() / width(block);

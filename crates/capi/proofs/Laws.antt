@@ -5,6 +5,7 @@
 --     told_apart                      the sixteen lowest bits of an answer are 0 exactly where the scene is accepted
 --     liveness_told_apart             the same of the liveness entry
 -- Assumes nothing.
+use Rattle.std.specs.Prelude.{⊤, Option, Some, None, Result, Ok, Err}
 use mathlib.Core.Path.{◌≡◌, refl, sym, ap, ◌∙◌}
 use mathlib.Core.Bool.{Bool, ◌&&◌}
 use mathlib.Core.List.{List, [], ◌∷◌, map, map-append}
@@ -23,10 +24,6 @@ use Rattle.lists.specs.Order.{first_not_ascending, component_order, connection_o
 use Rattle.lists.specs.Ids.{first_repeated, first_end_missing}
 use Rattle.checks.specs.Refusals.{refuse, ◌or_else◌, not_whole, too_short, room_for, grouping_lists, liveness_lists, liveness_room, Small}
 use Rattle.lists.specs.declared.Refusal.{Refusal}
-use Rattle.lists.specs.declared.Found.{Found}
-use Rattle.lists.specs.declared.Found.TheVariants.{At, Nothing}
-use Rattle.lists.specs.declared.Checked.{Checked}
-use Rattle.lists.specs.declared.Checked.TheVariants.{Accepted, Refused}
 use Rattle.checks.proofs.Small.{small_or_else, grouping_small, liveness_small}
 use Rattle.encoding.specs.Bytes.{number_bytes, little_endian, signed, first_numbers, numbers, low_bytes, bytes_of}
 use Rattle.encoding.specs.Entry.{groups_whole, groups_refusal, groups_number, GroupsByBytes}
@@ -76,7 +73,7 @@ pub record AcceptedParts (r nets fragments : ℕ) : Type 0 where
   pub nets_are : r / 65536 % 65536 ≡ nets
   pub fragments_are : r / 4294967296 ≡ fragments
 
-pub accepted_parts : (nets fragments : ℕ) → nets ≤ component_limit → AcceptedParts (groups_number Accepted nets fragments) nets fragments
+pub accepted_parts : (nets fragments : ℕ) → nets ≤ component_limit → AcceptedParts (groups_number (Ok tt) nets fragments) nets fragments
 accepted_parts nets fragments h = record { accepted = omega arith; nets_are = omega arith; fragments_are = omega arith }
 
 pub record RefusedParts (r : ℕ) (refusal : Refusal) : Type 0 where
@@ -84,7 +81,7 @@ pub record RefusedParts (r : ℕ) (refusal : Refusal) : Type 0 where
   pub list_is : r / 256 % 256 ≡ refusal.list
   pub item_is : r / 65536 ≡ refusal.item
 
-pub refused_parts : (refusal : Refusal) (nets fragments : ℕ) → Small (Refused refusal) → RefusedParts (groups_number (Refused refusal) nets fragments) refusal
+pub refused_parts : (refusal : Refusal) (nets fragments : ℕ) → Small (Err refusal) → RefusedParts (groups_number (Err refusal) nets fragments) refusal
 refused_parts refusal nets fragments small = record { number_is = omega arith; list_is = omega arith; item_is = omega arith }
 
 pub record LivenessParts (r regions sources inputs : ℕ) : Type 0 where
@@ -94,30 +91,30 @@ pub record LivenessParts (r regions sources inputs : ℕ) : Type 0 where
   pub inputs_are : r / 281474976710656 ≡ inputs
 
 pub liveness_accepted_parts : (regions sources inputs : ℕ) → regions ≤ component_limit → sources ≤ 2 * component_limit
-    → LivenessParts (liveness_number Accepted regions sources inputs) regions sources inputs
+    → LivenessParts (liveness_number (Ok tt) regions sources inputs) regions sources inputs
 liveness_accepted_parts regions sources inputs h l =
     record { accepted = omega arith; regions_are = omega arith; sources_are = omega arith; inputs_are = omega arith }
 
 -- ---- acceptance and refusal, told apart
 
 -- a refusal has a number above 0
-abbrev Numbered : Checked → Type 0
-Numbered Accepted = Unit
-Numbered (Refused refusal) = 0 < refusal.number
+abbrev Numbered : Result ⊤ Refusal → Type 0
+Numbered (Ok tt) = Unit
+Numbered (Err refusal) = 0 < refusal.number
 
-record Has (checked : Checked) : Type 0 where
+record Has (checked : Result ⊤ Refusal) : Type 0 where
   number : Numbered checked
 
-has : (number list : ℕ) (f : Found) → 0 < number → Has (refuse number list f)
-has number list (At k) h = record { number = h }
-has number list Nothing h = record { number = tt }
+has : (number list : ℕ) (f : Option ℕ) → 0 < number → Has (refuse number list f)
+has number list (Some k) h = record { number = h }
+has number list None h = record { number = tt }
 
-next : (a b : Checked) → Has a → Has b → Has (a or_else b)
-next Accepted b ha hb = hb
-next (Refused r) b ha hb = ha
+next : (a b : Result ⊤ Refusal) → Has a → Has b → Has (a or_else b)
+next (Ok tt) b ha hb = hb
+next (Err r) b ha hb = ha
 
 infixr 20 ◌then◌
-◌then◌ : {a b : Checked} → Has a → Has b → Has (a or_else b)
+◌then◌ : {a b : Result ⊤ Refusal} → Has a → Has b → Has (a or_else b)
 ◌then◌ {a} {b} ha hb = next a b ha hb
 
 grouping_numbered : (cs ps fs : List ℤ) (enough : Bool) → Has (grouping_lists cs ps fs enough)
@@ -139,12 +136,12 @@ whole_numbered components connections =
     has 1 0 (not_whole (number_bytes * component_width) component_limit (length components)) (lit< tt)
     then has 1 1 (not_whole (number_bytes * connection_width) connection_limit (length connections)) (lit< tt)
 
-told : (checked : Checked) (nets fragments : ℕ) → Small checked → Numbered checked → (groups_number checked nets fragments % 65536 ≡ 0) ↔ (checked ≡ Accepted)
-told Accepted nets fragments small numbered = (λ _. refl, λ _. omega arith)
-told (Refused r) nets fragments small numbered = (λ e. absurd (omega arith), λ e. let z : ◌≡◌ {A = ℕ} 0 1 = cc in absurd (omega arith))
+told : (checked : Result ⊤ Refusal) (nets fragments : ℕ) → Small checked → Numbered checked → (groups_number checked nets fragments % 65536 ≡ 0) ↔ (checked ≡ Ok tt)
+told (Ok tt) nets fragments small numbered = (λ _. refl, λ _. omega arith)
+told (Err r) nets fragments small numbered = (λ e. absurd (omega arith), λ e. let z : ◌≡◌ {A = ℕ} 0 1 = cc in absurd (omega arith))
 
 pub told_apart : (components connections nets nets' fragments fragments' : List ℕ) (r : ℕ) → GroupsByBytes components connections nets nets' fragments fragments' r
-    → (r % 65536 ≡ 0) ↔ (groups_refusal components connections (length nets) (length fragments) ≡ Accepted)
+    → (r % 65536 ≡ 0) ↔ (groups_refusal components connections (length nets) (length fragments) ≡ Ok tt)
 told_apart components connections nets nets' fragments fragments' r laid_so =
     let cs = numbers components in
     let ps = numbers connections in
@@ -175,14 +172,14 @@ three_numbered components ports frontiers =
     then has 1 1 (not_whole (number_bytes * port_width) connection_limit (length ports)) (lit< tt)
     then has 1 2 (not_whole (number_bytes * frontier_width) frontier_limit (length frontiers)) (lit< tt)
 
-liveness_told : (checked : Checked) (regions sources inputs : ℕ) → Small checked → Numbered checked
-    → (liveness_number checked regions sources inputs % 65536 ≡ 0) ↔ (checked ≡ Accepted)
-liveness_told Accepted regions sources inputs small numbered = (λ _. refl, λ _. omega arith)
-liveness_told (Refused r) regions sources inputs small numbered = (λ e. absurd (omega arith), λ e. let z : ◌≡◌ {A = ℕ} 0 1 = cc in absurd (omega arith))
+liveness_told : (checked : Result ⊤ Refusal) (regions sources inputs : ℕ) → Small checked → Numbered checked
+    → (liveness_number checked regions sources inputs % 65536 ≡ 0) ↔ (checked ≡ Ok tt)
+liveness_told (Ok tt) regions sources inputs small numbered = (λ _. refl, λ _. omega arith)
+liveness_told (Err r) regions sources inputs small numbered = (λ e. absurd (omega arith), λ e. let z : ◌≡◌ {A = ℕ} 0 1 = cc in absurd (omega arith))
 
 pub liveness_told_apart : (components ports frontiers regions regions' sources sources' inputs inputs' sets sets' stack stack' : List ℕ) (r : ℕ)
     → LivenessByBytes components ports frontiers regions regions' sources sources' inputs inputs' sets sets' stack stack' r
-    → (r % 65536 ≡ 0) ↔ (liveness_bytes_refusal components ports frontiers (length regions) (length sources) (length inputs) (length sets) (length stack) ≡ Accepted)
+    → (r % 65536 ≡ 0) ↔ (liveness_bytes_refusal components ports frontiers (length regions) (length sources) (length inputs) (length sets) (length stack) ≡ Ok tt)
 liveness_told_apart components ports frontiers regions regions' sources sources' inputs inputs' sets sets' stack stack' r laid_so =
     let cs = numbers components in
     let ps = numbers ports in

@@ -9,6 +9,10 @@
 --     ports_alive                      the answer and what is left, from port connections that were read
 --     part_alive, decoded_alive        the same from the lists of bytes
 -- Assumes nothing.
+use Rattle.lists.specs.declared.Fault.{Fault}
+use Rattle.lists.specs.declared.Section.{Section}
+use Rattle.std.specs.Prelude.{Some}
+use Rattle.std.specs.Prelude.{⊤, Result, Ok, Err}
 use mathlib.Core.Path.{◌≡◌, refl, sym, ap, ◌∙◌}
 use mathlib.Core.Bool.{Bool, true, false}
 use mathlib.Core.List.{List, ◌++◌}
@@ -26,8 +30,6 @@ use Rattle.lists.specs.Records.{component_count}
 use Rattle.checks.specs.Refusals.{refuse, ◌or_else◌, not_whole, room_for, liveness_lists, liveness_room, liveness_refusal, Small, packed}
 use Rattle.lists.specs.Slices.{laid}
 use Rattle.lists.specs.declared.Refusal.{Refusal}
-use Rattle.lists.specs.declared.Checked.{Checked}
-use Rattle.lists.specs.declared.Checked.TheVariants.{Accepted, Refused}
 use Rattle.checks.proofs.Chain.{both_accept}
 use Rattle.checks.proofs.Accepts.{refuse_none, whole_few, whole_all}
 use Rattle.checks.proofs.Small.{small_or_else, whole_small}
@@ -50,12 +52,12 @@ use Rattle.encoding.proofs.Laid.{laid_front}
 -- ---- room
 
 -- a scene whose lent slices are too short is refused
-pub short_refused : (cs ps fs : List ℤ) → (refusal : Refusal) × (liveness_lists cs ps fs false ≡ Refused refusal)
+pub short_refused : (cs ps fs : List ℤ) → (refusal : Refusal) × (liveness_lists cs ps fs false ≡ Err refusal)
 short_refused cs ps fs = go (liveness_lists cs ps fs false) refl
   where
-    go : (checked : Checked) → liveness_lists cs ps fs false ≡ checked → (refusal : Refusal) × (liveness_lists cs ps fs false ≡ Refused refusal)
-    go Accepted e = absurd (true_not_false (sym (liveness_accept cs ps fs false e).scene.lengths.room))
-    go (Refused refusal) e = (refusal, e)
+    go : (checked : Result ⊤ Refusal) → liveness_lists cs ps fs false ≡ checked → (refusal : Refusal) × (liveness_lists cs ps fs false ≡ Err refusal)
+    go (Ok tt) e = absurd (true_not_false (sym (liveness_accept cs ps fs false e).scene.lengths.room))
+    go (Err refusal) e = (refusal, e)
 
 room_same : (places width a b : ℕ) → (places ≤ a / width → places ≤ b / width) → (places ≤ b / width → places ≤ a / width) → room_for places width a ≡ room_for places width b
 room_same places width a b to from = go (leb places (b / width)) refl
@@ -90,22 +92,22 @@ by_room cs ps fs a b c d regions sources inputs sets stack few room ea eb ec ed 
     let e = room_enough cs (regions / number_bytes) (sources / number_bytes) (inputs / number_bytes) (stack / number_bytes) few in
     rw (ea, eb, ec, ed, e, room)
 
-pub alive_as : {checks checks' : Checked} {cs ps fs : List ℤ} {regions regions' sources sources' inputs inputs' sets sets' stack stack' : List ℕ} {r : ℕ}
+pub alive_as : {checks checks' : Result ⊤ Refusal} {cs ps fs : List ℤ} {regions regions' sources sources' inputs inputs' sets sets' stack stack' : List ℕ} {r : ℕ}
     → checks ≡ checks' → LivenessLaid checks cs ps fs regions regions' sources sources' inputs inputs' sets sets' stack stack' r
     → LivenessLaid checks' cs ps fs regions regions' sources sources' inputs inputs' sets sets' stack stack' r
 alive_as e l = rw e at l
 
 -- ---- an accepted scene
 
-pub few_regions : (cs ps fs : List ℤ) (enough : Bool) → liveness_lists cs ps fs enough ≡ Accepted → region_count cs ps ≤ component_limit
+pub few_regions : (cs ps fs : List ℤ) (enough : Bool) → liveness_lists cs ps fs enough ≡ Ok tt → region_count cs ps ≤ component_limit
 few_regions cs ps fs enough e =
     let scene = liveness_accept cs ps fs enough e in
     let laws = region_laws (component_count cs) (signals cs ps) (signals_within cs ps (scene_of_lem scene)) in
     omega (arith, laws.few, scene.components.few)
 
-pub found : {checks : Checked} {cs ps fs : List ℤ} {regions regions' sources sources' inputs inputs' stack stack' : List ℕ} {r : Analysis}
-    → checks ≡ Accepted → AnalyzedBy checks cs ps fs regions regions' sources sources' inputs inputs' stack stack' r
-    → AnalyzedBy Accepted cs ps fs regions regions' sources sources' inputs inputs' stack stack' r
+pub found : {checks : Result ⊤ Refusal} {cs ps fs : List ℤ} {regions regions' sources sources' inputs inputs' stack stack' : List ℕ} {r : Analysis}
+    → checks ≡ Ok tt → AnalyzedBy checks cs ps fs regions regions' sources sources' inputs inputs' stack stack' r
+    → AnalyzedBy (Ok tt) cs ps fs regions regions' sources sources' inputs inputs' stack stack' r
 found e a = rw e at a
 
 -- rows that were laid are there, and are what stands at the front
@@ -124,7 +126,7 @@ set_words : {n : ℕ} {P : ℕ → Bool} {words : List ℕ} → WordsOfSet words
 set_words {n} {P} {words} w s = set_unique words n P w.long w.fit s.member
 
 module _ {cs ps fs : List ℤ} {regions regions' sources sources' inputs inputs' stack stack' : List ℕ} {r : Analysis}
-    (a : AnalyzedBy Accepted cs ps fs regions regions' sources sources' inputs inputs' stack stack' r) where
+    (a : AnalyzedBy (Ok tt) cs ps fs regions regions' sources sources' inputs inputs' stack stack' r) where
   pub regions_there : component_count cs ≤ length regions'
   regions_there = laid_there (regions_of cs ps) regions regions' (component_count cs) (tab_length (region_of_place cs ps) (component_count cs)) a.regions_left
 
@@ -154,7 +156,7 @@ module _ {cs ps fs : List ℤ} {regions regions' sources sources' inputs inputs'
       let three : r.inputs ≡ length (input_rows cs ps fs) / 3 = omega (arith, a.input_count) in
       omega (arith, e, a.region_count_lem, two, three)
 
-  pub accepted_alive : {checks : Checked} {out₁ out₁' out₂ out₂' out₃ out₃' out₄ out₄' work work' : List ℕ} {n : ℕ} → checks ≡ Accepted
+  pub accepted_alive : {checks : Result ⊤ Refusal} {out₁ out₁' out₂ out₂' out₃ out₃' out₄ out₄' work work' : List ℕ} {n : ℕ} → checks ≡ Ok tt
       → WordsOfSet r.drive.words → WordsOfSet r.potential.words → WordsOfSet r.cyclic.words → WordsOfSet r.has_drive.words
       → Written (component_count cs) r regions' sources' inputs' out₁ out₁' out₂ out₂' out₃ out₃' out₄ out₄' work work' n
       → LivenessLaid checks cs ps fs out₁ out₁' out₂ out₂' out₃ out₃' out₄ out₄' work work' n
@@ -170,8 +172,8 @@ module _ {cs ps fs : List ℤ} {regions regions' sources sources' inputs inputs'
 
 -- ---- a refusal
 
-pub refused_alive : (checks : Checked) (cs ps fs : List ℤ) (regions sources inputs sets stack : List ℕ) (refusal : Refusal) (r : ℕ) → checks ≡ Refused refusal
-    → r ≡ packed (Refused refusal) → LivenessLaid checks cs ps fs regions regions sources sources inputs inputs sets sets stack stack r
+pub refused_alive : (checks : Result ⊤ Refusal) (cs ps fs : List ℤ) (regions sources inputs sets stack : List ℕ) (refusal : Refusal) (r : ℕ) → checks ≡ Err refusal
+    → r ≡ packed (Err refusal) → LivenessLaid checks cs ps fs regions regions sources sources inputs inputs sets sets stack stack r
 refused_alive checks cs ps fs regions sources inputs sets stack refusal r e f =
     alive_as (sym e) (record { answer = f; regions_left = refl; sources_left = refl; inputs_left = refl; sets_left = refl; stack_left = refl })
 
@@ -190,16 +192,16 @@ module _ (components ports frontiers : List ℕ) where
     pub ports_few : length ports / number_bytes ≤ connection_limit * port_width
     pub frontiers_few : length frontiers / number_bytes ≤ frontier_limit * frontier_width
 
-  abbrev first : Checked
-  first = refuse 1 0 (not_whole (number_bytes * component_width) component_limit (length components))
+  abbrev first : Result ⊤ Refusal
+  first = refuse Fault.ListLength (Some Section.Components) (not_whole (number_bytes * component_width) component_limit (length components))
 
-  abbrev second : Checked
-  second = refuse 1 1 (not_whole (number_bytes * port_width) connection_limit (length ports))
+  abbrev second : Result ⊤ Refusal
+  second = refuse Fault.ListLength (Some Section.Connections) (not_whole (number_bytes * port_width) connection_limit (length ports))
 
-  abbrev third : Checked
-  third = refuse 1 2 (not_whole (number_bytes * frontier_width) frontier_limit (length frontiers))
+  abbrev third : Result ⊤ Refusal
+  third = refuse Fault.ListLength (Some Section.Frontiers) (not_whole (number_bytes * frontier_width) frontier_limit (length frontiers))
 
-  pub whole_three : liveness_whole components ports frontiers ≡ Accepted → WholeThree
+  pub whole_three : liveness_whole components ports frontiers ≡ Ok tt → WholeThree
   whole_three e =
       let (one, others) = both_accept first (second or_else third) e in
       let (two, three) = both_accept second third others in
@@ -219,12 +221,12 @@ module _ (components ports frontiers : List ℕ) where
       (λ _. whole_small 2 (number_bytes * frontier_width) frontier_limit (length frontiers) (lit< tt) (lit≤ tt)))
 
   module _ (regions regions' sources sources' inputs inputs' sets sets' stack stack' : List ℕ) (r : ℕ) where
-    pub decoded_alive : (cs fs : List ℤ) → cs ≡ numbers components → fs ≡ numbers frontiers → liveness_whole components ports frontiers ≡ Accepted
+    pub decoded_alive : (cs fs : List ℤ) → cs ≡ numbers components → fs ≡ numbers frontiers → liveness_whole components ports frontiers ≡ Ok tt
         → LivenessByPlaces cs (numbers ports) fs regions regions' sources sources' inputs inputs' sets sets' stack stack' r
         → LivenessByBytes components ports frontiers regions regions' sources sources' inputs inputs' sets sets' stack stack' r
     decoded_alive cs fs ec ef e laid_so = rw e (rw (ec, ef) at laid_so)
 
-  pub part_alive : (regions sources inputs sets stack : List ℕ) (refusal : Refusal) (r : ℕ) → liveness_whole components ports frontiers ≡ Refused refusal → r ≡ packed (Refused refusal)
+  pub part_alive : (regions sources inputs sets stack : List ℕ) (refusal : Refusal) (r : ℕ) → liveness_whole components ports frontiers ≡ Err refusal → r ≡ packed (Err refusal)
       → LivenessByBytes components ports frontiers regions regions sources sources inputs inputs sets sets stack stack r
   part_alive regions sources inputs sets stack refusal r e f =
       refused_alive (liveness_bytes_refusal components ports frontiers (length regions) (length sources) (length inputs) (length sets) (length stack))

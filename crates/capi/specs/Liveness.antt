@@ -5,13 +5,16 @@
 --     sets_of                  the words of its four sets
 --     LivenessByBytes         what `dustroute_liveness` answers and leaves
 -- Assumes nothing: these are definitions.
+use Rattle.lists.specs.declared.Fault.{Fault}
+use Rattle.lists.specs.declared.Section.{Section}
+use Rattle.std.specs.Prelude.{Some}
+use Rattle.std.specs.Prelude.{⊤, Result, Ok, Err}
+use Rattle.lists.specs.declared.Refusal.{Refusal}
 use Rattle.std.specs.Prelude.{ℕ, ◌+◌, ◌*◌, ◌/◌, ◌≡◌, ◌&&◌, List, ◌++◌, length, ℤ}
 use Rattle.sets.specs.Members.{word_count, words_of_set}
 use Rattle.lists.specs.Limits.{component_limit, connection_limit, frontier_limit, component_width, port_width, frontier_width}
 use Rattle.lists.specs.Records.{component_count}
 use Rattle.checks.specs.Refusals.{refuse, ◌or_else◌, not_whole, room_for, liveness_lists, liveness_room, packed}
-use Rattle.lists.specs.declared.Checked.{Checked}
-use Rattle.lists.specs.declared.Checked.TheVariants.{Accepted, Refused}
 use Rattle.lists.specs.Slices.{left_of, work_of}
 use Rattle.regions.specs.Graph.{marked}
 use Rattle.signals.specs.Regions.{region_count, regions_of, is_cyclic, holds_drive}
@@ -20,33 +23,33 @@ use Rattle.assessment.specs.Verdicts.{source_rows, input_rows}
 use Rattle.encoding.specs.Bytes.{number_bytes, numbers, bytes_of}
 
 -- 1: the bytes of the three lists are whole records within their limits
-abbrev pub liveness_whole : List ℕ → List ℕ → List ℕ → Checked
+abbrev pub liveness_whole : List ℕ → List ℕ → List ℕ → Result ⊤ Refusal
 liveness_whole components ports frontiers =
-    refuse 1 0 (not_whole (number_bytes * component_width) component_limit (length components))
-    or_else refuse 1 1 (not_whole (number_bytes * port_width) connection_limit (length ports))
-    or_else refuse 1 2 (not_whole (number_bytes * frontier_width) frontier_limit (length frontiers))
+    refuse Fault.ListLength (Some Section.Components) (not_whole (number_bytes * component_width) component_limit (length components))
+    or_else refuse Fault.ListLength (Some Section.Connections) (not_whole (number_bytes * port_width) connection_limit (length ports))
+    or_else refuse Fault.ListLength (Some Section.Frontiers) (not_whole (number_bytes * frontier_width) frontier_limit (length frontiers))
 
 -- drive, potential, cyclic, has_drive
 abbrev pub set_count : ℕ
 set_count = 4
 
 -- the checks of the lists of numbers, given how many bytes each lent slice has; what is left of one past its whole numbers is no place
-abbrev pub liveness_places : List ℤ → List ℤ → List ℤ → ℕ → ℕ → ℕ → ℕ → ℕ → Checked
+abbrev pub liveness_places : List ℤ → List ℤ → List ℤ → ℕ → ℕ → ℕ → ℕ → ℕ → Result ⊤ Refusal
 liveness_places cs ps fs regions sources inputs sets stack =
     liveness_lists cs ps fs
     (room_for set_count word_count (sets / number_bytes)
     && liveness_room cs (regions / number_bytes) (sources / number_bytes) (inputs / number_bytes) (stack / number_bytes))
 
-abbrev pub liveness_bytes_refusal : List ℕ → List ℕ → List ℕ → ℕ → ℕ → ℕ → ℕ → ℕ → Checked
+abbrev pub liveness_bytes_refusal : List ℕ → List ℕ → List ℕ → ℕ → ℕ → ℕ → ℕ → ℕ → Result ⊤ Refusal
 liveness_bytes_refusal components ports frontiers regions sources inputs sets stack =
     liveness_whole components ports frontiers
     or_else liveness_places (numbers components) (numbers ports) (numbers frontiers) regions sources inputs sets stack
 
 -- a refusal's number, list and item, or 0 in the sixteen lowest bits and then the counts of regions, source rows and verdict rows, sixteen
 -- bits each
-abbrev pub liveness_number : Checked → ℕ → ℕ → ℕ → ℕ
-liveness_number Accepted regions sources inputs = 65536 * regions + 4294967296 * sources + 281474976710656 * inputs
-liveness_number (Refused refusal) regions sources inputs = packed (Refused refusal)
+abbrev pub liveness_number : Result ⊤ Refusal → ℕ → ℕ → ℕ → ℕ
+liveness_number (Ok tt) regions sources inputs = 65536 * regions + 4294967296 * sources + 281474976710656 * inputs
+liveness_number (Err refusal) regions sources inputs = packed (Err refusal)
 
 -- `word_count` words each: the members that are driven and that may be, the regions that are cyclic and that hold a drive source
 abbrev pub sets_of : List ℤ → List ℤ → List ℤ → List ℕ
@@ -57,7 +60,7 @@ sets_of cs ps fs =
 
 -- the answer for components cs, port connections ps and frontiers fs, unless they are refused: the rows and sets as bytes at the front of
 -- the lent slices, and the stack zero. A source row is two numbers, a verdict row three.
-pub record LivenessLaid (refusal : Checked) (cs ps fs : List ℤ)
+pub record LivenessLaid (refusal : Result ⊤ Refusal) (cs ps fs : List ℤ)
     (regions regions' sources sources' inputs inputs' sets sets' stack stack' : List ℕ) (r : ℕ) : Type 0 where
   pub answer : r ≡ liveness_number refusal (region_count cs ps) (length (source_rows cs ps fs) / 2) (length (input_rows cs ps fs) / 3)
   pub regions_left : regions' ≡ left_of refusal (bytes_of (regions_of cs ps)) regions

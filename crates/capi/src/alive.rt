@@ -1,18 +1,18 @@
 // Regions, sources, verdicts and sets of a scene that is lent as bytes.
+ghost use Rattle.std.specs.Prelude.{Ok};
 ghost use Rattle.std.specs.Prelude.{◌≡◌, true, false, ◌++◌, ◌+◌, ◌*◌, ◌/◌, ◌≤◌, length};
 ghost use Rattle.sets.specs.Members.{word_count};
 ghost use Rattle.lists.specs.Limits.{component_limit, connection_limit, port_width};
 ghost use Rattle.lists.specs.Records.{component_count};
 ghost use Rattle.checks.specs.Refusals.{room_for, liveness_lists, liveness_refusal, packed};
 ghost use Rattle.lists.specs.Slices.{laid};
-ghost use Rattle.lists.specs.declared.Checked.TheVariants.{Accepted};
 ghost use Rattle.encoding.specs.Bytes.{number_bytes, numbers, bytes_of};
 ghost use Rattle.capi.specs.Liveness.{set_count, liveness_whole, LivenessLaid, LivenessByBytes};
 ghost use Rattle.capi.specs.Written.{Written, WrittenRoom, RowRoom, LivenessByPlaces, few_ports};
 
 use checks::refusals::{liveness_lists, pack, room_for};
 use encoding::bytes::{NUMBER, decode, encode, encode_at, places, wipe};
-use lists::{COMPONENT, COMPONENTS, CONNECTIONS, Checked, FRONTIER, FRONTIERS, PORT};
+use lists::{COMPONENT, COMPONENTS, CONNECTIONS, FRONTIER, FRONTIERS, PORT};
 use liveness::{Analysis, analyze_signal_liveness};
 use sets::{ComponentSet, WORDS};
 
@@ -105,7 +105,7 @@ fn by_rows(
         pairs,
     );
     let checked = analysis.checked;
-    let Checked::Accepted = checked else {
+    let Ok(()) = checked else {
         return pack(checked);
     };
     write_answer(
@@ -272,7 +272,7 @@ pub(crate) fn of_bytes(
     sets: &mut [u8],
     stack: &mut [u8],
 ) -> u64
-    requires { liveness_whole components.now ports.now frontiers.now ≡ Accepted }
+    requires { liveness_whole components.now ports.now frontiers.now ≡ (Ok tt) }
     ensures { LivenessByBytes components.now ports.now frontiers.now regions.old regions.new sources.old sources.new inputs.old inputs.new sets.old sets.new stack.old stack.new result }
 {
     let mut component_numbers = [0i64; COMPONENTS * COMPONENT];

@@ -9,7 +9,7 @@ ghost use Rattle.capi.specs.Liveness.{LivenessByBytes};
 
 use checks::refusals::{not_whole, or_else, pack, refuse_at};
 use encoding::bytes::NUMBER;
-use lists::{COMPONENT, COMPONENTS, CONNECTION, CONNECTIONS, Checked, FRONTIER, FRONTIERS, PORT};
+use lists::{COMPONENT, COMPONENTS, CONNECTION, CONNECTIONS, FRONTIER, FRONTIERS, PORT};
 
 // The number of each component's net and fragment, at the front of the lent slices.
 #[unsafe(no_mangle)]
@@ -23,8 +23,8 @@ pub extern "C" fn dustroute_groups(
 {
     let first = not_whole(NUMBER * COMPONENT, COMPONENTS, components.len());
     let second = not_whole(NUMBER * CONNECTION, CONNECTIONS, connections.len());
-    let whole = or_else(refuse_at(1, 0, first), refuse_at(1, 1, second));
-    let Checked::Accepted = whole else {
+    let whole = or_else(refuse_at(Fault::ListLength, Some(Section::Components), first), refuse_at(Fault::ListLength, Some(Section::Connections), second));
+    let Ok(()) = whole else {
         return pack(whole);
     };
     encoding::groups::of_bytes(components, connections, nets, fragments)
@@ -47,9 +47,9 @@ pub extern "C" fn dustroute_liveness(
     let in_components = not_whole(NUMBER * COMPONENT, COMPONENTS, components.len());
     let in_ports = not_whole(NUMBER * PORT, CONNECTIONS, ports.len());
     let in_frontiers = not_whole(NUMBER * FRONTIER, FRONTIERS, frontiers.len());
-    let later = or_else(refuse_at(1, 1, in_ports), refuse_at(1, 2, in_frontiers));
-    let whole = or_else(refuse_at(1, 0, in_components), later);
-    let Checked::Accepted = whole else {
+    let later = or_else(refuse_at(Fault::ListLength, Some(Section::Connections), in_ports), refuse_at(Fault::ListLength, Some(Section::Frontiers), in_frontiers));
+    let whole = or_else(refuse_at(Fault::ListLength, Some(Section::Components), in_components), later);
+    let Ok(()) = whole else {
         return pack(whole);
     };
     alive::of_bytes(

@@ -4,6 +4,7 @@
 --     numbers_onto         each number below it is some component's: no gap, and no group without a member
 --     net_in_fragment      components of one net are of one fragment
 -- Assumes nothing.
+use Rattle.std.specs.Prelude.{Option, Some, None}
 use mathlib.Core.Path.{◌≡◌, refl, sym, ap, ◌∙◌}
 use mathlib.Core.Bool.{Bool, true, false}
 use mathlib.Core.List.Memᴰ
@@ -18,8 +19,6 @@ use borrow.Author.Tests.{leb-true, le-leb}
 use Rattle.lists.specs.Limits.{component_limit}
 use Rattle.lists.specs.Records.{connection, component_count, connection_count}
 use Rattle.lists.specs.Ids.{place_of}
-use Rattle.lists.specs.declared.Found.{Found}
-use Rattle.lists.specs.declared.Found.TheVariants.{At, Nothing}
 use Rattle.circuit.specs.Connected.{Joined, PairsBelow}
 use Rattle.circuit.specs.Groups.{groups_of, roots_below}
 use Rattle.circuit.specs.Topology.{join_of, joins, joins_of, forest_of, net_kinds, fragment_kinds, nets_of, fragments_of}
@@ -29,14 +28,14 @@ use Rattle.lists.proofs.Table.{place_below_lem}
 
 -- ---- the pairs are of components
 
-join_below : (cs : List ℤ) (a b : ℕ) (counts : Bool) (x y : Found) → place_of cs a ≡ x → place_of cs b ≡ y → PairsBelow (component_count cs) (join_of counts x y)
-join_below cs a b true (At p) (At q) e f v w m =
+join_below : (cs : List ℤ) (a b : ℕ) (counts : Bool) (x y : Option ℕ) → place_of cs a ≡ x → place_of cs b ≡ y → PairsBelow (component_count cs) (join_of counts x y)
+join_below cs a b true (Some p) (Some q) e f v w m =
     let same : ◌≡◌ {A = ℕ × ℕ} (v, w) (p, q) = Memᴰ.eq_of_singleton m in
     let sv : v ≡ p = ap (λ (t : ℕ × ℕ). t.0) same in
     let sw : w ≡ q = ap (λ (t : ℕ × ℕ). t.1) same in
     (omega (arith, place_below_lem cs a p e), omega (arith, place_below_lem cs b q f))
-join_below cs a b true (At p) Nothing e f v w m = absurd (Memᴰ.not-nil m)
-join_below cs a b true Nothing y e f v w m = absurd (Memᴰ.not-nil m)
+join_below cs a b true (Some p) None e f v w m = absurd (Memᴰ.not-nil m)
+join_below cs a b true None y e f v w m = absurd (Memᴰ.not-nil m)
 join_below cs a b false x y e f v w m = absurd (Memᴰ.not-nil m)
 
 joins_below : (cs ps : List ℤ) (top m : ℕ) → PairsBelow (component_count cs) (joins cs ps top m)
@@ -78,7 +77,7 @@ module _ (cs ps : List ℤ) (few : component_count cs ≤ component_limit) (top 
 
 -- ---- nets lie in fragments
 
-join_more : (s t : Bool) (x y : Found) → (s ≡ true → t ≡ true) → (a b : ℕ) → Memᴰ {A = ℕ × ℕ} (a, b) (join_of s x y) → Memᴰ {A = ℕ × ℕ} (a, b) (join_of t x y)
+join_more : (s t : Bool) (x y : Option ℕ) → (s ≡ true → t ≡ true) → (a b : ℕ) → Memᴰ {A = ℕ × ℕ} (a, b) (join_of s x y) → Memᴰ {A = ℕ × ℕ} (a, b) (join_of t x y)
 join_more true true x y more a b m = m
 join_more true false x y more a b m = let z : ◌≡◌ {A = Bool} false true = more refl in absurd (let n : ◌≡◌ {A = ℕ} 0 1 = cc in omega arith)
 join_more false t x y more a b m = absurd (Memᴰ.not-nil m)

@@ -5,6 +5,7 @@
 --     ends_settled         and are places below the number of components, or none
 --     settled_below        so the pairs lie below it
 -- Assumes nothing.
+use Rattle.std.specs.Prelude.{Option, Some, None}
 use mathlib.Core.Path.{◌≡◌, refl, ap}
 use mathlib.Core.Bool.{Bool, true, false, cond, ◌&&◌}
 use mathlib.Core.List.Memᴰ
@@ -22,8 +23,6 @@ use Rattle.lists.specs.Records.{natural_at, connection, component_count, connect
 use Rattle.lists.specs.Signed.{at}
 use Rattle.lists.specs.Ranges.{connection_low, connection_high}
 use Rattle.lists.specs.Ids.{place_of}
-use Rattle.lists.specs.declared.Found.{Found}
-use Rattle.lists.specs.declared.Found.TheVariants.{At, Nothing}
 use Rattle.lists.proofs.Search.{both}
 use Rattle.lists.proofs.Table.{place_below_lem}
 use Rattle.circuit.specs.Forest.{Forest, root, unite, unite_all}
@@ -58,14 +57,14 @@ module _ (cs : List ℤ) (few : component_count cs ≤ component_limit) (counts 
   unfolding settled_join
   join_settled = go counts (place_of cs a) refl (place_of cs b) refl
     where
-      small : (id p : ℕ) → place_of cs id ≡ At p → ltb p component_limit ≡ true
+      small : (id p : ℕ) → place_of cs id ≡ Some p → ltb p component_limit ≡ true
       small id p e = lt-ltb p component_limit (omega (arith, place_below_lem cs id p e))
 
-      go : (t : Bool) (x : Found) → place_of cs a ≡ x → (y : Found) → place_of cs b ≡ y
+      go : (t : Bool) (x : Option ℕ) → place_of cs a ≡ x → (y : Option ℕ) → place_of cs b ≡ y
           → cond (t && (ltb (place_or x) component_limit && ltb (place_or y) component_limit)) ((place_or x, place_or y) ∷ []) [] ≡ join_of t x y
-      go true (At p) e (At q) g = rw (small a p e, small b q g)
-      go true (At p) e Nothing g = rw (small a p e)
-      go true Nothing e y g = refl
+      go true (Some p) e (Some q) g = rw (small a p e, small b q g)
+      go true (Some p) e None g = rw (small a p e)
+      go true None e y g = refl
       go false x e y g = refl
 
 -- ---- all of them
@@ -85,9 +84,9 @@ ends_settled cs ps f places long s = record {
   below = λ k h lt. go (natural_at ps (k * connection_width + f)) (place_of cs (natural_at ps (k * connection_width + f))) refl (s.at k h) lt;
 }
   where
-    go : {p : ℕ} (id : ℕ) (x : Found) → place_of cs id ≡ x → p ≡ place_or x → p < component_limit → p < component_count cs
-    go id (At q) e g lt = omega (arith, g, place_below_lem cs id q e)
-    go id Nothing e g lt = absurd (omega arith)
+    go : {p : ℕ} (id : ℕ) (x : Option ℕ) → place_of cs id ≡ x → p ≡ place_or x → p < component_limit → p < component_count cs
+    go id (Some q) e g lt = omega (arith, g, place_below_lem cs id q e)
+    go id None e g lt = absurd (omega arith)
 
 -- one pair
 join_below : (n : ℕ) (counts : Bool) (a b : ℕ) → (a < component_limit → a < n) → (b < component_limit → b < n) → PairsBelow n (settled_join counts a b)

@@ -1,19 +1,18 @@
 -- The endpoints of connections as list places, settled before the connections are joined.
 -- Assumes nothing: these are definitions.
+use Rattle.std.specs.Prelude.{Option, Some, None}
 use Rattle.std.specs.Prelude.{ℕ, zero, suc, ◌+◌, ◌*◌, ◌≤◌, ◌<◌, ◌≡◌, Bool, cond, ◌&&◌, List, [], ◌∷◌, ◌++◌, leb, ltb, length, get_or, ℤ}
 use Rattle.lists.specs.Limits.{component_limit, connection_width}
 use Rattle.lists.specs.Records.{natural_at, connection, connection_count}
 use Rattle.lists.specs.Ids.{place_of}
-use Rattle.lists.specs.declared.Found.{Found}
-use Rattle.lists.specs.declared.Found.TheVariants.{At, Nothing}
 use Rattle.circuit.specs.Forest.{singletons, unite_all}
 use Rattle.circuit.specs.Groups.{roots_below, groups_of}
 use Rattle.lists.specs.Slices.{laid}
 
 -- a place; the limit stands for none
-abbrev pub place_or : Found → ℕ
-place_or (At k) = k
-place_or Nothing = component_limit
+abbrev pub place_or : Option ℕ → ℕ
+place_or (Some k) = k
+place_or None = component_limit
 
 -- the places of field f, source or sink, of each connection
 pub record Settled (cs ps : List ℤ) (f : ℕ) (places : List ℕ) : Type 0 where

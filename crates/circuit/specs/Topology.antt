@@ -5,21 +5,17 @@
 --     Grouped         what `from_parts` answers and leaves
 --     shares_member    which nets share a member with a fragment
 -- Assumes nothing: these are definitions.
+use Rattle.std.specs.Prelude.{⊤, Option, Some, None, Result, Ok, Err}
+use Rattle.lists.specs.declared.Refusal.{Refusal}
 use Rattle.std.specs.Prelude.{ℕ, zero, suc, min, ◌≡◌, Bool, true, false, ◌&&◌, List, [], ◌∷◌, ◌++◌, eqb, leb, length, get_or, ℤ}
 use Rattle.lists.specs.Records.{connection, component_count, connection_count}
 use Rattle.lists.specs.First.{first_from, is_found}
 use Rattle.lists.specs.Ids.{place_of}
 use Rattle.checks.specs.Refusals.{grouping_refusal, refusal_numbers, numbers_by}
 use Rattle.lists.specs.Slices.{laid, left_of}
-use Rattle.lists.specs.declared.Found.{Found}
-use Rattle.lists.specs.declared.Found.TheVariants.{At, Nothing}
-use Rattle.lists.specs.declared.Checked.{Checked}
-use Rattle.lists.specs.declared.Checked.TheVariants.{Accepted, Refused as CheckRefused}
 use Rattle.circuit.specs.Forest.{Forest, singletons, unite_all}
 use Rattle.circuit.specs.Groups.{roots_below, groups_of}
 use Rattle.circuit.specs.declared.Counts.{Counts}
-use Rattle.circuit.specs.declared.Grouping.{Grouping}
-use Rattle.circuit.specs.declared.Grouping.TheVariants.{Groups, Refused}
 
 -- nets use kinds 0 to 4, fragments 0 to 8
 abbrev pub net_kinds : ℕ
@@ -29,10 +25,10 @@ abbrev pub fragment_kinds : ℕ
 fragment_kinds = 8
 
 -- what one connection joins: nothing where its kind does not count or an endpoint is no component
-abbrev pub join_of : Bool → Found → Found → List (ℕ × ℕ)
-join_of true (At source) (At sink) = (source, sink) ∷ []
-join_of true (At source) Nothing = []
-join_of true Nothing sink = []
+abbrev pub join_of : Bool → Option ℕ → Option ℕ → List (ℕ × ℕ)
+join_of true (Some source) (Some sink) = (source, sink) ∷ []
+join_of true (Some source) None = []
+join_of true None sink = []
 join_of false source sink = []
 
 -- what the first m connections join, those of kinds 0 to `top`, in order
@@ -64,14 +60,14 @@ fragment_count cs ps = roots_below (forest_of cs ps fragment_kinds) (component_c
 -- ---- the entry
 
 -- the refusal, or the counts of an accepted scene
-abbrev pub answer_of : Checked → ℕ → ℕ → Grouping
-answer_of Accepted nets fragments = Groups (record { nets = nets; fragments = fragments })
-answer_of (CheckRefused refusal) nets fragments = Refused refusal
+abbrev pub answer_of : Result ⊤ Refusal → ℕ → ℕ → Result Counts Refusal
+answer_of (Ok tt) nets fragments = Ok (record { nets = nets; fragments = fragments })
+answer_of (Err refusal) nets fragments = Err refusal
 
 -- the paper's numbers of each case: 0 and the two counts, or those of the refusal
-abbrev pub numbers_of : Grouping → List ℕ
-numbers_of (Groups counts) = 0 ∷ counts.nets ∷ counts.fragments ∷ []
-numbers_of (Refused refusal) = refusal_numbers refusal
+abbrev pub numbers_of : Result Counts Refusal → List ℕ
+numbers_of (Ok counts) = 0 ∷ counts.nets ∷ counts.fragments ∷ []
+numbers_of (Err refusal) = refusal_numbers refusal
 
 -- the groups of an accepted scene
 pub record GroupedBy (cs ps : List ℤ) (nets nets' fragments fragments' : List ℕ) (r : Counts) : Type 0 where
@@ -81,7 +77,7 @@ pub record GroupedBy (cs ps : List ℤ) (nets nets' fragments fragments' : List 
   pub fragment_count_lem : r.fragments ≡ fragment_count cs ps
 
 -- from components cs, grouping connections ps and two lent slices
-pub record Grouped (cs ps : List ℤ) (nets nets' fragments fragments' : List ℕ) (r : Grouping) : Type 0 where
+pub record Grouped (cs ps : List ℤ) (nets nets' fragments fragments' : List ℕ) (r : Result Counts Refusal) : Type 0 where
   pub answer : r ≡ answer_of (grouping_refusal cs ps (length nets) (length fragments)) (net_count cs ps) (fragment_count cs ps)
   pub numbers : numbers_of r ≡ numbers_by (grouping_refusal cs ps (length nets) (length fragments)) (net_count cs ps ∷ fragment_count cs ps ∷ [])
   pub nets_left : nets' ≡ left_of (grouping_refusal cs ps (length nets) (length fragments)) (nets_of cs ps) nets

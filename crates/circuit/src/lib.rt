@@ -10,7 +10,7 @@ ghost use Rattle.lists.specs.Limits.{component_limit};
 ghost use Rattle.circuit.specs.Topology.{Grouped, shares_member};
 
 use checks::refusals::{grouping_lists, room_for};
-use lists::{COMPONENT, COMPONENTS, Checked, Refusal};
+use lists::{COMPONENT, COMPONENTS, Refusal};
 use sets::ComponentSet;
 
 // How many nets and fragments a scene has.
@@ -20,41 +20,31 @@ pub struct Counts {
     pub fragments: usize,
 }
 
-// The counts of an accepted scene, or its refusal.
-#[derive(Clone, Copy)]
-pub enum Grouping {
-    Groups(Counts),
-    Refused(Refusal),
-}
-
 // The number of each component's net and fragment, in list order, at the front of the lent slices.
 pub fn from_parts(
     components: &[i64],
     connections: &[i64],
     nets: &mut [u64],
     fragments: &mut [u64],
-) -> Grouping
+) -> Result<Counts, Refusal>
     ensures { Grouped components.now connections.now nets.old nets.new fragments.old fragments.new result }
 {
     let mut keys = [0u64; COMPONENTS];
     let count = components.len() / COMPONENT;
     let enough = room_for(count, 1, nets.len()) & room_for(count, 1, fragments.len());
-    let checked = grouping_lists(
+    grouping_lists(
         components,
         connections,
         &connections[..0],
         enough,
         &mut keys,
-    );
-    match checked {
-        Checked::Refused(refusal) => Grouping::Refused(refusal),
-        Checked::Accepted => Grouping::Groups(settle::group(
-            &keys[..count],
-            connections,
-            nets,
-            fragments,
-        )),
-    }
+    )?;
+    Ok(settle::group(
+        &keys[..count],
+        connections,
+        nets,
+        fragments,
+    ))
 }
 
 // The set with the net put in, where it is a member's and the test says so.

@@ -12,7 +12,7 @@ use super::Counts;
 use super::forest::{number_groups, own_places, union};
 use lists::hints::{HINTS, hint_ids, place_near};
 use lists::numbers::natural_at;
-use lists::{COMPONENTS, CONNECTION, CONNECTIONS, Found};
+use lists::{COMPONENTS, CONNECTION, CONNECTIONS};
 
 // Nets use kinds 0 to 4, fragments 0 to 8.
 const NET_KINDS: u64 = 4;
@@ -20,12 +20,12 @@ const NET_KINDS: u64 = 4;
 const FRAGMENT_KINDS: u64 = 8;
 
 // A place; the limit stands for none.
-fn place_or(found: Found) -> usize
+fn place_or(found: Option<usize>) -> usize
     ensures { result ≡ place_or found }
 {
     match found {
-        Found::At(k) => k,
-        Found::Nothing => COMPONENTS,
+        Some(k) => k,
+        None => COMPONENTS,
     }
 }
 

@@ -7,6 +7,10 @@
 --     whole_lists, whole_fits       lists of bytes that pass number 1, and its refusal as one number
 --     part_laid, decoded_laid       the answer and what is left, from the lists of bytes
 -- Assumes nothing.
+use Rattle.lists.specs.declared.Fault.{Fault}
+use Rattle.lists.specs.declared.Section.{Section}
+use Rattle.std.specs.Prelude.{Some}
+use Rattle.std.specs.Prelude.{⊤, Result, Ok, Err}
 use mathlib.Core.Path.{◌≡◌, refl, ap, ◌∙◌}
 use mathlib.Core.Bool.{Bool, true, false, ◌&&◌}
 use mathlib.Core.List.{List, []}
@@ -21,8 +25,6 @@ use Rattle.lists.specs.Records.{component_count}
 use Rattle.checks.specs.Refusals.{refuse, not_whole, room_for, grouping_refusal, Small, packed}
 use Rattle.lists.specs.Slices.{laid}
 use Rattle.lists.specs.declared.Refusal.{Refusal}
-use Rattle.lists.specs.declared.Checked.{Checked}
-use Rattle.lists.specs.declared.Checked.TheVariants.{Accepted, Refused as CheckRefused}
 use Rattle.lists.proofs.Search.{both}
 use Rattle.checks.proofs.Chain.{both_accept}
 use Rattle.checks.proofs.Accepts.{refuse_none, whole_few, whole_all}
@@ -31,36 +33,35 @@ use Rattle.checks.proofs.Accepted.{grouping_accept, room_places}
 use Rattle.lists.specs.Slices.{left_of}
 use Rattle.circuit.specs.Topology.{answer_of, nets_of, fragments_of, net_count, fragment_count}
 use Rattle.circuit.specs.declared.Counts.{Counts}
-use Rattle.circuit.specs.declared.Grouping.TheVariants.{Groups, Refused}
 use Rattle.encoding.specs.Bytes.{number_bytes, numbers, bytes_of}
 use Rattle.encoding.specs.Entry.{groups_whole, groups_refusal, GroupsLaid, GroupsByBytes}
 use Rattle.encoding.proofs.Laid.{laid_front}
 use Rattle.encoding.proofs.Reading.{length_numbers}
 
-pub refused_by : (checked : Checked) (nets fragments : ℕ) (refusal : Refusal) → Refused refusal ≡ answer_of checked nets fragments → checked ≡ CheckRefused refusal
-refused_by Accepted nets fragments refusal e = cc
-refused_by (CheckRefused r) nets fragments refusal e = cc
+pub refused_by : (checked : Result ⊤ Refusal) (nets fragments : ℕ) (refusal : Refusal) → Err refusal ≡ answer_of checked nets fragments → checked ≡ Err refusal
+refused_by (Ok tt) nets fragments refusal e = cc
+refused_by (Err r) nets fragments refusal e = cc
 
-pub record Counted (checked : Checked) (nets fragments : ℕ) (counts : Counts) : Type 0 where
-  pub accepted : checked ≡ Accepted
+pub record Counted (checked : Result ⊤ Refusal) (nets fragments : ℕ) (counts : Counts) : Type 0 where
+  pub accepted : checked ≡ Ok tt
   pub nets_are : counts.nets ≡ nets
   pub fragments_are : counts.fragments ≡ fragments
 
-same_counts : {a b : Counts} → Groups a ≡ Groups b → a ≡ b
+same_counts : {a b : Counts} → Ok a ≡ Ok b → a ≡ b
 same_counts e = cc
 
-pub counted : (checked : Checked) (nets fragments : ℕ) (counts : Counts) → Groups counts ≡ answer_of checked nets fragments → Counted checked nets fragments counts
-counted Accepted nets fragments counts e =
+pub counted : (checked : Result ⊤ Refusal) (nets fragments : ℕ) (counts : Counts) → Ok counts ≡ answer_of checked nets fragments → Counted checked nets fragments counts
+counted (Ok tt) nets fragments counts e =
     let same = same_counts e in
     record { accepted = refl; nets_are = ap (λ (x : Counts). x.nets) same; fragments_are = ap (λ (x : Counts). x.fragments) same }
-counted (CheckRefused r) nets fragments counts e = let z : ◌≡◌ {A = ℕ} 0 1 = cc in absurd (omega arith)
+counted (Err r) nets fragments counts e = let z : ◌≡◌ {A = ℕ} 0 1 = cc in absurd (omega arith)
 
 pub record Room (cs : List ℤ) (nets fragments : ℕ) : Type 0 where
   pub few : component_count cs ≤ component_limit
   pub net_places : component_count cs ≤ nets
   pub fragment_places : component_count cs ≤ fragments
 
-pub accepted_room : (cs ps : List ℤ) (nets fragments : ℕ) → grouping_refusal cs ps nets fragments ≡ Accepted → Room cs nets fragments
+pub accepted_room : (cs ps : List ℤ) (nets fragments : ℕ) → grouping_refusal cs ps nets fragments ≡ Ok tt → Room cs nets fragments
 accepted_room cs ps nets fragments e =
     let n = component_count cs in
     let scene = grouping_accept cs ps [] (room_for n 1 nets && room_for n 1 fragments) e in
@@ -84,11 +85,11 @@ places_enough cs ps nets fragments h =
     rw (room_enough (component_count cs) nets h, room_enough (component_count cs) fragments h)
 
 -- the rows of an accepted scene stand at the front
-pub rows_front : (checked : Checked) (rows old new : List ℕ) (n : ℕ) → length rows ≡ n → checked ≡ Accepted → new ≡ left_of checked rows old → take n new ≡ rows
+pub rows_front : (checked : Result ⊤ Refusal) (rows old new : List ℕ) (n : ℕ) → length rows ≡ n → checked ≡ Ok tt → new ≡ left_of checked rows old → take n new ≡ rows
 rows_front checked rows old new n l e f = rw (f, e) (laid_front rows old n l)
 
-module _ (checked : Checked) (cs ps : List ℤ) (nets fragments : List ℕ) where
-  pub refused_laid : (refusal : Refusal) (r : ℕ) → checked ≡ CheckRefused refusal → r ≡ packed (CheckRefused refusal) → GroupsLaid checked cs ps nets nets fragments fragments r
+module _ (checked : Result ⊤ Refusal) (cs ps : List ℤ) (nets fragments : List ℕ) where
+  pub refused_laid : (refusal : Refusal) (r : ℕ) → checked ≡ Err refusal → r ≡ packed (Err refusal) → GroupsLaid checked cs ps nets nets fragments fragments r
   refused_laid refusal r e f = record { answer = rw e f; nets_left = rw e; fragments_left = rw e }
 
   pub accepted_laid : (nets' fragments' net-rows fragment-rows : List ℕ) (counts : Counts) (r : ℕ) → Counted checked (net_count cs ps) (fragment_count cs ps) counts
@@ -118,9 +119,9 @@ module _ (components connections : List ℕ) where
     pub components_few : length components / number_bytes ≤ component_limit * component_width
     pub connections_few : length connections / number_bytes ≤ connection_limit * connection_width
 
-  pub whole_lists : groups_whole components connections ≡ Accepted → Whole
+  pub whole_lists : groups_whole components connections ≡ Ok tt → Whole
   whole_lists e =
-      let (first, second) = both_accept (refuse 1 0 (not_whole (number_bytes * component_width) component_limit (length components))) _ e in
+      let (first, second) = both_accept (refuse Fault.ListLength (Some Section.Components) (not_whole (number_bytes * component_width) component_limit (length components))) _ e in
       let c = refuse_none 1 0 (not_whole (number_bytes * component_width) component_limit (length components)) first in
       let p = refuse_none 1 1 (not_whole (number_bytes * connection_width) connection_limit (length connections)) second in
       record {
@@ -130,18 +131,18 @@ module _ (components connections : List ℕ) where
 
   pub whole_fits : Small (groups_whole components connections)
   whole_fits =
-      small_or_else (refuse 1 0 (not_whole (number_bytes * component_width) component_limit (length components)))
-      (refuse 1 1 (not_whole (number_bytes * connection_width) connection_limit (length connections)))
+      small_or_else (refuse Fault.ListLength (Some Section.Components) (not_whole (number_bytes * component_width) component_limit (length components)))
+      (refuse Fault.ListLength (Some Section.Connections) (not_whole (number_bytes * connection_width) connection_limit (length connections)))
       (whole_small 0 (number_bytes * component_width) component_limit (length components) (lit< tt) (lit≤ tt))
       (λ _. whole_small 1 (number_bytes * connection_width) connection_limit (length connections) (lit< tt) (lit≤ tt))
 
   module _ (nets nets' fragments fragments' : List ℕ) (r : ℕ) where
-    pub decoded_laid : (cs ps : List ℤ) → cs ≡ numbers components → ps ≡ numbers connections → groups_whole components connections ≡ Accepted
+    pub decoded_laid : (cs ps : List ℤ) → cs ≡ numbers components → ps ≡ numbers connections → groups_whole components connections ≡ Ok tt
         → GroupsLaid (grouping_refusal cs ps (length nets / number_bytes) (length fragments / number_bytes)) cs ps nets nets' fragments fragments' r
         → GroupsByBytes components connections nets nets' fragments fragments' r
     decoded_laid cs ps ec ep e laid_so = rw e (rw (ec, ep) at laid_so)
 
-  pub part_laid : (nets fragments : List ℕ) (refusal : Refusal) (r : ℕ) → groups_whole components connections ≡ CheckRefused refusal → r ≡ packed (CheckRefused refusal)
+  pub part_laid : (nets fragments : List ℕ) (refusal : Refusal) (r : ℕ) → groups_whole components connections ≡ Err refusal → r ≡ packed (Err refusal)
       → GroupsByBytes components connections nets nets fragments fragments r
   part_laid nets fragments refusal r e f =
       refused_laid (groups_refusal components connections (length nets) (length fragments)) (numbers components) (numbers connections) nets fragments refusal r (rw e) f

@@ -4,34 +4,37 @@
 --     groups_number       its answer as one number
 --     GroupsByBytes      what `dustroute_groups` answers and leaves
 -- Assumes nothing: these are definitions.
+use Rattle.lists.specs.declared.Fault.{Fault}
+use Rattle.lists.specs.declared.Section.{Section}
+use Rattle.std.specs.Prelude.{Some}
+use Rattle.std.specs.Prelude.{⊤, Result, Ok, Err}
+use Rattle.lists.specs.declared.Refusal.{Refusal}
 use Rattle.std.specs.Prelude.{ℕ, ◌+◌, ◌*◌, ◌/◌, ◌≡◌, List, length, ℤ}
 use Rattle.lists.specs.Limits.{component_limit, connection_limit, component_width, connection_width}
 use Rattle.checks.specs.Refusals.{refuse, ◌or_else◌, not_whole, grouping_refusal, packed}
-use Rattle.lists.specs.declared.Checked.{Checked}
-use Rattle.lists.specs.declared.Checked.TheVariants.{Accepted, Refused}
 use Rattle.lists.specs.Slices.{left_of}
 use Rattle.circuit.specs.Topology.{nets_of, fragments_of, net_count, fragment_count}
 use Rattle.encoding.specs.Bytes.{number_bytes, numbers, bytes_of}
 
 -- 1: the bytes of both lists are whole records within their limits
-abbrev pub groups_whole : List ℕ → List ℕ → Checked
+abbrev pub groups_whole : List ℕ → List ℕ → Result ⊤ Refusal
 groups_whole components connections =
-    refuse 1 0 (not_whole (number_bytes * component_width) component_limit (length components))
-    or_else refuse 1 1 (not_whole (number_bytes * connection_width) connection_limit (length connections))
+    refuse Fault.ListLength (Some Section.Components) (not_whole (number_bytes * component_width) component_limit (length components))
+    or_else refuse Fault.ListLength (Some Section.Connections) (not_whole (number_bytes * connection_width) connection_limit (length connections))
 
 -- given how many bytes each lent slice has; what is left of one past its whole numbers is no place
-abbrev pub groups_refusal : List ℕ → List ℕ → ℕ → ℕ → Checked
+abbrev pub groups_refusal : List ℕ → List ℕ → ℕ → ℕ → Result ⊤ Refusal
 groups_refusal components connections nets fragments =
     groups_whole components connections
     or_else grouping_refusal (numbers components) (numbers connections) (nets / number_bytes) (fragments / number_bytes)
 
 -- a refusal's number, list and item, or 0 in the sixteen lowest bits and then the counts of nets and fragments, sixteen bits each
-abbrev pub groups_number : Checked → ℕ → ℕ → ℕ
-groups_number Accepted nets fragments = 65536 * nets + 4294967296 * fragments
-groups_number (Refused refusal) nets fragments = packed (Refused refusal)
+abbrev pub groups_number : Result ⊤ Refusal → ℕ → ℕ → ℕ
+groups_number (Ok tt) nets fragments = 65536 * nets + 4294967296 * fragments
+groups_number (Err refusal) nets fragments = packed (Err refusal)
 
 -- the groups of components cs and connections ps, unless they are refused, as bytes at the front of the two lent slices
-pub record GroupsLaid (refusal : Checked) (cs ps : List ℤ) (nets nets' fragments fragments' : List ℕ) (r : ℕ) : Type 0 where
+pub record GroupsLaid (refusal : Result ⊤ Refusal) (cs ps : List ℤ) (nets nets' fragments fragments' : List ℕ) (r : ℕ) : Type 0 where
   pub answer : r ≡ groups_number refusal (net_count cs ps) (fragment_count cs ps)
   pub nets_left : nets' ≡ left_of refusal (bytes_of (nets_of cs ps)) nets
   pub fragments_left : fragments' ≡ left_of refusal (bytes_of (fragments_of cs ps)) fragments

@@ -1,16 +1,16 @@
 // The groups of a scene that is lent as bytes.
+ghost use Rattle.std.specs.Prelude.{Ok};
 ghost use Rattle.std.specs.Prelude.{◌≡◌, ◌+◌, ◌*◌, ◌/◌, ◌≤◌, length};
 ghost use Rattle.lists.specs.Limits.{component_limit};
 ghost use Rattle.lists.specs.Records.{component_count};
 ghost use Rattle.checks.specs.Refusals.{grouping_refusal};
-ghost use Rattle.lists.specs.declared.Checked.TheVariants.{Accepted};
 ghost use Rattle.encoding.specs.Bytes.{number_bytes, numbers};
 ghost use Rattle.encoding.specs.Entry.{groups_whole, GroupsLaid, GroupsByBytes};
 
 use super::bytes::{NUMBER, decode, encode, places};
 use checks::refusals::pack;
-use circuit::{Grouping, from_parts};
-use lists::{COMPONENT, COMPONENTS, CONNECTION, CONNECTIONS, Checked};
+use circuit::{from_parts};
+use lists::{COMPONENT, COMPONENTS, CONNECTION, CONNECTIONS};
 
 // The counts of an accepted scene as one number.
 fn pack_counts(nets: usize, fragments: usize) -> u64
@@ -34,8 +34,8 @@ fn by_rows(
 {
     let grouping = from_parts(components, connections, net_rows, fragment_rows);
     match grouping {
-        Grouping::Refused(refusal) => pack(Checked::Refused(refusal)),
-        Grouping::Groups(counts) => {
+        Err(refusal) => pack(Err(refusal)),
+        Ok(counts) => {
             let count = components.len() / COMPONENT;
             encode(&net_rows[..count], nets);
             encode(&fragment_rows[..count], fragments);
@@ -65,7 +65,7 @@ fn of_numbers(components: &[i64], connections: &[i64], nets: &mut [u8], fragment
 
 // The groups of a scene whose lists are whole records within their limits.
 pub fn of_bytes(components: &[u8], connections: &[u8], nets: &mut [u8], fragments: &mut [u8]) -> u64
-    requires { groups_whole components.now connections.now ≡ Accepted }
+    requires { groups_whole components.now connections.now ≡ (Ok tt) }
     ensures { GroupsByBytes components.now connections.now nets.old nets.new fragments.old fragments.new result }
 {
     let mut component_numbers = [0i64; COMPONENTS * COMPONENT];

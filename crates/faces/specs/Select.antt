@@ -1,8 +1,8 @@
 -- Which port a connection takes at an end (document 01, "scene.rs: ports"): the first with the face that also fits.
 -- Assumes nothing: these are definitions.
+use Rattle.std.specs.Prelude.{Option}
 use Rattle.std.specs.Prelude.{ℕ, Bool, cond, ◌&&◌, ◌||◌, List, [], ◌∷◌, eqb, length, get_or}
 use Rattle.lists.specs.First.{first_from}
-use Rattle.lists.specs.declared.Found.{Found}
 use Rattle.faces.specs.Ports.{Port, port, Input, Output, Bidirectional, Control, Structural}
 
 -- ---- kinds of connection
@@ -29,7 +29,7 @@ serves p face outgoing kind = eqb p.face face && fits p outgoing kind
 abbrev pub port_at : List Port → ℕ → Port
 port_at ports k = get_or ports k (port 0 0 0)
 
-unfoldable pub select_port : List Port → ℕ → Bool → ℕ → Found
+unfoldable pub select_port : List Port → ℕ → Bool → ℕ → Option ℕ
 select_port ports face outgoing kind = first_from (λ k. serves (port_at ports k) face outgoing kind) 0 (length ports)
 
 -- kinds 0 to 9 give 0, 0, 0, 2, 3, 4, 4, 1, 5, 6

@@ -4,7 +4,6 @@ ghost use Rattle.faces.specs.Rows.{port_of, ports_in};
 ghost use Rattle.faces.specs.Select.{fits, serves, select_port, transfer_of};
 
 use super::ports::{BIDIRECTIONAL, CONTROL, INPUT, OUTPUT, PORTS, STRUCTURAL};
-use lists::Found;
 
 // ---- kinds of connection
 
@@ -54,18 +53,18 @@ pub fn select_port(
     face: u64,
     outgoing: bool,
     kind: u64,
-) -> Found
+) -> Option<usize>
     ensures { result ≡ select_port (ports_in ports count) face outgoing kind }
 {
     let end = least(count, PORTS);
     let mut i: usize = 0;
     while i < end {
         if port_serves(ports[i], face, outgoing, kind) {
-            return Found::At(i);
+            return Some(i);
         }
         i += 1;
     }
-    Found::Nothing
+    None
 }
 
 const TRANSFERS: [u64; 10] = [0, 0, 0, 2, 3, 4, 4, 1, 5, 6];

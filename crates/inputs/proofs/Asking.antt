@@ -4,6 +4,7 @@
 --     rows_as, ..              the table, by equal arrays
 --     port_sets                they are the sets of the slot's port
 -- Assumes nothing.
+use Rattle.std.specs.Prelude.{Option, Some, Ok}
 use mathlib.Core.Path.{◌≡◌, refl, sym, ap, subst, ◌∙◌}
 use mathlib.Core.Bool.{Bool, true, false, ◌&&◌, ◌||◌, or-true}
 use mathlib.Core.List.{List}
@@ -22,9 +23,6 @@ use Rattle.sets.specs.Members.{member_limit, member_of, Inserted}
 use Rattle.lists.specs.Limits.{component_limit}
 use Rattle.lists.specs.Records.{component_count}
 use Rattle.lists.specs.First.{tabulate}
-use Rattle.lists.specs.declared.Found.{Found}
-use Rattle.lists.specs.declared.Found.TheVariants.{At}
-use Rattle.lists.specs.declared.Checked.TheVariants.{Accepted}
 use Rattle.lists.proofs.Search.{never, both}
 use Rattle.regions.specs.Graph.{Reach, at, marked, flip}
 use Rattle.regions.specs.Carry.{carry, CarryLaws}
@@ -129,7 +127,7 @@ module _ {keys : List ℕ} {number : ℕ} {labelled rows : List ℕ} {first plac
       let o = outside keys number rising low place le past i found.1 (omega (arith, found.2, few)) in
       (i, o.0, o.1, omega (arith, found.2, few))
 
-  pub slot_sets : {r : InputSources} → r.checked ≡ Accepted → r.immediate.words ≡ immediate → r.inferred.words ≡ inferred
+  pub slot_sets : {r : InputSources} → r.checked ≡ Ok tt → r.immediate.words ≡ immediate → r.inferred.words ≡ inferred
       → SlotSets keys number labelled rows r
   slot_sets {r} answer p q = record {
     answer = answer;
@@ -252,10 +250,10 @@ module _ {cs ps fs : List ℤ} {p port : ℕ} {fed labelled rows : List ℕ} {nu
   inferred : SetWhere n (is_inferred_for cs ps fs p port) r.inferred.words
   inferred = record { member = λ k. same_truth (member_of r.inferred.words k) (ltb k n && is_inferred_for cs ps fs p port k) (there k) (back k) }
 
-  pub port_sets : PortSets cs ps fs (At p) port r
+  pub port_sets : PortSets cs ps fs (Some p) port r
   port_sets = record { immediate_set = immediate; inferred_set = inferred }
 
 -- by what was found
-pub sets_at : {cs ps fs : List ℤ} (id : ℕ) {port : ℕ} {found : Found} {r : InputSources} → row_place cs id port ≡ found → PortSets cs ps fs found port r
+pub sets_at : {cs ps fs : List ℤ} (id : ℕ) {port : ℕ} {found : Option ℕ} {r : InputSources} → row_place cs id port ≡ found → PortSets cs ps fs found port r
     → PortSets cs ps fs (row_place cs id port) port r
-sets_at {cs} {ps} {fs} id {port} {r = r} e s = subst (λ (f : Found). PortSets cs ps fs f port r) (sym e) s
+sets_at {cs} {ps} {fs} id {port} {r = r} e s = subst (λ (f : Option ℕ). PortSets cs ps fs f port r) (sym e) s

@@ -9,6 +9,9 @@
 --     row_slot                       that port by its slot
 --     inputs-..                      the answer, by what was found and by what the checks say
 -- Assumes nothing.
+use Rattle.lists.specs.declared.Fault.{Fault}
+use Rattle.std.specs.Prelude.{⊤, Option, Some, None, Result, Ok}
+use Rattle.lists.specs.declared.Refusal.{Refusal}
 use mathlib.Core.Path.{◌≡◌, refl, sym, ap, subst, ◌∙◌}
 use mathlib.Core.Bool.{Bool, true, false, cond, ◌&&◌, ◌||◌}
 use mathlib.Core.List.{List}
@@ -30,11 +33,7 @@ use Rattle.lists.specs.Records.{component, port_connection, component_count, por
 use Rattle.lists.specs.First.{first_from, is_found, some, tabulate}
 use Rattle.lists.specs.Ids.{place_below, place_of, smaller_ids, member_of, first_end_missing}
 use Rattle.lists.specs.Within.{Components, PortConnections}
-use Rattle.lists.specs.declared.Found.{Found}
-use Rattle.lists.specs.declared.Found.TheVariants.{At, Nothing}
 use Rattle.checks.specs.Refusals.{refuse, too_short, ◌or_else◌, query_refusal}
-use Rattle.lists.specs.declared.Checked.{Checked}
-use Rattle.lists.specs.declared.Checked.TheVariants.{Accepted}
 use Rattle.lists.proofs.Search.{never, both, or_true, none_found, found_at}
 use Rattle.lists.proofs.Members.{member_below}
 use Rattle.lists.proofs.Fields.{first_most}
@@ -121,7 +120,7 @@ joined false a b c d e = refl
 
 module _ {cs ps : List ℤ} {sources sinks slots keys : List ℕ} (few : component_count cs ≤ component_limit) (w : PortConnections ps)
     (s : Settled cs ps 0 sources) (t : Settled cs ps 2 sinks) (u : Slots ps sinks slots) (table : KeysOf ps slots sources no_slot keys)
-    (ends : first_end_missing cs ps ≡ Nothing) (p port : ℕ) (h : p < component_count cs) (l : port < ports) where
+    (ends : first_end_missing cs ps ≡ None) (p port : ℕ) (h : p < component_count cs) (l : port < ports) where
   pub immediate_is : (a : ℕ) → a < span → member (pair (slot (member_of cs p) port) a) keys ≡ is_immediate cs ps p port a
   unfolding is_immediate
   immediate_is a m =
@@ -172,9 +171,9 @@ walk_nodes {cs} r = ap length r.inferred_are ∙ flags_long cs _
 some_none : (test : ℕ → Bool) (n : ℕ) → some test n ≡ false → (k : ℕ) → k < n → test k ≡ false
 some_none test n e k h = go (first_from test 0 n) refl e
   where
-    go : (found : Found) → first_from test 0 n ≡ found → is_found found ≡ false → test k ≡ false
-    go (At p) f g = never (sym g)
-    go Nothing f g = none_found test 0 n f k (omega arith) (omega arith)
+    go : (found : Option ℕ) → first_from test 0 n ≡ found → is_found found ≡ false → test k ≡ false
+    go (Some p) f g = never (sym g)
+    go None f g = none_found test 0 n f k (omega arith) (omega arith)
 
 not_marked : (t : Bool) → (t ≡ true → ⊥) → t ≡ false
 not_marked true h = absurd (h refl)
@@ -236,7 +235,7 @@ module _ {cs ps fs : List ℤ} {p port : ℕ} {fed backward : List ℕ} {number 
     unfolding is_inferred_for
     none_inferred a = rw (none_upstream a)
 
-    pub none_fed : {stack stack' : List ℕ} {r : InputSources} → InputsBy Accepted cs ps fs Nothing port stack stack' r → InputsBy Accepted cs ps fs (At p) port stack stack' r
+    pub none_fed : {stack stack' : List ℕ} {r : InputSources} → InputsBy (Ok tt) cs ps fs None port stack stack' r → InputsBy (Ok tt) cs ps fs (Some p) port stack stack' r
     none_fed a = record {
       answer = a.answer;
       stack_left = a.stack_left;
@@ -280,15 +279,15 @@ module _ {cs ps fs : List ℤ} {p port : ℕ} {fed backward : List ℕ} {number 
 
 -- ---- the port asked for
 
-pub row_place_lem : (cs : List ℤ) (id port : ℕ) {found : Found} → place_of cs id ≡ found → row_place cs id port ≡ with_row cs port found
+pub row_place_lem : (cs : List ℤ) (id port : ℕ) {found : Option ℕ} → place_of cs id ≡ found → row_place cs id port ≡ with_row cs port found
 unfolding row_place
 row_place_lem cs id port e = ap (with_row cs port) e
 
-pub place_below_lem : (cs : List ℤ) (id : ℕ) {p : ℕ} → place_of cs id ≡ At p → p < component_count cs
+pub place_below_lem : (cs : List ℤ) (id : ℕ) {p : ℕ} → place_of cs id ≡ Some p → p < component_count cs
 unfolding place_below
 place_below_lem cs id {p} e = let f = found_at (λ k. eqb (component cs k).id id) 0 (component_count cs) p e in omega (arith, f.below)
 
-pub place_id : (cs : List ℤ) (id : ℕ) {p : ℕ} → place_of cs id ≡ At p → (component cs p).id ≡ id
+pub place_id : (cs : List ℤ) (id : ℕ) {p : ℕ} → place_of cs id ≡ Some p → (component cs p).id ≡ id
 unfolding place_below
 place_id cs id {p} e = eqb-true (component cs p).id id (found_at (λ k. eqb (component cs k).id id) 0 (component_count cs) p e).passes
 
@@ -298,16 +297,16 @@ pub record RowAt (cs : List ℤ) (id port p : ℕ) : Type 0 where
   pub port_small : port < ports
   pub id_is : (component cs p).id ≡ id
 
-pub row_found : (cs : List ℤ) (id port : ℕ) {p : ℕ} → row_place cs id port ≡ At p → RowAt cs id port p
+pub row_found : (cs : List ℤ) (id port : ℕ) {p : ℕ} → row_place cs id port ≡ Some p → RowAt cs id port p
 unfolding row_place
 row_found cs id port {p} e = go (place_of cs id) refl e
   where
-    at : (q : ℕ) (t : Bool) → cond t (At q) Nothing ≡ At p → (t ≡ true) × (q ≡ p)
+    at : (q : ℕ) (t : Bool) → cond t (Some q) None ≡ Some p → (t ≡ true) × (q ≡ p)
     at q true f = (refl, cc)
     at q false f = let z : ◌≡◌ {A = ℕ} 0 1 = cc in absurd (omega arith)
 
-    go : (found : Found) → place_of cs id ≡ found → with_row cs port found ≡ At p → RowAt cs id port p
-    go (At q) f g =
+    go : (found : Option ℕ) → place_of cs id ≡ found → with_row cs port found ≡ Some p → RowAt cs id port p
+    go (Some q) f g =
         let c = component cs q in
         let is = at q (ltb port (length (ports_of c)) && is_required c port) g in
         let small = ltb-true port (length (ports_of c)) (both (ltb port (length (ports_of c))) (is_required c port) is.0).0 in
@@ -316,7 +315,7 @@ row_found cs id port {p} e = go (place_of cs id) refl e
           port_small = omega (arith, small, ports_few c.kind c.facing c.support c.conducts);
           id_is = ap (λ (k : ℕ). (component cs k).id) (sym is.1) ∙ place_id cs id f;
         }
-    go Nothing f g = let z : ◌≡◌ {A = ℕ} 0 1 = cc in absurd (omega arith)
+    go None f g = let z : ◌≡◌ {A = ℕ} 0 1 = cc in absurd (omega arith)
 
 module _ {cs : List ℤ} (w : Components cs) where
   pub id_small : (p : ℕ) → p < component_count cs → (component cs p).id < 4294967296
@@ -341,8 +340,8 @@ row_slot {cs} {port = port} f row e = record {
 
 module _ {cs ps fs : List ℤ} {port : ℕ} {stack stack' : List ℕ} {r : InputSources} where
   -- a work slice of the same length
-  pub inputs_stack : {place : Found} {stack₂ : List ℕ} → length stack₂ ≡ length stack → InputsBy Accepted cs ps fs place port stack₂ stack' r
-      → InputsBy Accepted cs ps fs place port stack stack' r
+  pub inputs_stack : {place : Option ℕ} {stack₂ : List ℕ} → length stack₂ ≡ length stack → InputsBy (Ok tt) cs ps fs place port stack₂ stack' r
+      → InputsBy (Ok tt) cs ps fs place port stack stack' r
   inputs_stack e a = record {
     answer = a.answer;
     stack_left = a.stack_left ∙ ap (λ (k : ℕ). replicate k 0) e;
@@ -351,14 +350,14 @@ module _ {cs ps fs : List ℤ} {port : ℕ} {stack stack' : List ℕ} {r : Input
   }
 
   -- by what was found, with 8 where nothing was
-  pub inputs_found : (id : ℕ) {found : Found} → row_place cs id port ≡ found → InputsBy (refuse 8 3 (too_short (is_found found))) cs ps fs found port stack stack' r
-      → InputsBy (refuse 8 3 (too_short (is_found (row_place cs id port)))) cs ps fs (row_place cs id port) port stack stack' r
-  inputs_found id e a = subst (λ (f : Found). InputsBy (refuse 8 3 (too_short (is_found f))) cs ps fs f port stack stack' r) (sym e) a
+  pub inputs_found : (id : ℕ) {found : Option ℕ} → row_place cs id port ≡ found → InputsBy (refuse Fault.NoVerdictRow None (too_short (is_found found))) cs ps fs found port stack stack' r
+      → InputsBy (refuse Fault.NoVerdictRow None (too_short (is_found (row_place cs id port)))) cs ps fs (row_place cs id port) port stack stack' r
+  inputs_found id e a = subst (λ (f : Option ℕ). InputsBy (refuse Fault.NoVerdictRow None (too_short (is_found f))) cs ps fs f port stack stack' r) (sym e) a
 
   -- by what the checks of the lists say
-  pub inputs_checked : (id : ℕ) {checks : Checked} → query_refusal cs ps fs (length stack) ≡ checks
-      → InputsBy (checks or_else refuse 8 3 (too_short (is_found (row_place cs id port)))) cs ps fs (row_place cs id port) port stack stack' r
+  pub inputs_checked : (id : ℕ) {checks : Result ⊤ Refusal} → query_refusal cs ps fs (length stack) ≡ checks
+      → InputsBy (checks or_else refuse Fault.NoVerdictRow None (too_short (is_found (row_place cs id port)))) cs ps fs (row_place cs id port) port stack stack' r
       → Answered cs ps fs id port stack stack' r
   inputs_checked id e a = record {
-    by = subst (λ (c : Checked). InputsBy (c or_else refuse 8 3 (too_short (is_found (row_place cs id port)))) cs ps fs (row_place cs id port) port stack stack' r) (sym e) a;
+    by = subst (λ (c : Result ⊤ Refusal). InputsBy (c or_else refuse Fault.NoVerdictRow None (too_short (is_found (row_place cs id port)))) cs ps fs (row_place cs id port) port stack stack' r) (sym e) a;
   }

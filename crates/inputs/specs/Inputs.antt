@@ -3,6 +3,7 @@
 --     Walkable, UpstreamSet     what one port is asked by, and what a walk from its sources gives
 --     Ready, SlotSets           what many ports are asked by, and what the rows of their sources give
 -- Assumes nothing: these are definitions.
+use Rattle.std.specs.Prelude.{Option, Ok}
 use Rattle.std.specs.Prelude.{ℕ, ◌*◌, ◌≤◌, ◌<◌, ◌≡◌, Bool, true, ◌&&◌, List, length, ℤ}
 use Rattle.tables.specs.Order.{Ascending, member}
 use Rattle.tables.specs.Pairs.{pair}
@@ -11,8 +12,6 @@ use Rattle.lists.specs.Limits.{component_limit}
 use Rattle.lists.specs.Records.{component_count, port_count}
 use Rattle.lists.specs.Ids as Ids
 use Rattle.lists.specs.Ends.{Settled}
-use Rattle.lists.specs.declared.Found.{Found}
-use Rattle.lists.specs.declared.Checked.TheVariants.{Accepted}
 use Rattle.regions.specs.Graph.{Edges, flip, at, marked}
 use Rattle.regions.specs.Kosaraju.{reached}
 use Rattle.regions.specs.Keys.{edges}
@@ -64,7 +63,7 @@ pub record SlotOf (cs ps : List ℤ) (p port : ℕ) (fed : List ℕ) (number : �
   pub slot_is : number ≡ slot (Ids.member_of cs p) port
 
 -- the two sets of a port of the component that was found
-pub record PortSets (cs ps fs : List ℤ) (found : Found) (port : ℕ) (r : InputSources) : Type 0 where
+pub record PortSets (cs ps fs : List ℤ) (found : Option ℕ) (port : ℕ) (r : InputSources) : Type 0 where
   pub immediate_set : SetWhere (component_count cs) (at_place (λ p a. is_immediate cs ps p port a) found) r.immediate.words
   pub inferred_set : SetWhere (component_count cs) (at_place (λ p a. is_inferred_for cs ps fs p port a) found) r.inferred.words
 
@@ -103,7 +102,7 @@ pub record Ready (cs ps fs : List ℤ) (fed labelled upstream : List ℕ) : Type
 
 -- the nodes that feed a slot, and all members of the rows of their regions
 pub record SlotSets (fed : List ℕ) (number : ℕ) (labelled upstream : List ℕ) (r : InputSources) : Type 0 where
-  pub answer : r.checked ≡ Accepted
+  pub answer : r.checked ≡ Ok tt
   pub immediate : SetWhere (length labelled) (λ a. member (pair number a) fed) r.immediate.words
   pub from : (k : ℕ) → member_of r.inferred.words k ≡ true
       → (a : ℕ) × (a < length labelled) × (member (pair number a) fed ≡ true) × (k < member_limit) × (in_row upstream (at labelled a) k ≡ true)

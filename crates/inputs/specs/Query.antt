@@ -3,15 +3,15 @@
 --     row_place                                 where the component of the port asked for stands, if the port has a verdict row (else refusal 8)
 --     Answered                                 what `required_input` answers and leaves
 -- Assumes nothing: these are definitions.
+use Rattle.lists.specs.declared.Fault.{Fault}
+use Rattle.std.specs.Prelude.{⊤, Option, Some, None, Result}
+use Rattle.lists.specs.declared.Refusal.{Refusal}
 use Rattle.std.specs.Prelude.{ℕ, ◌≡◌, Bool, false, cond, ◌&&◌, List, eqb, ltb, length, ℤ}
 use Rattle.lists.specs.Records.{component, component_count, port_count}
 use Rattle.lists.specs.First.{is_found, some, tabulate}
 use Rattle.lists.specs.Ids.{place_of}
 use Rattle.checks.specs.Refusals.{refuse, too_short, ◌or_else◌, query_refusal}
 use Rattle.lists.specs.Slices.{work_of}
-use Rattle.lists.specs.declared.Found.{Found}
-use Rattle.lists.specs.declared.Found.TheVariants.{At, Nothing}
-use Rattle.lists.specs.declared.Checked.{Checked}
 use Rattle.faces.specs.Ports.{ports_of}
 use Rattle.regions.specs.Graph.{marked, flip}
 use Rattle.regions.specs.Kosaraju.{reached}
@@ -37,24 +37,24 @@ is_inferred_for cs ps fs p port a = marked (upstream cs ps p port) a && marked (
 -- ---- the port asked for, by an id and a port
 
 -- the place, where the port of its component has a verdict row
-abbrev pub with_row : List ℤ → ℕ → Found → Found
-with_row cs port (At p) = cond (ltb port (length (ports_of (component cs p))) && is_required (component cs p) port) (At p) Nothing
-with_row cs port Nothing = Nothing
+abbrev pub with_row : List ℤ → ℕ → Option ℕ → Option ℕ
+with_row cs port (Some p) = cond (ltb port (length (ports_of (component cs p))) && is_required (component cs p) port) (Some p) None
+with_row cs port None = None
 
-unfoldable pub row_place : List ℤ → ℕ → ℕ → Found
+unfoldable pub row_place : List ℤ → ℕ → ℕ → Option ℕ
 row_place cs id port = with_row cs port (place_of cs id)
 
 -- the refusals of the lists, then 8
-abbrev pub input_refusal : List ℤ → List ℤ → List ℤ → ℕ → ℕ → ℕ → Checked
-input_refusal cs ps fs id port stack = query_refusal cs ps fs stack or_else refuse 8 3 (too_short (is_found (row_place cs id port)))
+abbrev pub input_refusal : List ℤ → List ℤ → List ℤ → ℕ → ℕ → ℕ → Result ⊤ Refusal
+input_refusal cs ps fs id port stack = query_refusal cs ps fs stack or_else refuse Fault.NoVerdictRow None (too_short (is_found (row_place cs id port)))
 
 -- a test at a place that was found
-abbrev pub at_place : (ℕ → ℕ → Bool) → Found → ℕ → Bool
-at_place test (At p) a = test p a
-at_place test Nothing a = false
+abbrev pub at_place : (ℕ → ℕ → Bool) → Option ℕ → ℕ → Bool
+at_place test (Some p) a = test p a
+at_place test None a = false
 
 -- by what the checks say
-pub record InputsBy (checks : Checked) (cs ps fs : List ℤ) (place : Found) (port : ℕ) (stack stack' : List ℕ) (r : InputSources) : Type 0 where
+pub record InputsBy (checks : Result ⊤ Refusal) (cs ps fs : List ℤ) (place : Option ℕ) (port : ℕ) (stack stack' : List ℕ) (r : InputSources) : Type 0 where
   pub answer : r.checked ≡ checks
   pub stack_left : stack' ≡ work_of checks stack
   pub immediate_set : SetWhere (counted checks (component_count cs)) (at_place (λ p a. is_immediate cs ps p port a) place) r.immediate.words

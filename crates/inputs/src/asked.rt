@@ -1,11 +1,11 @@
 // The sets of many ports of one accepted scene, which is prepared once: for each region, the inferred inputs upstream of it stand in a table.
+ghost use Rattle.std.specs.Prelude.{Ok};
 ghost use Rattle.std.specs.Prelude.{◌≡◌, List, ℕ, ◌*◌, ◌^◌, ◌≤◌, ◌<◌, length, ℤ};
 ghost use Rattle.tables.specs.Order.{Ascending};
 ghost use Rattle.lists.specs.Limits.{component_limit};
 ghost use Rattle.lists.specs.Records.{component_count, port_count};
 ghost use Rattle.lists.specs.Ids.{IdTable};
 ghost use Rattle.lists.specs.Ends.{SettledEnds};
-ghost use Rattle.lists.specs.declared.Checked.TheVariants.{Accepted};
 ghost use Rattle.regions.specs.Search.{Zeros};
 ghost use Rattle.signals.specs.Flags.{Indices};
 ghost use Rattle.assessment.specs.Rows.{SlotWithin};
@@ -19,7 +19,7 @@ use super::query::{find_inputs, no_sources};
 use super::row::row_place;
 use assessment::upstream::{add_row, upstream_rows};
 use lists::ids::member_of;
-use lists::{COMPONENTS, CONNECTIONS, Checked, Found, PORT};
+use lists::{COMPONENTS, CONNECTIONS, PORT};
 use sets::ComponentSet;
 use signals::crossings::find_crossings;
 use signals::edges::PORTS;
@@ -70,10 +70,10 @@ pub fn make_ready(
 
 // Two sets as an answer.
 fn answer_of(immediate: ComponentSet, inferred: ComponentSet) -> InputSources
-    ensures { (result.checked ≡ Accepted) × ((result.immediate ≡ immediate) × (result.inferred ≡ inferred)) }
+    ensures { (result.checked ≡ Ok tt) × ((result.immediate ≡ immediate) × (result.inferred ≡ inferred)) }
 {
     InputSources {
-        checked: Checked::Accepted,
+        checked: Ok(()),
         immediate,
         inferred,
     }
@@ -118,12 +118,12 @@ pub fn asked_sources(
 {
     let place = row_place(keys, components, id, port);
     match place {
-        Found::At(_) => slot_sources(
+        Some(_) => slot_sources(
             fed,
             member_of(keys, id) * PORTS + port as usize,
             labels,
             upstream,
         ),
-        Found::Nothing => no_sources(),
+        None => no_sources(),
     }
 }

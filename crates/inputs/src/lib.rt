@@ -8,7 +8,7 @@ mod row;
 ghost use Rattle.inputs.specs.Query.{Answered};
 
 use checks::refusals::{liveness_lists, room_for};
-use lists::{COMPONENT, COMPONENTS, CONNECTIONS, Checked};
+use lists::{COMPONENT, COMPONENTS, CONNECTIONS};
 use query::{query_scene, refused_input};
 use sets::ComponentSet;
 
@@ -16,7 +16,7 @@ use sets::ComponentSet;
 // all upstream of them.
 #[derive(Clone, Copy)]
 pub struct InputSources {
-    pub checked: Checked,
+    pub checked: Result<(), Refusal>,
     pub immediate: ComponentSet,
     pub inferred: ComponentSet,
 }
@@ -48,8 +48,8 @@ pub fn required_input(
         &mut sink_at,
     );
     match checked {
-        Checked::Refused(refusal) => refused_input(refusal),
-        Checked::Accepted => query_scene(
+        Err(refusal) => refused_input(refusal),
+        Ok(()) => query_scene(
             &keys[..count],
             components,
             ports,

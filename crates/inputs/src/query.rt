@@ -1,4 +1,6 @@
 // The input query: the immediate sources of a port, and the inferred inputs among these and all upstream of them.
+ghost use Rattle.lists.specs.declared.Fault.{Fault};
+ghost use Rattle.std.specs.Prelude.{Option, Some, None, Ok, Err};
 ghost use Rattle.std.specs.Prelude.{◌≡◌, List, ℕ, ◌*◌, ◌^◌, ◌≤◌, ◌<◌, length, ℤ};
 ghost use Rattle.tables.specs.Order.{Ascending, member};
 ghost use Rattle.tables.specs.Pairs.{pair, span};
@@ -7,9 +9,6 @@ ghost use Rattle.lists.specs.First.{is_found};
 ghost use Rattle.lists.specs.Ids.{IdTable};
 ghost use Rattle.lists.specs.Ends.{SettledEnds};
 ghost use Rattle.checks.specs.Refusals.{refuse, too_short};
-ghost use Rattle.lists.specs.declared.Found.{Found};
-ghost use Rattle.lists.specs.declared.Found.TheVariants.{At, Nothing};
-ghost use Rattle.lists.specs.declared.Checked.TheVariants.{Accepted, Refused};
 ghost use Rattle.regions.specs.Search.{Zeros};
 ghost use Rattle.regions.specs.Keys.{edges};
 ghost use Rattle.signals.specs.Regions.{is_inferred};
@@ -25,7 +24,7 @@ use super::row::row_place;
 use assessment::verdicts::slot_fed;
 use lists::ids::member_of;
 use lists::numbers::natural_at;
-use lists::{COMPONENT, COMPONENTS, CONNECTIONS, Checked, Found, PORT, Refusal};
+use lists::{COMPONENT, COMPONENTS, CONNECTIONS, PORT, Refusal};
 use liveness::prepare::prepare;
 use liveness::steps::{flag_drive, flag_inferred};
 use regions::HINTED;
@@ -83,10 +82,10 @@ fn upstream_inputs(
 
 // The answer where the port asked for has no verdict row, or none feeds it: empty sets.
 pub(crate) fn no_sources() -> InputSources
-    ensures { (cs ps fs : List ℤ) (port : ℕ) (stack : List ℕ) → Zeros stack → InputsBy Accepted cs ps fs Nothing port stack stack result }
+    ensures { (cs ps fs : List ℤ) (port : ℕ) (stack : List ℕ) → Zeros stack → InputsBy (Ok tt) cs ps fs None port stack stack result }
 {
     InputSources {
-        checked: Checked::Accepted,
+        checked: Ok(()),
         immediate: sets::empty(),
         inferred: sets::empty(),
     }
@@ -112,7 +111,7 @@ pub(crate) fn row_sources(
     requires by_index { (cs ps fs : List ℤ) × (p port : ℕ) × (Walkable cs ps fs fed.now backward.now inferred.now × SlotOf cs ps p port fed.now slot) }
     requires inferred_in_bounds { (2 * length inferred.now ≤ length stack.old) × Zeros stack.old }
     ensures { (cs ps fs : List ℤ) (p port : ℕ) → Walkable cs ps fs fed.now backward.now inferred.now → SlotOf cs ps p port fed.now slot →
-        InputsBy Accepted cs ps fs (At p) port stack.old stack.new result }
+        InputsBy (Ok tt) cs ps fs (Some p) port stack.old stack.new result }
 {
     if !is_fed(fed, slot) {
         return no_sources();
@@ -121,7 +120,7 @@ pub(crate) fn row_sources(
     let mut immediate = [false; COMPONENTS];
     immediate_flags(fed, slot, &mut immediate[..n]);
     InputSources {
-        checked: Checked::Accepted,
+        checked: Ok(()),
         immediate: sets::of_flags(n, &immediate[..n]),
         inferred: upstream_inputs(backward, &immediate[..n], inferred, stack),
     }
@@ -280,7 +279,7 @@ fn input_sources(
 ) -> InputSources
     requires scene { Scene components.now ports.now × (IdTable components.now keys.now × SettledEnds components.now ports.now source_at.now sink_at.now) }
     requires p_bound { (p < component_count components.now) × ((port < 2 ^ 8) × (2 * component_count components.now ≤ length stack.old)) }
-    ensures { InputsBy Accepted components.now ports.now frontiers.now (At p) port stack.old stack.new result }
+    ensures { InputsBy (Ok tt) components.now ports.now frontiers.now (Some p) port stack.old stack.new result }
 {
     let n = keys.len();
     let m = ports.len() / PORT;
@@ -305,10 +304,10 @@ fn input_sources(
 
 // The answer beside a refusal: empty sets.
 pub(crate) fn refused_input(refusal: Refusal) -> InputSources
-    ensures { (cs ps fs : List ℤ) (place : Found) (port : ℕ) (stack : List ℕ) → InputsBy (Refused refusal) cs ps fs place port stack stack result }
+    ensures { (cs ps fs : List ℤ) (place : Option ℕ) (port : ℕ) (stack : List ℕ) → InputsBy (Err refusal) cs ps fs place port stack stack result }
 {
     InputSources {
-        checked: Checked::Refused(refusal),
+        checked: Err(refusal),
         immediate: sets::empty(),
         inferred: sets::empty(),
     }
@@ -328,11 +327,11 @@ pub(crate) fn query_scene(
 ) -> InputSources
     requires scene { Scene components.now ports.now × (IdTable components.now keys.now × SettledEnds components.now ports.now source_at.now sink_at.now) }
     requires components_in_bounds { 2 * component_count components.now ≤ length stack.old }
-    ensures { InputsBy (refuse 8 3 (too_short (is_found (row_place components.now id port)))) components.now ports.now frontiers.now (row_place components.now id port) port stack.old stack.new result }
+    ensures { InputsBy (refuse Fault.NoVerdictRow None (too_short (is_found (row_place components.now id port)))) components.now ports.now frontiers.now (row_place components.now id port) port stack.old stack.new result }
 {
     let place = row_place(keys, components, id, port);
     match place {
-        Found::At(p) => input_sources(
+        Some(p) => input_sources(
             keys,
             components,
             ports,
@@ -343,9 +342,9 @@ pub(crate) fn query_scene(
             port as usize,
             stack,
         ),
-        Found::Nothing => refused_input(Refusal {
-            number: 8,
-            list: 3,
+        None => refused_input(Refusal {
+            fault: Fault::NoVerdictRow,
+            list: None,
             item: 0,
         }),
     }

@@ -1,16 +1,16 @@
 // The port asked for: where its component stands, if the port has a verdict row.
+ghost use Rattle.std.specs.Prelude.{Some};
 ghost use Rattle.std.specs.Prelude.{◌≡◌, ◌&&◌, ◌+◌, ◌<◌, leb, ltb};
 ghost use Rattle.lists.specs.Records.{component_count};
 ghost use Rattle.lists.specs.Within.{Components};
 ghost use Rattle.lists.specs.Ids.{IdTable};
-ghost use Rattle.lists.specs.declared.Found.TheVariants.{At};
 ghost use Rattle.assessment.specs.Rows.{first_required, required_count};
 ghost use Rattle.inputs.specs.Query.{with_row, row_place};
 
 use assessment::verdicts::{first_required, required_count};
 use lists::ids::place_of;
 use lists::numbers::natural_at;
-use lists::{COMPONENT, Found};
+use lists::{COMPONENT};
 
 // Ids are below this; the table of ids has no key past it.
 const IDS: u64 = 1 << 32;
@@ -24,28 +24,28 @@ fn has_row(kind: u64, port: u64) -> bool
 }
 
 // The place, where the port of its component has a verdict row.
-fn with_row(components: &[i64], port: u64, p: usize) -> Found
+fn with_row(components: &[i64], port: u64, p: usize) -> Option<usize>
     requires { Components components.now × (p < component_count components.now) }
-    ensures { result ≡ with_row components.now port (At p) }
+    ensures { result ≡ with_row components.now port (Some p) }
 {
     let kind = natural_at(components, p * COMPONENT + 4);
     if has_row(kind, port) {
-        return Found::At(p);
+        return Some(p);
     }
-    Found::Nothing
+    None
 }
 
 // Where the component of the port asked for stands, if the port has a verdict row.
-pub(crate) fn row_place(keys: &[u64], components: &[i64], id: u64, port: u64) -> Found
+pub(crate) fn row_place(keys: &[u64], components: &[i64], id: u64, port: u64) -> Option<usize>
     requires { Components components.now × IdTable components.now keys.now }
     ensures { result ≡ row_place components.now id port }
 {
     if IDS <= id {
-        return Found::Nothing;
+        return None;
     }
     let place = place_of(keys, id);
     match place {
-        Found::At(p) => with_row(components, port, p),
-        Found::Nothing => Found::Nothing,
+        Some(p) => with_row(components, port, p),
+        None => None,
     }
 }

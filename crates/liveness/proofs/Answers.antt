@@ -6,6 +6,7 @@
 --     scene_of_lem                          an accepted scene
 --     analyzed_accepted, ..-refused     the entry's answer, by what the checks say
 -- Assumes nothing.
+use Rattle.std.specs.Prelude.{Ok, Err}
 use mathlib.Core.Path.{◌≡◌, refl, sym, ap, ◌∙◌}
 use mathlib.Core.Bool.{Bool, true, false, ◌&&◌}
 use mathlib.Core.List.{List}
@@ -21,7 +22,6 @@ use Rattle.tables.specs.Laws.{order?}
 use Rattle.lists.specs.First.{tabulate}
 use Rattle.checks.specs.Refusals.{liveness_refusal}
 use Rattle.lists.specs.declared.Refusal.{Refusal}
-use Rattle.lists.specs.declared.Checked.TheVariants.{Accepted, Refused}
 use Rattle.checks.proofs.Chain.{refused_not}
 use Rattle.checks.proofs.Accepted.{LivenessScene}
 use Rattle.regions.specs.Graph.{marked}
@@ -79,8 +79,8 @@ tabulated_same f g (suc n) e = rw (tabulated_same f g n (λ p h. e p (omega arit
 
 -- a work slice of the same length
 pub analyzed_stack : {cs ps fs : List ℤ} {regions regions' sources sources' inputs inputs' stack stack₂ stack' : List ℕ} {r : Analysis} → length stack₂ ≡ length stack
-    → AnalyzedBy Accepted cs ps fs regions regions' sources sources' inputs inputs' stack₂ stack' r
-    → AnalyzedBy Accepted cs ps fs regions regions' sources sources' inputs inputs' stack stack' r
+    → AnalyzedBy (Ok tt) cs ps fs regions regions' sources sources' inputs inputs' stack₂ stack' r
+    → AnalyzedBy (Ok tt) cs ps fs regions regions' sources sources' inputs inputs' stack stack' r
 analyzed_stack e a = record {
   answer = a.answer;
   regions_left = a.regions_left;
@@ -103,13 +103,13 @@ pub scene_of_lem : {cs ps fs : List ℤ} {enough : Bool} → LivenessScene cs ps
 scene_of_lem s = record { components = s.components; connections = s.connections; ends = s.ends; ascending = s.scene.ascending; distinct = s.scene.once }
 
 module _ {cs ps fs : List ℤ} {regions regions' sources sources' inputs inputs' stack stack' : List ℕ} {r : Analysis} where
-  pub analyzed_accepted : liveness_refusal cs ps fs (length regions) (length sources) (length inputs) (length stack) ≡ Accepted → Scene cs ps → AnalyzedBy Accepted cs ps fs regions regions' sources sources' inputs inputs' stack stack' r
+  pub analyzed_accepted : liveness_refusal cs ps fs (length regions) (length sources) (length inputs) (length stack) ≡ Ok tt → Scene cs ps → AnalyzedBy (Ok tt) cs ps fs regions regions' sources sources' inputs inputs' stack stack' r
       → Analyzed cs ps fs regions regions' sources sources' inputs inputs' stack stack' r
   analyzed_accepted e s a = record {
     by = rw e a;
     demand = λ _. rw (a.regions_left, a.region_count_lem) (demand_3 cs ps s (drop (length (regions_of cs ps)) regions));
   }
 
-  pub analyzed_refused : {refused : Refusal} → liveness_refusal cs ps fs (length regions) (length sources) (length inputs) (length stack) ≡ Refused refused → AnalyzedBy (Refused refused) cs ps fs regions regions' sources sources' inputs inputs' stack stack' r
+  pub analyzed_refused : {refused : Refusal} → liveness_refusal cs ps fs (length regions) (length sources) (length inputs) (length stack) ≡ Err refused → AnalyzedBy (Err refused) cs ps fs regions regions' sources sources' inputs inputs' stack stack' r
       → Analyzed cs ps fs regions regions' sources sources' inputs inputs' stack stack' r
   analyzed_refused e a = record { by = rw e a; demand = λ q. absurd (refused_not (sym a.answer ∙ q)) }

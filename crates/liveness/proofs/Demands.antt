@@ -6,6 +6,7 @@
 --     region_laid                      the region answered at a list place
 --     demand_3                         what holds of the regions
 -- Assumes nothing.
+use Rattle.std.specs.Prelude.{Option, Some, None}
 use mathlib.Core.Path.{◌≡◌, refl, sym, ap, ◌∙◌, subst}
 use mathlib.Core.Bool.{Bool, true, ◌&&◌}
 use mathlib.Core.Logic.{⊎_elim}
@@ -23,8 +24,6 @@ use Rattle.lists.specs.Records.{component, port_connection, component_count, por
 use Rattle.lists.specs.First.{first_from}
 use Rattle.lists.specs.Ids.{smaller_ids, member_of, first_repeated}
 use Rattle.lists.specs.Within.{Components}
-use Rattle.lists.specs.declared.Found.{Found}
-use Rattle.lists.specs.declared.Found.TheVariants.{At, Nothing}
 use Rattle.lists.proofs.Search.{both, found_at, none_found}
 use Rattle.lists.proofs.Fields.{first_most}
 use Rattle.lists.proofs.Members.{count_once, ids_distinct, member_below, member_inj}
@@ -63,7 +62,7 @@ next_below v x =
     (λ (more : x < v). rw (le-ltb v (suc x) more, le-ltb v x (omega arith), ne_eqb v x (λ e. omega arith)))
     (order? v x)
 
-module _ (cs : List ℤ) (once : first_repeated cs ≡ Nothing) where
+module _ (cs : List ℤ) (once : first_repeated cs ≡ None) where
   next_smaller : (x : ℕ) → smaller_ids cs (suc x) ≡ smaller_ids cs x + count_below (λ k. eqb (component cs k).id x) (component_count cs)
   unfolding smaller_ids
   next_smaller x =
@@ -89,13 +88,13 @@ module _ (cs : List ℤ) (once : first_repeated cs ≡ Nothing) where
       test : ℕ → Bool
       test k = eqb (component cs k).id x
 
-      go : (f : Found) → first_from test 0 (component_count cs) ≡ f → smaller_ids cs x ≤ m → (p : ℕ) × (p < component_count cs) × (member_of cs p ≡ m)
-      go (At p) e le =
+      go : (f : Option ℕ) → first_from test 0 (component_count cs) ≡ f → smaller_ids cs x ≤ m → (p : ℕ) × (p < component_count cs) × (member_of cs p ≡ m)
+      go (Some p) e le =
           let f = found_at test 0 (component_count cs) p e in
           let id : (component cs p).id ≡ x = eqb-true (component cs p).id x f.passes in
           let is : smaller_ids cs x ≡ m = omega (arith, next_smaller x, id_once x) in
           (p, omega (arith, f.below), ap (smaller_ids cs) id ∙ is)
-      go Nothing e le =
+      go None e le =
           let none = count_none test (component_count cs) (λ k l. none_found test 0 (component_count cs) e k (omega arith) (omega arith)) in
           absurd (omega (arith, next_smaller x))
 

@@ -3,6 +3,7 @@
 --     passive_at             the mark of a used id's member is that of its component's kind
 --     fed_is                 the flags of the regions that are fed, in the words of the document
 -- Assumes nothing.
+use Rattle.std.specs.Prelude.{Option, Some, None}
 use mathlib.Core.Path.{◌≡◌, refl, sym, ap, ◌∙◌}
 use mathlib.Core.Bool.{Bool, true, false, not, ◌&&◌}
 use mathlib.Core.List.{List, ◌++◌}
@@ -16,8 +17,6 @@ use Rattle.lists.specs.Limits.{component_limit}
 use Rattle.lists.specs.Records.{component, port_connection, component_count, port_count}
 use Rattle.lists.specs.First.{first_from, is_found, some}
 use Rattle.lists.specs.Ids.{place_below, place_of, has_component, smaller_ids, member_of, first_repeated}
-use Rattle.lists.specs.declared.Found.{Found}
-use Rattle.lists.specs.declared.Found.TheVariants.{At, Nothing}
 use Rattle.lists.proofs.Search.{never, found_at, none_found, first_nothing}
 use Rattle.lists.proofs.Members.{member_below, member_inj}
 use Rattle.regions.specs.Graph.{marked, at}
@@ -38,9 +37,9 @@ use Rattle.signals.proofs.Within.{labels_count}
 pub some_found : (test : ℕ → Bool) (n p : ℕ) → p < n → test p ≡ true → some test n ≡ true
 some_found test n p h e = go (first_from test 0 n) refl
   where
-    go : (x : Found) → first_from test 0 n ≡ x → is_found x ≡ true
-    go (At q) f = refl
-    go Nothing f = never (sym (none_found test 0 n f p (omega arith) (omega arith)) ∙ e)
+    go : (x : Option ℕ) → first_from test 0 n ≡ x → is_found x ≡ true
+    go (Some q) f = refl
+    go None f = never (sym (none_found test 0 n f p (omega arith) (omega arith)) ∙ e)
 
 module _ (P same : ℕ → Bool) (n p : ℕ) (h : p < n) (here : same p ≡ true) (only : (q : ℕ) → q < n → same q ≡ true → q ≡ p) where
   pub some_only : some (λ q. P q && same q) n ≡ P p
@@ -60,7 +59,7 @@ module _ (P same : ℕ → Bool) (n p : ℕ) (h : p < n) (here : same p ≡ true
 
 -- ---- passive sources
 
-module _ (cs : List ℤ) (once : first_repeated cs ≡ Nothing) {members : List ℕ} (numbers : Numbers (component_count cs) (member_of cs) members)
+module _ (cs : List ℤ) (once : first_repeated cs ≡ None) {members : List ℕ} (numbers : Numbers (component_count cs) (member_of cs) members)
     {flags marks : List Bool} (f : Flags (component_count cs) (λ p. is_passive (component cs p).kind) flags) (long : length marks ≡ component_count cs)
     (g : Gathered (component_count cs) members flags marks) where
   mark_at : (p : ℕ) → p < component_count cs → marked marks (member_of cs p) ≡ is_passive (component cs p).kind
@@ -77,11 +76,11 @@ module _ (cs : List ℤ) (once : first_repeated cs ≡ Nothing) {members : List 
   unfolding place_below
   passive_at id e = go (place_of cs id) refl e
     where
-      go : (x : Found) → place_of cs id ≡ x → is_found x ≡ true → marked marks (smaller_ids cs id) ≡ is_passive (kind_at cs x)
-      go (At p) q t =
+      go : (x : Option ℕ) → place_of cs id ≡ x → is_found x ≡ true → marked marks (smaller_ids cs id) ≡ is_passive (kind_at cs x)
+      go (Some p) q t =
           let found = found_at (λ k. eqb (component cs k).id id) 0 (component_count cs) p q in
           ap (λ (i : ℕ). marked marks (smaller_ids cs i)) (sym (eqb-true (component cs p).id id found.passes)) ∙ mark_at p (omega (arith, found.below))
-      go Nothing q t = never t
+      go None q t = never t
 
 -- ---- fed from outside
 

@@ -1,12 +1,12 @@
 -- The entry `analyze_signal_liveness` (document 01, "liveness.rs" and the table of refusals): what it answers, and what it leaves in the
 -- slices that it was lent.
 -- Assumes nothing: these are definitions.
+use Rattle.std.specs.Prelude.{⊤, Result, Ok}
+use Rattle.lists.specs.declared.Refusal.{Refusal}
 use Rattle.std.specs.Prelude.{ℕ, ◌*◌, ◌≡◌, List, length, ℤ}
 use Rattle.lists.specs.Records.{component_count}
 use Rattle.checks.specs.Refusals.{liveness_refusal}
 use Rattle.lists.specs.Slices.{left_of, work_of}
-use Rattle.lists.specs.declared.Checked.{Checked}
-use Rattle.lists.specs.declared.Checked.TheVariants.{Accepted}
 use Rattle.regions.specs.Graph.{marked}
 use Rattle.signals.specs.Regions.{region_count, regions_of, is_cyclic, holds_drive}
 use Rattle.signals.specs.Drive.{drive, potential}
@@ -16,7 +16,7 @@ use Rattle.liveness.specs.Demand.{RegionsOfScene}
 use Rattle.liveness.specs.declared.Analysis.{Analysis}
 
 -- by what the checks say: the rows, the counts and the sets
-pub record AnalyzedBy (checks : Checked) (cs ps fs : List ℤ) (regions regions' sources sources' inputs inputs' stack stack' : List ℕ) (r : Analysis) : Type 0 where
+pub record AnalyzedBy (checks : Result ⊤ Refusal) (cs ps fs : List ℤ) (regions regions' sources sources' inputs inputs' stack stack' : List ℕ) (r : Analysis) : Type 0 where
   pub answer : r.checked ≡ checks
   pub regions_left : regions' ≡ left_of checks (regions_of cs ps) regions
   pub sources_left : sources' ≡ left_of checks (source_rows cs ps fs) sources
@@ -38,4 +38,4 @@ pub record Analyzed (cs ps fs : List ℤ) (regions regions' sources sources' inp
   pub by : AnalyzedBy (liveness_refusal cs ps fs (length regions) (length sources) (length inputs) (length stack))
       cs ps fs regions regions' sources sources' inputs inputs' stack stack' r
   -- demand 3, on the answer itself
-  pub demand : r.checked ≡ Accepted → RegionsOfScene cs ps regions' r.regions
+  pub demand : r.checked ≡ Ok tt → RegionsOfScene cs ps regions' r.regions

@@ -1,5 +1,6 @@
 -- An accepted scene, and what the stages of its analysis leave in their arrays.
 -- Assumes nothing: these are definitions.
+use Rattle.std.specs.Prelude.{None, Ok}
 use Rattle.std.specs.Prelude.{ℕ, ◌*◌, ◌≤◌, ◌≡◌, Bool, List, length, ℤ}
 use Rattle.sets.specs.Members.{SetOf}
 use Rattle.lists.specs.Limits.{component_limit, connection_limit, component_width}
@@ -7,8 +8,6 @@ use Rattle.lists.specs.Records.{component_count, port_count}
 use Rattle.lists.specs.Ids.{member_of, first_repeated, first_end_missing}
 use Rattle.lists.specs.Order.{first_not_ascending, component_order}
 use Rattle.lists.specs.Within.{Components, PortConnections}
-use Rattle.lists.specs.declared.Checked.TheVariants.{Accepted}
-use Rattle.lists.specs.declared.Found.TheVariants.{Nothing}
 use Rattle.regions.specs.Keys.{edges}
 use Rattle.regions.specs.Search.{Zeros}
 use Rattle.signals.specs.Signals.{signals}
@@ -25,9 +24,9 @@ use Rattle.liveness.specs.declared.Analysis.{Analysis}
 pub record Scene (cs ps : List ℤ) : Type 0 where
   pub components : Components cs
   pub connections : PortConnections ps
-  pub ends : first_end_missing cs ps ≡ Nothing
-  pub ascending : first_not_ascending component_order component_width cs ≡ Nothing
-  pub distinct : first_repeated cs ≡ Nothing
+  pub ends : first_end_missing cs ps ≡ None
+  pub ascending : first_not_ascending component_order component_width cs ≡ None
+  pub distinct : first_repeated cs ≡ None
 
 -- the tables of its signal edges; each member's region; each component's member and region, by list place
 pub record Prepared (cs ps : List ℤ) (sources sinks forward backward labelled members region_of : List ℕ) : Type 0 where
@@ -117,7 +116,7 @@ pub record RowsRoom (cs : List ℤ) (regions sources inputs stack : List ℕ) : 
 
 -- the counts as given, and the sets of the flags
 pub record AnswerBy (n count sources inputs : ℕ) (driven possible hasDriven : List Bool) (cyclic : ℕ → Bool) (r : Analysis) : Type 0 where
-  pub checked_is : r.checked ≡ Accepted
+  pub checked_is : r.checked ≡ Ok tt
   pub regions_is : r.regions ≡ count
   pub sources_is : r.sources ≡ sources
   pub inputs_is : r.inputs ≡ inputs

@@ -1,15 +1,15 @@
 -- Sets and counts in an answer: those of an accepted scene, or empty and 0 beside a refusal.
 -- Assumes nothing: these are definitions.
+use Rattle.std.specs.Prelude.{⊤, Result, Ok, Err}
+use Rattle.lists.specs.declared.Refusal.{Refusal}
 use Rattle.std.specs.Prelude.{ℕ, ◌≡◌, Bool, ◌&&◌, List, ltb}
 use Rattle.sets.specs.Members.{member_of}
-use Rattle.lists.specs.declared.Checked.{Checked}
-use Rattle.lists.specs.declared.Checked.TheVariants.{Accepted, Refused}
 
 -- the words keep the numbers below n of which P holds, and no other
 pub record SetWhere (n : ℕ) (P : ℕ → Bool) (words : List ℕ) : Type 0 where
   pub member : (k : ℕ) → member_of words k ≡ (ltb k n && P k)
 
 -- a count, by what the checks say
-abbrev pub counted : Checked → ℕ → ℕ
-counted Accepted n = n
-counted (Refused refusal) n = 0
+abbrev pub counted : Result ⊤ Refusal → ℕ → ℕ
+counted (Ok tt) n = n
+counted (Err refusal) n = 0

@@ -6,12 +6,12 @@ mod infer;
 pub mod prepare;
 pub mod steps;
 
+ghost use Rattle.std.specs.Prelude.{Err};
 ghost use Rattle.std.specs.Prelude.{◌≡◌, List, ℕ, ℤ};
-ghost use Rattle.lists.specs.declared.Checked.TheVariants.{Refused};
 ghost use Rattle.liveness.specs.Entry.{AnalyzedBy, Analyzed};
 
 use checks::refusals::{liveness_lists, room_for};
-use lists::{COMPONENT, COMPONENTS, CONNECTIONS, Checked, Refusal};
+use lists::{COMPONENT, COMPONENTS, CONNECTIONS, Refusal};
 use sets::ComponentSet;
 use steps::analyze;
 
@@ -19,7 +19,7 @@ use steps::analyze;
 // hold a drive source.
 #[derive(Clone, Copy)]
 pub struct Analysis {
-    pub checked: Checked,
+    pub checked: Result<(), Refusal>,
     pub regions: usize,
     pub sources: usize,
     pub inputs: usize,
@@ -31,10 +31,10 @@ pub struct Analysis {
 
 // The answer beside a refusal: no rows, and empty sets.
 fn refused(refusal: Refusal) -> Analysis
-    ensures { (cs ps fs : List ℤ) (regions sources inputs stack : List ℕ) → AnalyzedBy (Refused refusal) cs ps fs regions regions sources sources inputs inputs stack stack result }
+    ensures { (cs ps fs : List ℤ) (regions sources inputs stack : List ℕ) → AnalyzedBy (Err refusal) cs ps fs regions regions sources sources inputs inputs stack stack result }
 {
     Analysis {
-        checked: Checked::Refused(refusal),
+        checked: Err(refusal),
         regions: 0,
         sources: 0,
         inputs: 0,
@@ -74,8 +74,8 @@ pub fn analyze_signal_liveness(
         &mut sink_at,
     );
     match checked {
-        Checked::Refused(refusal) => refused(refusal),
-        Checked::Accepted => analyze(
+        Err(refusal) => refused(refusal),
+        Ok(()) => analyze(
             &keys[..count],
             components,
             ports,

@@ -1,4 +1,5 @@
 // The analysis of an accepted scene, stage by stage: a prepared scene, marks, rows, sets.
+ghost use Rattle.std.specs.Prelude.{Ok};
 ghost use Rattle.std.specs.Prelude.{◌≡◌, List, ◌≤◌, length, get_or, ℤ};
 ghost use Rattle.lists.specs.Limits.{component_limit};
 ghost use Rattle.lists.specs.Records.{component_count};
@@ -6,7 +7,6 @@ ghost use Rattle.lists.specs.Ids.{IdTable};
 ghost use Rattle.lists.specs.Ends.{SettledEnds};
 ghost use Rattle.lists.specs.First.{tabulate};
 ghost use Rattle.lists.specs.Slices.{laid};
-ghost use Rattle.lists.specs.declared.Checked.TheVariants.{Accepted};
 ghost use Rattle.regions.specs.Search.{Zeros};
 ghost use Rattle.signals.specs.Regions.{region_count, region_of_place, holds_drive, is_inferred};
 ghost use Rattle.signals.specs.Flags.{Flags, Numbers, Indices};
@@ -22,7 +22,7 @@ use super::prepare::prepare;
 use assessment::slots::write_verdicts;
 use assessment::sources::{drive_flags, frontier_flags};
 use assessment::verdicts::put_sources;
-use lists::{COMPONENT, COMPONENTS, CONNECTIONS, Checked, PORT};
+use lists::{COMPONENT, COMPONENTS, CONNECTIONS, PORT};
 use regions::HINTED;
 use signals::flags::gather;
 use signals::stages::find_cyclic;
@@ -168,7 +168,7 @@ fn answer(
     let mut cyclic = [false; COMPONENTS];
     find_cyclic(forward, labels, &mut cyclic);
     Analysis {
-        checked: Checked::Accepted,
+        checked: Ok(()),
         regions: count,
         sources: counts.sources,
         inputs: counts.inputs,
@@ -202,7 +202,7 @@ fn report(
     requires scene { Scene components.now ports.now }
     requires prepared { Prepared components.now ports.now source_at.now sink_at.now forward.now backward.now labels.now members.now region_at.now }
     requires count_value { (count ≡ region_count components.now ports.now) × (RowsRoom components.now regions.old sources.old inputs.old stack.old × Zeros stack.old) }
-    ensures { AnalyzedBy Accepted components.now ports.now frontiers.now regions.old regions.new sources.old sources.new inputs.old inputs.new stack.old stack.new result }
+    ensures { AnalyzedBy (Ok tt) components.now ports.now frontiers.now regions.old regions.new sources.old sources.new inputs.old inputs.new stack.old stack.new result }
 {
     let n = labels.len();
     let mut on_frontier = [false; COMPONENTS];
@@ -274,7 +274,7 @@ fn analyze_in(
     requires scene { Scene components.now ports.now × (IdTable components.now keys.now × SettledEnds components.now ports.now source_at.now sink_at.now) }
     requires prepared_room { PreparedRoom components.now ports.now forward.old backward.old labels.old members.old region_at.old stack.old }
     requires rows_room { RowsRoom components.now regions.old sources.old inputs.old stack.old }
-    ensures { AnalyzedBy Accepted components.now ports.now frontiers.now regions.old regions.new sources.old sources.new inputs.old inputs.new stack.old stack.new result }
+    ensures { AnalyzedBy (Ok tt) components.now ports.now frontiers.now regions.old regions.new sources.old sources.new inputs.old inputs.new stack.old stack.new result }
 {
     let count = prepare(
         keys,
@@ -327,7 +327,7 @@ pub fn analyze(
 ) -> Analysis
     requires scene { Scene components.now ports.now × (IdTable components.now keys.now × SettledEnds components.now ports.now source_at.now sink_at.now) }
     requires rows_room { RowsRoom components.now regions.old sources.old inputs.old stack.old }
-    ensures { AnalyzedBy Accepted components.now ports.now frontiers.now regions.old regions.new sources.old sources.new inputs.old inputs.new stack.old stack.new result }
+    ensures { AnalyzedBy (Ok tt) components.now ports.now frontiers.now regions.old regions.new sources.old sources.new inputs.old inputs.new stack.old stack.new result }
 {
     let n = keys.len();
     let m = ports.len() / PORT;

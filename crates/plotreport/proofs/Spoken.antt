@@ -3,6 +3,9 @@
 --     long_sheet, short_sheet    the first stage
 --     printed_within             a report that is printed has room
 -- Assumes nothing.
+use Rattle.lists.specs.declared.Fault.{Fault}
+use Rattle.std.specs.Prelude.{None}
+use Rattle.std.specs.Prelude.{⊤, Result, Ok, Err}
 use mathlib.Core.Path.{◌≡◌, refl, sym, ◌∙◌}
 use mathlib.Core.Bool.{Bool, true, false, cond}
 use mathlib.Core.List.{List, [], ◌∷◌, ◌++◌}
@@ -13,8 +16,6 @@ use lib.IntN.{pos}
 use lib.ListN.{length, length-append}
 use borrow.Author.Tests.{le-leb, lt-leb, leb-true}
 use Rattle.checks.specs.Refusals.{refuse, too_short, sheet_refusal, ◌or_else◌}
-use Rattle.lists.specs.declared.Checked.{Checked}
-use Rattle.lists.specs.declared.Checked.TheVariants as checked
 use Rattle.lists.specs.declared.Refusal.{Refusal}
 use Rattle.checks.proofs.Chain.{both_accept}
 use Rattle.lines.specs.Text.{ascii}
@@ -25,8 +26,6 @@ use Rattle.blocks.specs.Lines.{refusal_lines}
 use Rattle.report.specs.Report.{report_of}
 use Rattle.report.specs.Entry.{fits, lists_checked, report_checked, answer_by}
 use Rattle.plotreport.specs.Program.{sheet_bytes, parsed_by, too_long_sheet, program_checked, ProgramPrinted}
-use Rattle.report.specs.declared.Printed.{Printed}
-use Rattle.report.specs.declared.Printed.TheVariants.{Written, Refused}
 
 -- ---- the lines of a refusal
 
@@ -53,23 +52,23 @@ refusal_room r =
 
 -- ---- the first stage
 
-pub long_sheet : (text out : List ℕ) → sheet_bytes < length text → ProgramPrinted text out out (Refused (record { number = 1; list = 3; item = sheet_bytes }))
+pub long_sheet : (text out : List ℕ) → sheet_bytes < length text → ProgramPrinted text out out (Err (record { fault = Fault.ListLength; list = None; item = sheet_bytes }))
 long_sheet text out h = let e = lt-leb (length text) sheet_bytes h in record { by = record { answer = rw e; numbers = rw e; left = rw e } }
 
-pub short_sheet : (text : List ℕ) {later : Checked} → length text ≤ sheet_bytes → refuse 1 3 (too_long_sheet text) or_else later ≡ later
+pub short_sheet : (text : List ℕ) {later : Result ⊤ Refusal} → length text ≤ sheet_bytes → refuse Fault.ListLength None (too_long_sheet text) or_else later ≡ later
 short_sheet text h = let e = le-leb (length text) sheet_bytes h in rw e
 
 -- ---- a report that is printed
 
-room_told : (enough : Bool) → refuse 2 3 (too_short enough) ≡ checked.Accepted → enough ≡ true
+room_told : (enough : Bool) → refuse Fault.ShortSlice None (too_short enough) ≡ Ok tt → enough ≡ true
 room_told true e = refl
 room_told false e = let z : ◌≡◌ {A = ℕ} 0 1 = cc in absurd (omega arith)
 
-written : (checks : Checked) (text : List ℕ) {n : ℕ} → Written n ≡ answer_by checks text → (checks ≡ checked.Accepted) × (n ≡ length text)
-written checked.Accepted text e = (refl, cc)
-written (checked.Refused r) text e = let z : ◌≡◌ {A = ℕ} 0 1 = cc in absurd (omega arith)
+written : (checks : Result ⊤ Refusal) (text : List ℕ) {n : ℕ} → Ok n ≡ answer_by checks text → (checks ≡ Ok tt) × (n ≡ length text)
+written (Ok tt) text e = (refl, cc)
+written (Err r) text e = let z : ◌≡◌ {A = ℕ} 0 1 = cc in absurd (omega arith)
 
-pub printed_within : {text out out' : List ℕ} {r : Printed} {n : ℕ} → ProgramPrinted text out out' r → r ≡ Written n → n ≤ length out
+pub printed_within : {text out out' : List ℕ} {r : Result ℕ Refusal} {n : ℕ} → ProgramPrinted text out out' r → r ≡ Ok n → n ≤ length out
 printed_within {text} {out} p e =
     let sheet = parsed_by text in
     let cs = components_of sheet in
@@ -77,7 +76,7 @@ printed_within {text} {out} p e =
     let fs = frontiers_of sheet in
     let room = length out in
     let w = written (program_checked text room) (report_of cs ps fs) (sym e ∙ p.by.answer) in
-    let stages = both_accept (refuse 1 3 (too_long_sheet text)) (report_checked sheet 2048 3072 768 room) w.0 in
+    let stages = both_accept (refuse Fault.ListLength None (too_long_sheet text)) (report_checked sheet 2048 3072 768 room) w.0 in
     let lists = both_accept (sheet_checked sheet 2048 3072 768) (lists_checked cs ps fs room) stages.1 in
     let last = both_accept (sheet_refusal cs ps fs) (fits (report_of cs ps fs) room) lists.1 in
     omega (arith, w.1, leb-true (length (report_of cs ps fs)) room (room_told (leb (length (report_of cs ps fs)) room) last.1))

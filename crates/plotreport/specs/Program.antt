@@ -3,17 +3,16 @@
 --     program_checked     the stages
 --     ProgramPrinted     what is answered to the bytes read, at most one more than a sheet may have
 -- Assumes nothing: these are definitions.
+use Rattle.lists.specs.declared.Fault.{Fault}
+use Rattle.std.specs.Prelude.{⊤, Option, Some, None, Result}
+use Rattle.lists.specs.declared.Refusal.{Refusal}
 use Rattle.std.specs.Prelude.{ℕ, ◌*◌, cond, List, leb, length}
 use Rattle.lists.specs.Limits.{component_width, connection_width, frontier_width}
 use Rattle.checks.specs.Refusals.{refuse, ◌or_else◌}
-use Rattle.lists.specs.declared.Checked.{Checked}
-use Rattle.lists.specs.declared.Found.{Found}
-use Rattle.lists.specs.declared.Found.TheVariants.{At, Nothing}
 use Rattle.sheet.specs.Sheet.{Parsed, parse}
 use Rattle.sheet.specs.Entry.{components_of, connections_of, frontiers_of}
 use Rattle.report.specs.Report.{report_of}
 use Rattle.report.specs.Entry.{report_checked, PrintedBy}
-use Rattle.report.specs.declared.Printed.{Printed}
 
 -- ---- the program's limits
 
@@ -31,17 +30,17 @@ frontiers = 256
 
 -- ---- its answer
 
-abbrev pub too_long_sheet : List ℕ → Found
-too_long_sheet text = cond (leb (length text) sheet_bytes) Nothing (At sheet_bytes)
+abbrev pub too_long_sheet : List ℕ → Option ℕ
+too_long_sheet text = cond (leb (length text) sheet_bytes) None (Some sheet_bytes)
 
 abbrev pub parsed_by : List ℕ → Parsed
 parsed_by text = parse components connections frontiers text
 
 -- its work lists have room for its limits
-abbrev pub program_checked : List ℕ → ℕ → Checked
+abbrev pub program_checked : List ℕ → ℕ → Result ⊤ Refusal
 program_checked text room =
-    refuse 1 3 (too_long_sheet text)
+    refuse Fault.ListLength None (too_long_sheet text)
     or_else report_checked (parsed_by text) (components * component_width) (connections * connection_width) (frontiers * frontier_width) room
 
-pub record ProgramPrinted (text out out' : List ℕ) (r : Printed) : Type 0 where
+pub record ProgramPrinted (text out out' : List ℕ) (r : Result ℕ Refusal) : Type 0 where
   pub by : PrintedBy (program_checked text (length out)) (report_of (components_of (parsed_by text)) (connections_of (parsed_by text)) (frontiers_of (parsed_by text))) out out' r

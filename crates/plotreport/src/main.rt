@@ -5,7 +5,6 @@ mod program;
 
 use blocks::answer::put_refusal;
 use program::{BYTES, LINES, READ, report_sheet};
-use report::Printed;
 
 fn main() {
     let mut text = [0u8; READ];
@@ -14,10 +13,10 @@ fn main() {
     let n = io::read_full(0, &mut text);
     let printed = report_sheet(&text[..n], &mut out);
     match printed {
-        Printed::Written(count) => {
+        Ok(count) => {
             io::write_all(1, &out[..count]);
         }
-        Printed::Refused(refusal) => {
+        Err(refusal) => {
             let count = put_refusal(&mut lines, 0, refusal);
             io::write_all(1, &lines[..count]);
         }

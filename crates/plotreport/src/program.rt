@@ -2,7 +2,7 @@
 ghost use Rattle.plotreport.specs.Program.{ProgramPrinted};
 
 use lists::{COMPONENT, CONNECTION, FRONTIER, Refusal};
-use report::{Printed, report};
+use report::{report};
 use sheet::Counts;
 
 // The most bytes of a sheet, and of a report.
@@ -21,13 +21,13 @@ const FRONTIERS: usize = 256;
 pub const LINES: usize = 120;
 
 // The report of a sheet, with the program's limits.
-pub fn report_sheet(text: &[u8], out: &mut [u8]) -> Printed
+pub fn report_sheet(text: &[u8], out: &mut [u8]) -> Result<usize, Refusal>
     ensures { ProgramPrinted text.now out.old out.new result }
 {
     if BYTES < text.len() {
-        return Printed::Refused(Refusal {
-            number: 1,
-            list: 3,
+        return Err(Refusal {
+            fault: Fault::ListLength,
+            list: None,
             item: BYTES,
         });
     }

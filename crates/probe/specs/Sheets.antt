@@ -1,9 +1,9 @@
 -- The sheet entry as the tests call it: its answer as one number, the number of a refusal in the lowest digits, as the other entries pack it.
 -- Assumes nothing: these are definitions.
+use Rattle.std.specs.Prelude.{Result, Ok, Err}
+use Rattle.lists.specs.declared.Refusal.{Refusal}
 use Rattle.std.specs.Prelude.{ℕ, ◌+◌, ◌-◌, ◌*◌, ◌^◌, cond, List, leb, ℤ, ◌≡◌}
 use Rattle.report.specs.Entry.{Reported}
-use Rattle.report.specs.declared.Printed.{Printed}
-use Rattle.report.specs.declared.Printed.TheVariants.{Written, Refused}
 use Rattle.sheet.specs.Sheet.{Parsed}
 
 -- what has no room in its digits
@@ -15,12 +15,12 @@ packed_refusal number list item =
     cond (leb 256 number) no_room (cond (leb 256 list) no_room (cond (leb (2 ^ 48) item) no_room (number + 256 * list + 65536 * item)))
 
 -- the count stands where the item does
-abbrev pub packed_report : Printed → ℕ
-packed_report (Written n) = packed_refusal 0 0 n
-packed_report (Refused r) = packed_refusal r.number r.list r.item
+abbrev pub packed_report : Result ℕ Refusal → ℕ
+packed_report (Ok n) = packed_refusal 0 0 n
+packed_report (Err r) = packed_refusal r.number r.list r.item
 
 -- the answer of the entry, packed
 pub record ReportedAs (p : Parsed) (components components' connections connections' frontiers frontiers' : List ℤ) (out out' : List ℕ) (r : ℕ) : Type 0 where
-  pub answer : Printed
+  pub answer : Result ℕ Refusal
   pub reported : Reported p components components' connections connections' frontiers frontiers' out out' answer
   pub packed : r ≡ packed_report answer

@@ -12,7 +12,7 @@ ghost use Rattle.probe.specs.Places.{IsPlace, answer_of, place_among, MemberAnsw
 
 use checks::refusals::{grouping_lists, liveness_lists, pack, room_for};
 use lists::ids::{place_at, place_of};
-use lists::{COMPONENT, COMPONENTS, CONNECTION, CONNECTIONS, Checked, Found, PORT};
+use lists::{COMPONENT, COMPONENTS, CONNECTION, CONNECTIONS, PORT};
 
 #[unsafe(no_mangle)]
 pub extern "C" fn probe_grouping_refusal(
@@ -117,20 +117,20 @@ pub extern "C" fn probe_sheet_refusal(
 }
 
 // One more than a place, or 0 for none.
-fn answer(found: Found) -> u64
+fn answer(found: Option<usize>) -> u64
     requires { IsPlace found }
     ensures { result ≡ answer_of found }
 {
     match found {
-        Found::At(place) => place as u64 + 1,
-        Found::Nothing => 0,
+        Some(place) => place as u64 + 1,
+        None => 0,
     }
 }
 
 const GREATEST_ID: u64 = 4294967295;
 
 // The list place of an id among components that the checks accept, or nothing.
-fn find(components: &[i64], id: u64) -> Found
+fn find(components: &[i64], id: u64) -> Option<usize>
     ensures value { result ≡ place_among (grouping_lists components.now [] [] true) components.now id }
     ensures place { IsPlace result }
 {
@@ -142,11 +142,11 @@ fn find(components: &[i64], id: u64) -> Found
         true,
         &mut keys,
     );
-    let Checked::Accepted = checked else {
-        return Found::Nothing;
+    let Ok(()) = checked else {
+        return None;
     };
     if GREATEST_ID < id {
-        return Found::Nothing;
+        return None;
     }
     let count = components.len() / COMPONENT;
     place_of(&keys[..count], id)
@@ -171,7 +171,7 @@ pub extern "C" fn probe_place_of_member(components: &[i64], k: usize) -> u64
         true,
         &mut keys,
     );
-    let Checked::Accepted = checked else {
+    let Ok(()) = checked else {
         return 0;
     };
     let count = components.len() / COMPONENT;

@@ -7,8 +7,7 @@ ghost use Rattle.probe.specs.Ports.{place_code, Sent};
 use checks::refusals::pack;
 use faces::ports::{port_count, ports_for};
 use faces::step::facing_between;
-use lists::Checked;
-use scene::connections::{Selected, port_connections};
+use scene::connections::{port_connections};
 
 #[unsafe(no_mangle)]
 pub extern "C" fn probe_port_count(kind: u64, facing: u64, support: u64, conducts: u64) -> usize
@@ -67,7 +66,7 @@ pub extern "C" fn probe_port_connections(
 {
     let selected = port_connections(components, connections, out);
     match selected {
-        Selected::Kept(count) => 65536 * count as u64,
-        Selected::Refused(refusal) => pack(Checked::Refused(refusal)),
+        Ok(count) => 65536 * count as u64,
+        Err(refusal) => pack(Err(refusal)),
     }
 }

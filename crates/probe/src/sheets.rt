@@ -3,7 +3,7 @@ ghost use Rattle.std.specs.Prelude.{◌≡◌};
 ghost use Rattle.sheet.specs.Sheet.{parse};
 ghost use Rattle.probe.specs.Sheets.{packed_refusal, packed_report, ReportedAs};
 
-use report::{Printed, report};
+use report::{report};
 use sheet::Counts;
 
 // A part that has no room in its digits makes the whole this.
@@ -28,12 +28,12 @@ fn pack_refusal(number: u64, list: u64, item: usize) -> u64
 }
 
 // The answer as one number.
-fn pack_printed(printed: Printed) -> u64
+fn pack_printed(printed: Result<usize, Refusal>) -> u64
     ensures { result ≡ packed_report printed }
 {
     match printed {
-        Printed::Written(n) => pack_refusal(0, 0, n),
-        Printed::Refused(refusal) => pack_refusal(refusal.number, refusal.list, refusal.item),
+        Ok(n) => pack_refusal(0, 0, n),
+        Err(refusal) => pack_refusal(refusal.number, refusal.list, refusal.item),
     }
 }
 

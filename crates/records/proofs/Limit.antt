@@ -2,6 +2,9 @@
 --     too_long         such a list is refused at the limit, also where it is not whole records
 --     analyzed_over    so the answer of one such list is that of any other
 -- Assumes nothing.
+use Rattle.lists.specs.declared.Fault.{Fault}
+use Rattle.lists.specs.declared.Section.{Section}
+use Rattle.std.specs.Prelude.{⊤, Option, Some, None, Result, Err}
 use mathlib.Core.Path.{◌≡◌, refl, sym, ◌∙◌, ap, subst}
 use mathlib.Core.Bool.{Bool, ◌&&◌}
 use mathlib.Core.List.{List}
@@ -14,31 +17,27 @@ use lib.IntN.{ℤ}
 use Rattle.tables.specs.Laws.{order?}
 use Rattle.lists.specs.Limits.{component_limit, connection_limit, component_width, port_width}
 use Rattle.checks.specs.Refusals.{refuse, ◌or_else◌, not_whole, liveness_lists, liveness_room}
-use Rattle.lists.specs.declared.Found.{Found}
-use Rattle.lists.specs.declared.Found.TheVariants.{At, Nothing}
 use Rattle.lists.specs.declared.Refusal.{Refusal}
-use Rattle.lists.specs.declared.Checked.{Checked}
-use Rattle.lists.specs.declared.Checked.TheVariants.{Refused}
 use Rattle.liveness.specs.Sets.{SetWhere}
 use Rattle.liveness.specs.Entry.{AnalyzedBy, Analyzed}
 use Rattle.liveness.specs.declared.Analysis.{Analysis}
 use Rattle.liveness.proofs.Answers.{analyzed_refused}
 
-pub too_long : (n : ℕ) → connection_limit * port_width < n → not_whole port_width connection_limit n ≡ At connection_limit
+pub too_long : (n : ℕ) → connection_limit * port_width < n → not_whole port_width connection_limit n ≡ Some connection_limit
 unfolding not_whole
 too_long n h =
     ⊎_elim
-    (λ (few : n / port_width ≤ connection_limit). rw (le-ltb connection_limit (n / port_width) few, ne_eqb (n % port_width) 0 (λ e. omega arith)) (ap At (omega arith)))
-    (λ (many : connection_limit < n / port_width). rw (lt-ltb connection_limit (n / port_width) many) (ap At (omega arith)))
+    (λ (few : n / port_width ≤ connection_limit). rw (le-ltb connection_limit (n / port_width) few, ne_eqb (n % port_width) 0 (λ e. omega arith)) (ap Some (omega arith)))
+    (λ (many : connection_limit < n / port_width). rw (lt-ltb connection_limit (n / port_width) many) (ap Some (omega arith)))
     (order? (n / port_width) connection_limit)
 
 -- number 1, of the components or else of the connections, at the limit
-abbrev too_many : List ℤ → Checked
-too_many cs = refuse 1 0 (not_whole component_width component_limit (length cs)) or_else Refused (record { number = 1; list = 1; item = connection_limit })
+abbrev too_many : List ℤ → Result ⊤ Refusal
+too_many cs = refuse Fault.ListLength (Some Section.Components) (not_whole component_width component_limit (length cs)) or_else Err (record { fault = Fault.ListLength; list = Some Section.Connections; item = connection_limit })
 
-refused_over : (found : Found) (last : Refusal) → (r : Refusal) × (refuse 1 0 found or_else Refused last ≡ Refused r)
-refused_over (At item) last = (record { number = 1; list = 0; item = item }, refl)
-refused_over Nothing last = (last, refl)
+refused_over : (found : Option ℕ) (last : Refusal) → (r : Refusal) × (refuse Fault.ListLength (Some Section.Components) found or_else Err last ≡ Err r)
+refused_over (Some item) last = (record { fault = Fault.ListLength; list = Some Section.Components; item = item }, refl)
+refused_over None last = (last, refl)
 
 lists_over : (cs ps fs : List ℤ) (enough : Bool) → connection_limit * port_width < length ps → liveness_lists cs ps fs enough ≡ too_many cs
 unfolding liveness_lists
@@ -50,8 +49,8 @@ empty_any {P} {Q} s = record { member = λ k. s.member k ∙ ap (λ (t : Bool). 
 
 module _ {cs ps ps' fs : List ℤ} {regions regions' sources sources' inputs inputs' stack stack' : List ℕ} {r : Analysis} where
   -- a refusal says nothing of the connections
-  refused_any : {refused : Refusal} → AnalyzedBy (Refused refused) cs ps fs regions regions' sources sources' inputs inputs' stack stack' r
-      → AnalyzedBy (Refused refused) cs ps' fs regions regions' sources sources' inputs inputs' stack stack' r
+  refused_any : {refused : Refusal} → AnalyzedBy (Err refused) cs ps fs regions regions' sources sources' inputs inputs' stack stack' r
+      → AnalyzedBy (Err refused) cs ps' fs regions regions' sources sources' inputs inputs' stack stack' r
   refused_any a = record {
     answer = a.answer;
     regions_left = a.regions_left;
@@ -71,6 +70,6 @@ module _ {cs ps ps' fs : List ℤ} {regions regions' sources sources' inputs inp
       → Analyzed cs ps fs regions regions' sources sources' inputs inputs' stack stack' r → Analyzed cs ps' fs regions regions' sources sources' inputs inputs' stack stack' r
   analyzed_over h h' a =
       let enough = liveness_room cs (length regions) (length sources) (length inputs) (length stack) in
-      let (refused, e) = refused_over (not_whole component_width component_limit (length cs)) (record { number = 1; list = 1; item = connection_limit }) in
+      let (refused, e) = refused_over (not_whole component_width component_limit (length cs)) (record { fault = Fault.ListLength; list = Some Section.Connections; item = connection_limit }) in
       analyzed_refused (lists_over cs ps' fs enough h' ∙ e)
-      (refused_any (subst (λ (k : Checked). AnalyzedBy k cs ps fs regions regions' sources sources' inputs inputs' stack stack' r) (lists_over cs ps fs enough h ∙ e) a.by))
+      (refused_any (subst (λ (k : Result ⊤ Refusal). AnalyzedBy k cs ps fs regions regions' sources sources' inputs inputs' stack stack' r) (lists_over cs ps fs enough h ∙ e) a.by))

@@ -6,11 +6,11 @@ use super::compare::{
 };
 use super::input::{Listed, read_list, refill};
 use checks::refusals::liveness_lists;
-use circuit::{Grouping, fragment_nets, from_parts};
+use circuit::{fragment_nets, from_parts};
 use inputs::required_input;
-use lists::{COMPONENT, COMPONENTS, CONNECTION, CONNECTIONS, Checked, FRONTIER, FRONTIERS, PORT};
+use lists::{COMPONENT, COMPONENTS, CONNECTION, CONNECTIONS, FRONTIER, FRONTIERS, PORT};
 use liveness::{Analysis, analyze_signal_liveness};
-use scene::connections::{Selected, port_connections};
+use scene::connections::{port_connections};
 
 // How many source rows and verdict rows the liveness entry asks room for.
 const SOURCES: usize = 2 * COMPONENTS;
@@ -29,10 +29,10 @@ fn refused(tally: Tally) -> Tally {
     counted(tally, tally.at, 0, 1)
 }
 
-fn accepted(tally: Tally, checked: Checked) -> Tally {
+fn accepted(tally: Tally, checked: Result<(), Refusal>) -> Tally {
     match checked {
-        Checked::Accepted => tally,
-        Checked::Refused(_) => refused(tally),
+        Ok(()) => tally,
+        Err(_) => refused(tally),
     }
 }
 
@@ -78,7 +78,7 @@ fn replay_groups(tally: Tally, text: &[u8], components: &[i64], connections: &[i
     let mut nets = [0u64; COMPONENTS];
     let mut fragments = [0u64; COMPONENTS];
     let grouping = from_parts(components, connections, &mut nets, &mut fragments);
-    let Grouping::Groups(counts) = grouping else {
+    let Ok(counts) = grouping else {
         return refused(tally);
     };
     let n = least(components.len() / COMPONENT, COMPONENTS);
@@ -244,7 +244,7 @@ fn replay_kept(
 ) -> Tally {
     let mut kept = [0i64; CONNECTIONS * PORT];
     let selected = port_connections(components, connections, &mut kept);
-    let Selected::Kept(count) = selected else {
+    let Ok(count) = selected else {
         return refused(tally);
     };
     let n = least(count, CONNECTIONS) * PORT;

@@ -3,6 +3,7 @@
 --     rows_long, component_count_lem, region_pairs     how many numbers the rows have
 --     assembled                        by what grouping, port selection and the analysis left
 -- Assumes nothing.
+use Rattle.std.specs.Prelude.{None}
 use mathlib.Core.Path.{◌≡◌, refl, ap, subst, ◌∙◌}
 use mathlib.Core.List.{List, ◌++◌, append_assoc}
 use Prim.Native.Nat.{ℕ, zero, suc, ◌*◌}
@@ -11,7 +12,6 @@ use lib.ListN.{length, length-append}
 use lib.IntN.{ℤ, pos}
 use Rattle.lists.specs.Records.{component_count}
 use Rattle.lists.specs.Ids.{first_repeated}
-use Rattle.lists.specs.declared.Found.TheVariants.{Nothing}
 use Rattle.lines.specs.Text.{ascii}
 use Rattle.lines.specs.Decimal.{line_of}
 use Rattle.scene.specs.Kept.{kept_rows}
@@ -34,10 +34,10 @@ in_order a b c d e f =
     (append_assoc b (c ++ (d ++ e)) f
     ∙ ap (λ (t : List ℕ). b ++ t) (append_assoc c (d ++ e) f ∙ ap (λ (t : List ℕ). c ++ t) (append_assoc d e f)))
 
-inputs_is : (cs kept fs : List ℤ) → first_repeated cs ≡ Nothing → inputs_text cs kept fs (input_rows cs kept fs) ≡ input_block cs kept fs
+inputs_is : (cs kept fs : List ℤ) → first_repeated cs ≡ None → inputs_text cs kept fs (input_rows cs kept fs) ≡ input_block cs kept fs
 inputs_is cs kept fs once = rw (rows_lines cs kept fs once)
 
-pub whole_is : (cs ps fs : List ℤ) → first_repeated cs ≡ Nothing
+pub whole_is : (cs ps fs : List ℤ) → first_repeated cs ≡ None
     → whole_text cs (kept_list cs ps) fs (component_rows cs ps fs (component_count cs)) (kept_rows cs ps)
     (region_rows cs ps fs (region_count cs (kept_list cs ps))) (source_rows cs (kept_list cs ps) fs) (input_rows cs (kept_list cs ps) fs)
     ≡ report_of cs ps fs
@@ -84,7 +84,7 @@ regions_are cs ps fs {r = r} a =
     ap (all_rows (region_row_by r.cyclic.words r.has_drive.words)) a.region_count_lem ∙ region_rows_lem cs ps fs a.cyclic_set a.has_drive_set
 
 module _ (cs ps fs : List ℤ) {kept : List ℤ} {nets fragments regions sources inputs : List ℕ} {r : Analysis} where
-  pub assembled : {rows connections marks : List ℕ} → first_repeated cs ≡ Nothing → Gathered cs ps kept nets fragments → Analyzed cs kept fs regions sources inputs r
+  pub assembled : {rows connections marks : List ℕ} → first_repeated cs ≡ None → Gathered cs ps kept nets fragments → Analyzed cs kept fs regions sources inputs r
       → rows ≡ all_rows (component_row_by cs nets fragments regions r.drive.words r.potential.words) (component_count cs)
       → connections ≡ kept_rows cs ps
       → marks ≡ all_rows (region_row_by r.cyclic.words r.has_drive.words) r.regions

@@ -3,6 +3,7 @@
 --     reported        the entry on a sheet that was read
 --     not_read        the entry on a sheet that was refused
 -- Assumes nothing.
+use Rattle.std.specs.Prelude.{⊤, Result, Ok, Err}
 use mathlib.Core.Path.{◌≡◌, refl, ap, sym, ◌∙◌}
 use mathlib.Core.List.{List}
 use Prim.Native.Nat.{ℕ, ◌+◌, ◌*◌, ◌%◌, ◌≤◌}
@@ -13,30 +14,24 @@ use Rattle.lists.specs.Limits.{component_limit, connection_limit, frontier_limit
 use Rattle.lists.specs.Records.{component_count, connection_count, frontier_count}
 use Rattle.lists.specs.Slices.{laid}
 use Rattle.lists.specs.declared.Refusal.{Refusal}
-use Rattle.lists.specs.declared.Checked.{Checked}
-use Rattle.lists.specs.declared.Checked.TheVariants.{Accepted, Refused}
 use Rattle.checks.proofs.Chain.{refused_not}
 use Rattle.sheet.specs.Sheet.{Parsed, Lists, Faulty, parse}
 use Rattle.sheet.specs.Entry.{components_of, connections_of, frontiers_of, sheet_checked, counts_of, reading_of, SheetRead}
 use Rattle.sheet.specs.declared.Counts.{Counts}
-use Rattle.sheet.specs.declared.Reading.{Reading}
-use Rattle.sheet.specs.declared.Reading.TheVariants as reading
 use Rattle.sheet.proofs.Grammar.{parse_within}
 use Rattle.report.specs.Report.{report_of}
 use Rattle.report.specs.Entry.{lists_checked, PrintedBy, Reported}
-use Rattle.report.specs.declared.Printed.{Printed}
-use Rattle.report.specs.declared.Printed.TheVariants as printed
 use Rattle.report.proofs.Scenes.{front_long, front_is}
 
 -- ---- the answer
 
-by_read : (checks : Checked) (counts n : Counts) → reading_of checks counts ≡ reading.Read n → (checks ≡ Accepted) × (n ≡ counts)
-by_read Accepted counts n e = (refl, cc)
-by_read (Refused r) counts n e = let o : ◌≡◌ {A = ℕ} 0 1 = cc in absurd (omega arith)
+by_read : (checks : Result ⊤ Refusal) (counts n : Counts) → reading_of checks counts ≡ Ok n → (checks ≡ Ok tt) × (n ≡ counts)
+by_read (Ok tt) counts n e = (refl, cc)
+by_read (Err r) counts n e = let o : ◌≡◌ {A = ℕ} 0 1 = cc in absurd (omega arith)
 
-by_refused : (checks : Checked) (counts : Counts) (r : Refusal) → reading_of checks counts ≡ reading.Refused r → checks ≡ Refused r
-by_refused Accepted counts r e = let o : ◌≡◌ {A = ℕ} 0 1 = cc in absurd (omega arith)
-by_refused (Refused q) counts r e = cc
+by_refused : (checks : Result ⊤ Refusal) (counts : Counts) (r : Refusal) → reading_of checks counts ≡ Err r → checks ≡ Err r
+by_refused (Ok tt) counts r e = let o : ◌≡◌ {A = ℕ} 0 1 = cc in absurd (omega arith)
+by_refused (Err q) counts r e = cc
 
 -- ---- whole records
 
@@ -49,7 +44,7 @@ record Whole (p : Parsed) : Type 0 where
   pub connections_few : connection_count (connections_of p) ≤ connection_limit
   pub frontiers_few : frontier_count (frontiers_of p) ≤ frontier_limit
 
-whole : (x y z : ℕ) (text : List ℕ) (p : Parsed) → parse x y z text ≡ p → (a b c : ℕ) → sheet_checked p a b c ≡ Accepted → Whole p
+whole : (x y z : ℕ) (text : List ℕ) (p : Parsed) → parse x y z text ≡ p → (a b c : ℕ) → sheet_checked p a b c ≡ Ok tt → Whole p
 whole x y z text (Lists cs ps fs) e a b c h =
     let w = parse_within x y z text cs ps fs e in
     let k : length cs % component_width ≡ 0 = w.of_components.whole in
@@ -77,11 +72,11 @@ pub record Fronts (p : Parsed) (components connections frontiers : List ℤ) (n 
   pub of_connections : Front (connections_of p) connections (n.connections * connection_width)
   pub of_frontiers : Front (frontiers_of p) frontiers (n.frontiers * frontier_width)
 
-module _ (x y z : ℕ) (text : List ℕ) {a a' b b' c c' : List ℤ} {r : Reading} (s : SheetRead (parse x y z text) a a' b b' c c' r) where
-  pub accepted : {n : Counts} → r ≡ reading.Read n → sheet_checked (parse x y z text) (length a) (length b) (length c) ≡ Accepted
+module _ (x y z : ℕ) (text : List ℕ) {a a' b b' c c' : List ℤ} {r : Result Counts Refusal} (s : SheetRead (parse x y z text) a a' b b' c c' r) where
+  pub accepted : {n : Counts} → r ≡ Ok n → sheet_checked (parse x y z text) (length a) (length b) (length c) ≡ Ok tt
   accepted {n} e = (by_read (sheet_checked (parse x y z text) (length a) (length b) (length c)) (counts_of (parse x y z text)) n (sym s.answer ∙ e)).0
 
-  pub fronts : {n : Counts} → r ≡ reading.Read n → Fronts (parse x y z text) a' b' c' n
+  pub fronts : {n : Counts} → r ≡ Ok n → Fronts (parse x y z text) a' b' c' n
   fronts {n} e =
       let p = parse x y z text in
       let (good, counts) = by_read (sheet_checked p (length a) (length b) (length c)) (counts_of p) n (sym s.answer ∙ e) in
@@ -96,7 +91,7 @@ module _ (x y z : ℕ) (text : List ℕ) {a a' b b' c c' : List ℤ} {r : Readin
       }
 
   -- nothing is written, and the work lists are as they were
-  pub not_read : {q : Refusal} → r ≡ reading.Refused q → (out : List ℕ) → Reported (parse x y z text) a a' b b' c c' out out (printed.Refused q)
+  pub not_read : {q : Refusal} → r ≡ Err q → (out : List ℕ) → Reported (parse x y z text) a a' b b' c c' out out (Err q)
   not_read {q} e out =
       let p = parse x y z text in
       let no = by_refused (sheet_checked p (length a) (length b) (length c)) (counts_of p) q (sym s.answer ∙ e) in
@@ -110,14 +105,14 @@ module _ (x y z : ℕ) (text : List ℕ) {a a' b b' c c' : List ℤ} {r : Readin
 -- ---- the entry
 
 -- the same lists are printed
-same_printed : {cs cs' ps ps' fs fs' : List ℤ} {out out' : List ℕ} {r : Printed} → cs ≡ cs' → ps ≡ ps' → fs ≡ fs'
+same_printed : {cs cs' ps ps' fs fs' : List ℤ} {out out' : List ℕ} {r : Result ℕ Refusal} → cs ≡ cs' → ps ≡ ps' → fs ≡ fs'
     → PrintedBy (lists_checked cs ps fs (length out)) (report_of cs ps fs) out out' r
     → PrintedBy (lists_checked cs' ps' fs' (length out)) (report_of cs' ps' fs') out out' r
 same_printed e f g p = rw (e, f, g) at p
 
 -- the work lists were cleared after the lists at their fronts were printed
-pub reported : (p : Parsed) {a a' b b' c c' cs ps fs : List ℤ} {i j k : ℕ} {out out' : List ℕ} {r : Printed}
-    → sheet_checked p (length a) (length b) (length c) ≡ Accepted
+pub reported : (p : Parsed) {a a' b b' c c' cs ps fs : List ℤ} {i j k : ℕ} {out out' : List ℕ} {r : Result ℕ Refusal}
+    → sheet_checked p (length a) (length b) (length c) ≡ Ok tt
     → cs ≡ components_of p → ps ≡ connections_of p → fs ≡ frontiers_of p
     → PrintedBy (lists_checked cs ps fs (length out)) (report_of cs ps fs) out out' r
     → i ≡ length a → a' ≡ replicate i (pos 0)

@@ -5,6 +5,7 @@
 --     analyzed               what the analysis leaves
 --     nets_long, fragments_long, regions_long, regions_few, kept_fit     how long the lists are that were left
 -- Assumes nothing.
+use Rattle.std.specs.Prelude.{Ok}
 use mathlib.Core.Path.{◌≡◌, ap, sym, ◌∙◌}
 use mathlib.Core.Bool.{true}
 use mathlib.Core.List.{List}
@@ -17,7 +18,6 @@ use Rattle.lists.specs.Limits.{connection_limit, port_width}
 use Rattle.lists.specs.Records.{component_count}
 use Rattle.checks.specs.Refusals.{sheet_refusal}
 use Rattle.lists.specs.Slices.{laid}
-use Rattle.lists.specs.declared.Checked.TheVariants.{Accepted}
 use Rattle.checks.proofs.Accepted.{GroupingScene, grouping_accept}
 use Rattle.circuit.specs.Topology.{net_kinds, fragment_kinds, forest_of, nets_of, fragments_of}
 use Rattle.circuit.proofs.Roots.{length_groups}
@@ -34,7 +34,7 @@ use Rattle.liveness.specs.declared.Analysis.{Analysis}
 use Rattle.report.specs.Report.{kept_list}
 use Rattle.report.specs.Printing.{Gathered, Analyzed}
 
-module _ (cs ps fs : List ℤ) (e : sheet_refusal cs ps fs ≡ Accepted) where
+module _ (cs ps fs : List ℤ) (e : sheet_refusal cs ps fs ≡ Ok tt) where
   pub sheet_scene : GroupingScene cs ps fs true
   sheet_scene = grouping_accept cs ps fs true e
 
@@ -59,7 +59,7 @@ module _ {A : Type 0} (rows old : List A) {new : List A} (e : new ≡ laid rows 
   front_is n h = ap (take n) e ∙ take_at rows (drop (length rows) old) n (sym h)
 
 pub analyzed : {cs ps fs : List ℤ} {regions regions' sources sources' inputs inputs' stack stack' : List ℕ} {r : Analysis}
-    → AnalyzedBy Accepted cs ps fs regions regions' sources sources' inputs inputs' stack stack' r
+    → AnalyzedBy (Ok tt) cs ps fs regions regions' sources sources' inputs inputs' stack stack' r
     → Analyzed cs ps fs regions' (take (r.sources * 2) sources') (take (r.inputs * 3) inputs') r
 analyzed {cs} {ps} {fs} {regions = regions} {sources = sources} {inputs = inputs} {r = r} a = record {
   regions_old = regions;

@@ -2,6 +2,9 @@
 --     sheet_numbers      a refusal's number is 1 to 6 or 9, so that 7 and 8 never come from a sheet
 --     report_demand      demand 3 of the regions that the report of an accepted sheet prints
 -- Assumes nothing.
+use Rattle.lists.specs.declared.Fault.{Fault}
+use Rattle.lists.specs.declared.Section.{Section}
+use Rattle.std.specs.Prelude.{⊤, Option, Some, None, Result, Ok, Err}
 use mathlib.Core.Path.{◌≡◌, refl, subst}
 use mathlib.Core.Bool.{Bool, true, false, cond, ◌||◌}
 use mathlib.Core.List.{List, [], ◌∷◌, ◌++◌}
@@ -15,10 +18,6 @@ use Rattle.lists.specs.Ranges.{first_out_of_range, component_low, component_high
 use Rattle.lists.specs.Order.{first_not_ascending, component_order, connection_order}
 use Rattle.lists.specs.Ids.{first_repeated}
 use Rattle.checks.specs.Refusals.{refuse, not_whole, too_short, grouping_lists, sheet_refusal, ◌or_else◌}
-use Rattle.lists.specs.declared.Checked.{Checked}
-use Rattle.lists.specs.declared.Checked.TheVariants.{Accepted, Refused}
-use Rattle.lists.specs.declared.Found.{Found}
-use Rattle.lists.specs.declared.Found.TheVariants.{At, Nothing}
 use Rattle.lists.specs.declared.Refusal.{Refusal}
 use Rattle.sheet.specs.Sheet.{Fields, got, stop, Part, part, fault, Parsed, Lists, Faulty, ◌then◌, fields_from, counted, read_fields, read_list, ended, parse}
 use Rattle.sheet.specs.Keys.{count_key, keys_of}
@@ -35,17 +34,17 @@ use Rattle.report.proofs.Scenes.{kept_scene}
 abbrev pub is_sheet_number : ℕ → Bool
 is_sheet_number n = leb n 6 || eqb n 9
 
-abbrev Numbered : Checked → Type 0
-Numbered Accepted = Unit
-Numbered (Refused r) = is_sheet_number r.number ≡ true
+abbrev Numbered : Result ⊤ Refusal → Type 0
+Numbered (Ok tt) = Unit
+Numbered (Err r) = is_sheet_number r.number ≡ true
 
-chained : (a b : Checked) → Numbered a → Numbered b → Numbered (a or_else b)
-chained Accepted b p q = q
-chained (Refused r) b p q = p
+chained : (a b : Result ⊤ Refusal) → Numbered a → Numbered b → Numbered (a or_else b)
+chained (Ok tt) b p q = q
+chained (Err r) b p q = p
 
-check : (n list : ℕ) (found : Found) → is_sheet_number n ≡ true → Numbered (refuse n list found)
-check n list (At k) e = e
-check n list Nothing e = tt
+check : (n list : ℕ) (found : Option ℕ) → is_sheet_number n ≡ true → Numbered (refuse n list found)
+check n list (Some k) e = e
+check n list None e = tt
 
 -- of a part that was read, and of the whole
 abbrev PartNumbered : Part → Type 0
@@ -96,37 +95,37 @@ sheet_numbered (Lists cs ps fs) a b c h = check 2 3 (too_short (enough_room cs p
 sheet_numbered (Faulty r) a b c h = h
 
 -- a check, and then others
-first : (n list : ℕ) (found : Found) (later : Checked) → is_sheet_number n ≡ true → Numbered later → Numbered (refuse n list found or_else later)
+first : (n list : ℕ) (found : Option ℕ) (later : Result ⊤ Refusal) → is_sheet_number n ≡ true → Numbered later → Numbered (refuse n list found or_else later)
 first n list found later e p = chained (refuse n list found) later (check n list found e) p
 
 -- the checks from each number on
 module _ (cs ps fs : List ℤ) where
-  abbrev from6 : Checked
-  from6 = refuse 6 1 (first_not_ascending connection_order connection_width ps)
+  abbrev from6 : Result ⊤ Refusal
+  from6 = refuse Fault.UnsortedConnections (Some Section.Connections) (first_not_ascending connection_order connection_width ps)
 
-  abbrev from5 : Checked
-  from5 = refuse 5 0 (first_repeated cs) or_else from6
+  abbrev from5 : Result ⊤ Refusal
+  from5 = refuse Fault.RepeatedId (Some Section.Components) (first_repeated cs) or_else from6
 
-  abbrev from4 : Checked
-  from4 = refuse 4 0 (first_not_ascending component_order component_width cs) or_else from5
+  abbrev from4 : Result ⊤ Refusal
+  from4 = refuse Fault.UnsortedComponents (Some Section.Components) (first_not_ascending component_order component_width cs) or_else from5
 
-  abbrev from3 : Checked
-  from3 = refuse 3 2 (first_out_of_range frontier_low frontier_high fs) or_else from4
+  abbrev from3 : Result ⊤ Refusal
+  from3 = refuse Fault.OutOfRange (Some Section.Frontiers) (first_out_of_range frontier_low frontier_high fs) or_else from4
 
-  abbrev from3₁ : Checked
-  from3₁ = refuse 3 1 (first_out_of_range connection_low connection_high ps) or_else from3
+  abbrev from3₁ : Result ⊤ Refusal
+  from3₁ = refuse Fault.OutOfRange (Some Section.Connections) (first_out_of_range connection_low connection_high ps) or_else from3
 
-  abbrev from3₀ : Checked
-  from3₀ = refuse 3 0 (first_out_of_range component_low component_high cs) or_else from3₁
+  abbrev from3₀ : Result ⊤ Refusal
+  from3₀ = refuse Fault.OutOfRange (Some Section.Components) (first_out_of_range component_low component_high cs) or_else from3₁
 
-  abbrev from2 : Checked
-  from2 = refuse 2 3 (too_short true) or_else from3₀
+  abbrev from2 : Result ⊤ Refusal
+  from2 = refuse Fault.ShortSlice None (too_short true) or_else from3₀
 
-  abbrev from1 : Checked
-  from1 = refuse 1 2 (not_whole frontier_width frontier_limit (length fs)) or_else from2
+  abbrev from1 : Result ⊤ Refusal
+  from1 = refuse Fault.ListLength (Some Section.Frontiers) (not_whole frontier_width frontier_limit (length fs)) or_else from2
 
-  abbrev from1₁ : Checked
-  from1₁ = refuse 1 1 (not_whole connection_width connection_limit (length ps)) or_else from1
+  abbrev from1₁ : Result ⊤ Refusal
+  from1₁ = refuse Fault.ListLength (Some Section.Connections) (not_whole connection_width connection_limit (length ps)) or_else from1
 
   lists_numbered : Numbered (sheet_refusal cs ps fs)
   unfolding grouping_lists
@@ -143,7 +142,7 @@ module _ (cs ps fs : List ℤ) where
 
 -- from any text, limits, work lists and buffer
 pub sheet_numbers : (components connections frontiers : ℕ) (text : List ℕ) (a b c room : ℕ) (r : Refusal)
-    → report_checked (parse components connections frontiers text) a b c room ≡ Refused r → is_sheet_number r.number ≡ true
+    → report_checked (parse components connections frontiers text) a b c room ≡ Err r → is_sheet_number r.number ≡ true
 sheet_numbers components connections frontiers text a b c room r e =
     let p = parse components connections frontiers text in
     let cs = components_of p in
@@ -152,11 +151,11 @@ sheet_numbers components connections frontiers text a b c room r e =
     let last = too_short (leb (length (report_of cs ps fs)) room) in
     subst Numbered e
     (chained (sheet_checked p a b c) (lists_checked cs ps fs room) (sheet_numbered p a b c (parse_numbered components connections frontiers text))
-    (chained (sheet_refusal cs ps fs) (refuse 2 3 last) (lists_numbered cs ps fs) (check 2 3 last refl)))
+    (chained (sheet_refusal cs ps fs) (refuse Fault.ShortSlice None last) (lists_numbered cs ps fs) (check 2 3 last refl)))
 
 -- ---- demand 3
 
 -- `component_row` prints the region of each component, and `regions=` how many there are
-pub report_demand : (cs ps fs : List ℤ) → sheet_refusal cs ps fs ≡ Accepted → (rest : List ℕ)
+pub report_demand : (cs ps fs : List ℤ) → sheet_refusal cs ps fs ≡ Ok tt → (rest : List ℕ)
     → RegionsOfScene cs (kept_list cs ps) (regions_of cs (kept_list cs ps) ++ rest) (region_count cs (kept_list cs ps))
 report_demand cs ps fs e rest = demand_3 cs (kept_list cs ps) (kept_scene cs ps fs e) rest

@@ -2,6 +2,7 @@
 --     component_rows_lem, region_rows_lem     the rows of two blocks
 --     ids_are                         the ids of a set's members are those of the components that pass its test
 -- Assumes nothing.
+use Rattle.std.specs.Prelude.{Option, Some, None}
 use mathlib.Core.Path.{◌≡◌, refl, sym, ap, ◌∙◌}
 use mathlib.Core.Bool.{Bool}
 use mathlib.Core.List.{List, [], ◌∷◌}
@@ -17,8 +18,6 @@ use Rattle.lists.specs.First.{first_from}
 use Rattle.lists.specs.Ids as ids
 use Rattle.lists.specs.Ids.{IdTable, MemberId, first_repeated}
 use Rattle.lists.specs.Slices.{laid}
-use Rattle.lists.specs.declared.Found.{Found}
-use Rattle.lists.specs.declared.Found.TheVariants.{At, Nothing}
 use Rattle.lists.proofs.Search.{never, none_found, found_at}
 use Rattle.lists.proofs.Table.{table_long}
 use Rattle.lists.proofs.Members.{member_below, member_key, member_id_lem}
@@ -77,22 +76,22 @@ module _ (cs ps fs : List ℤ) where
 -- ---- the ids of a set's members, by the table of ids
 
 -- the id of member m
-member_is : {cs : List ℤ} {m r : ℕ} → MemberId cs m r → first_repeated cs ≡ Nothing → r ≡ member_id cs m
+member_is : {cs : List ℤ} {m r : ℕ} → MemberId cs m r → first_repeated cs ≡ None → r ≡ member_id cs m
 unfolding member_id
 member_is {cs} {m} {r} k once = go (first_from test 0 (component_count cs)) refl
   where
     test : ℕ → Bool
     test p = eqb (ids.member_of cs p) m
 
-    go : (f : Found) → first_from test 0 (component_count cs) ≡ f → r ≡ id_at cs f
-    go (At p) e =
+    go : (f : Option ℕ) → first_from test 0 (component_count cs) ≡ f → r ≡ id_at cs f
+    go (Some p) e =
         let found = found_at test 0 (component_count cs) p e in
         member_id_lem k once p (omega (arith, found.below)) (eqb-true (ids.member_of cs p) m found.passes)
-    go Nothing e =
+    go None e =
         never (sym (none_found test 0 (component_count cs) e k.place (omega arith) (omega (arith, k.stands.below)))
         ∙ eq-eqb (ids.member_of cs k.place) m (k.stands.member once))
 
-module _ {cs : List ℤ} {keys words : List ℕ} {test : ℕ → Bool} (t : IdTable cs keys) (once : first_repeated cs ≡ Nothing)
+module _ {cs : List ℤ} {keys words : List ℕ} {test : ℕ → Bool} (t : IdTable cs keys) (once : first_repeated cs ≡ None)
     (s : SetWhere (component_count cs) test words) where
   ids_below_lem : (n : ℕ) → n ≤ length keys → ids_from keys words 0 n ≡ ids_below cs test n
   unfolding ids_from ids_below

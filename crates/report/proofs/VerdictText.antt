@@ -3,6 +3,7 @@
 --     rows_lines                the rows of the answer give the lines of the report
 --     asked_text_lem                the lines of a port, by the sets that were asked for
 -- Assumes nothing.
+use Rattle.std.specs.Prelude.{Some, None}
 use mathlib.Core.Path.{◌≡◌, refl, sym, ap, ◌∙◌}
 use mathlib.Core.Bool.{Bool, true, false, cond}
 use mathlib.Core.List.{List, [], ◌∷◌, ◌++◌, append_assoc, append-nil}
@@ -15,7 +16,6 @@ use lib.Seq.{drop-cons}
 use borrow.Author.Tests.{eq-eqb, ne_eqb, lt-ltb}
 use Rattle.lists.specs.Records.{component, component_count}
 use Rattle.lists.specs.Ids.{IdTable, place_below, place_of, first_repeated}
-use Rattle.lists.specs.declared.Found.TheVariants.{At, Nothing}
 use Rattle.lists.proofs.Search.{first_is}
 use Rattle.lists.proofs.Members.{ids_distinct}
 use Rattle.faces.specs.Ports.{ports_of}
@@ -67,16 +67,16 @@ module _ (text : ℕ → ℕ → ℕ → List ℕ) where
 
 -- ---- the rows of the answer
 
-module _ (cs kept fs : List ℤ) (once : first_repeated cs ≡ Nothing) where
+module _ (cs kept fs : List ℤ) (once : first_repeated cs ≡ None) where
   -- a component is found by its id
-  place_is : (p : ℕ) → p < component_count cs → place_of cs (component cs p).id ≡ At p
+  place_is : (p : ℕ) → p < component_count cs → place_of cs (component cs p).id ≡ Some p
   unfolding place_below
   place_is p h =
       first_is (λ k. eqb (component cs k).id (component cs p).id) 0 (component_count cs) p (omega arith) (omega arith) (eq-eqb (component cs p).id (component cs p).id refl)
       (λ j l b. ne_eqb (component cs j).id (component cs p).id (λ e. let same = ids_distinct cs once j p (omega arith) h e in absurd (omega arith)))
 
   row_is : (p port : ℕ) → p < component_count cs → port < length (ports_of (component cs p)) → is_required (component cs p) port ≡ true
-      → row_place cs (component cs p).id port ≡ At p
+      → row_place cs (component cs p).id port ≡ Some p
   unfolding row_place
   row_is p port h l e = rw (place_is p h, lt-ltb port (length (ports_of (component cs p))) l, e)
 
@@ -141,7 +141,7 @@ module _ (cs kept fs : List ℤ) (once : first_repeated cs ≡ Nothing) where
 
 -- ---- a port asked for
 
-pub asked_text_lem : {cs ps fs : List ℤ} {keys : List ℕ} {r : InputSources} (id port status : ℕ) → IdTable cs keys → first_repeated cs ≡ Nothing
+pub asked_text_lem : {cs ps fs : List ℤ} {keys : List ℕ} {r : InputSources} (id port status : ℕ) → IdTable cs keys → first_repeated cs ≡ None
     → PortSets cs ps fs (row_place cs id port) port r
     → input_text id port status (ids_in keys r.immediate.words) (ids_in keys r.inferred.words) ≡ asked_text cs ps fs id port status
 unfolding asked_text

@@ -4,57 +4,57 @@
 --     fits, lists_checked, report_checked     the stages: the last 2; 3 to 6 before it; 9, 1 and the first 2 before these
 --     Reported                              from a parsed text to the answer and every slice
 -- Assumes nothing: these are definitions.
+use Rattle.lists.specs.declared.Fault.{Fault}
+use Rattle.std.specs.Prelude.{None}
+use Rattle.std.specs.Prelude.{⊤, Result, Ok, Err}
+use Rattle.lists.specs.declared.Refusal.{Refusal}
 use Rattle.std.specs.Prelude.{ℕ, ◌≡◌, List, [], ◌∷◌, leb, length, replicate, ℤ, pos}
 use Rattle.checks.specs.Refusals.{refuse, too_short, sheet_refusal, ◌or_else◌, refusal_numbers, numbers_by}
 use Rattle.lists.specs.Slices.{left_of}
-use Rattle.lists.specs.declared.Checked.{Checked}
-use Rattle.lists.specs.declared.Checked.TheVariants as checked
 use Rattle.sheet.specs.Sheet.{Parsed}
 use Rattle.sheet.specs.Entry.{components_of, connections_of, frontiers_of, sheet_checked}
 use Rattle.report.specs.Report.{report_of}
-use Rattle.report.specs.declared.Printed.{Printed}
-use Rattle.report.specs.declared.Printed.TheVariants.{Written, Refused}
 
 -- ---- the stages
 
 -- 2: a buffer of so many bytes is shorter than the text
-abbrev pub fits : List ℕ → ℕ → Checked
-fits text room = refuse 2 3 (too_short (leb (length text) room))
+abbrev pub fits : List ℕ → ℕ → Result ⊤ Refusal
+fits text room = refuse Fault.ShortSlice None (too_short (leb (length text) room))
 
-abbrev pub lists_checked : List ℤ → List ℤ → List ℤ → ℕ → Checked
+abbrev pub lists_checked : List ℤ → List ℤ → List ℤ → ℕ → Result ⊤ Refusal
 lists_checked cs ps fs room = sheet_refusal cs ps fs or_else fits (report_of cs ps fs) room
 
 -- given how many numbers each work list has, and how many bytes the buffer
-abbrev pub report_checked : Parsed → ℕ → ℕ → ℕ → ℕ → Checked
+abbrev pub report_checked : Parsed → ℕ → ℕ → ℕ → ℕ → Result ⊤ Refusal
 report_checked p components connections frontiers room =
     sheet_checked p components connections frontiers or_else lists_checked (components_of p) (connections_of p) (frontiers_of p) room
 
 -- ---- by what they say
 
 -- how many bytes were written, or the refusal
-abbrev pub answer_by : Checked → List ℕ → Printed
-answer_by checked.Accepted text = Written (length text)
-answer_by (checked.Refused r) text = Refused r
+abbrev pub answer_by : Result ⊤ Refusal → List ℕ → Result ℕ Refusal
+answer_by (Ok tt) text = Ok (length text)
+answer_by (Err r) text = Err r
 
 -- the paper's numbers of each case: 0 and how many bytes, or those of the refusal
-abbrev pub numbers_of : Printed → List ℕ
-numbers_of (Written count) = 0 ∷ count ∷ []
-numbers_of (Refused r) = refusal_numbers r
+abbrev pub numbers_of : Result ℕ Refusal → List ℕ
+numbers_of (Ok count) = 0 ∷ count ∷ []
+numbers_of (Err r) = refusal_numbers r
 
 -- a text printed into a buffer
-pub record PrintedBy (checks : Checked) (text old new : List ℕ) (r : Printed) : Type 0 where
+pub record PrintedBy (checks : Result ⊤ Refusal) (text old new : List ℕ) (r : Result ℕ Refusal) : Type 0 where
   pub answer : r ≡ answer_by checks text
   pub numbers : numbers_of r ≡ numbers_by checks (length text ∷ [])
   pub left : new ≡ left_of checks text old
 
 -- a work list: all zero once the sheet was read into it, or what it held
-abbrev pub list_by : Checked → List ℤ → List ℤ
-list_by checked.Accepted old = replicate (length old) (pos 0)
-list_by (checked.Refused r) old = old
+abbrev pub list_by : Result ⊤ Refusal → List ℤ → List ℤ
+list_by (Ok tt) old = replicate (length old) (pos 0)
+list_by (Err r) old = old
 
 -- ---- the entry, from a parsed text, three lent work lists and the buffer
 
-pub record Reported (p : Parsed) (components components' connections connections' frontiers frontiers' : List ℤ) (out out' : List ℕ) (r : Printed) : Type 0 where
+pub record Reported (p : Parsed) (components components' connections connections' frontiers frontiers' : List ℤ) (out out' : List ℕ) (r : Result ℕ Refusal) : Type 0 where
   pub printed : PrintedBy (report_checked p (length components) (length connections) (length frontiers) (length out))
       (report_of (components_of p) (connections_of p) (frontiers_of p)) out out' r
   pub components_left : components' ≡ list_by (sheet_checked p (length components) (length connections) (length frontiers)) components

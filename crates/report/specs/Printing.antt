@@ -4,13 +4,13 @@
 --     blocks_text, whole_text               the blocks before them, and the report by its rows
 --     Accepts, Gathered, Analyzed         the lists of an accepted sheet; what grouping, port selection and the analysis left
 -- Assumes nothing: these are definitions.
+use Rattle.std.specs.Prelude.{Ok}
 use Rattle.std.specs.Prelude.{ℕ, ◌/◌, ◌≡◌, List, [], ◌∷◌, ◌++◌, map, length, get_or, ℤ, pos}
 use Rattle.sets.specs.Members.{as_nat, member_of}
 use Rattle.checks.specs.Refusals.{sheet_refusal}
 use Rattle.lists.specs.Ids as ids
 use Rattle.lists.specs.Ids.{IdTable}
 use Rattle.lists.specs.Slices.{laid}
-use Rattle.lists.specs.declared.Checked.TheVariants.{Accepted}
 use Rattle.lines.specs.Text.{ascii}
 use Rattle.lines.specs.Decimal.{line_of}
 use Rattle.circuit.specs.Topology.{nets_of, fragments_of}
@@ -75,7 +75,7 @@ whole_text cs kept fs components connections regions sources inputs =
 
 -- the lists of an accepted sheet, and the table of ids
 pub record Accepts (cs ps fs : List ℤ) (keys : List ℕ) : Type 0 where
-  pub accepted : sheet_refusal cs ps fs ≡ Accepted
+  pub accepted : sheet_refusal cs ps fs ≡ Ok tt
   pub table : IdTable cs keys
 
 -- its groups and its kept connections

@@ -5,13 +5,12 @@
 --     input_block                       the verdict rows, each with its immediate sources and inferred inputs
 --     report_of                         the whole
 -- Assumes nothing: these are definitions.
+use Rattle.std.specs.Prelude.{Option, Some, None}
 use Rattle.std.specs.Prelude.{ℕ, zero, suc, ◌/◌, Bool, cond, List, [], ◌∷◌, ◌++◌, map, eqb, length, get_or, ℤ, pos}
 use Rattle.sets.specs.Members.{as_nat}
 use Rattle.lists.specs.Records.{component, component_count}
 use Rattle.lists.specs.First.{first_from}
 use Rattle.lists.specs.Ids.{member_of}
-use Rattle.lists.specs.declared.Found.{Found}
-use Rattle.lists.specs.declared.Found.TheVariants.{At, Nothing}
 use Rattle.lines.specs.Text.{ascii}
 use Rattle.lines.specs.Decimal.{line_of}
 use Rattle.blocks.specs.Lines.{component_keys, connection_keys, region_keys, source_keys, block, input_text}
@@ -55,9 +54,9 @@ region_rows cs ps fs n = all_rows (region_row cs ps fs) n
 
 -- ---- the components that members stand for
 
-abbrev pub id_at : List ℤ → Found → ℕ
-id_at cs (At p) = (component cs p).id
-id_at cs Nothing = 0
+abbrev pub id_at : List ℤ → Option ℕ → ℕ
+id_at cs (Some p) = (component cs p).id
+id_at cs None = 0
 
 -- the id of the component that member m stands for
 unfoldable pub member_id : List ℤ → ℕ → ℕ

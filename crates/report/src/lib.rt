@@ -12,14 +12,7 @@ ghost use Rattle.report.specs.Entry.{Reported};
 
 use lists::{COMPONENT, CONNECTION, FRONTIER, Refusal};
 use print::print_lists;
-use sheet::{Counts, Reading, read_sheet};
-
-// How many bytes were written, or the refusal.
-#[derive(Clone, Copy)]
-pub enum Printed {
-    Written(usize),
-    Refused(Refusal),
-}
+use sheet::{Counts, read_sheet};
 
 // Sets every number of a list to zero.
 fn clear_list(list: &mut [i64])
@@ -40,13 +33,13 @@ pub fn report(
     connections: &mut [i64],
     frontiers: &mut [i64],
     out: &mut [u8],
-) -> Printed
+) -> Result<usize, Refusal>
     ensures { Reported (parse limits.components limits.connections limits.frontiers text.now) components.old components.new connections.old connections.new frontiers.old frontiers.new out.old out.new result }
 {
     let reading = read_sheet(text, limits, components, connections, frontiers);
     match reading {
-        Reading::Refused(refusal) => Printed::Refused(refusal),
-        Reading::Read(counts) => {
+        Err(refusal) => Err(refusal),
+        Ok(counts) => {
             let printed = print_lists(
                 &components[..counts.components * COMPONENT],
                 &connections[..counts.connections * CONNECTION],

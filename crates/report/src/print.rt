@@ -11,7 +11,6 @@ ghost use Rattle.report.specs.Report.{report_of};
 ghost use Rattle.report.specs.Entry.{fits, lists_checked, PrintedBy};
 ghost use Rattle.report.specs.Printing.{blocks_text, whole_text, Accepts, Gathered, Analyzed};
 
-use super::Printed;
 use super::fill::{fill_components, fill_connections, fill_regions};
 use super::rows::{left_after_rows, put_rows};
 use assessment::upstream::TABLE;
@@ -21,7 +20,7 @@ use checks::refusals::grouping_lists;
 use circuit::settle::group;
 use inputs::asked::make_ready;
 use lists::ends::settle_ends;
-use lists::{COMPONENT, COMPONENTS, CONNECTIONS, Checked, Found, PORT, Refusal};
+use lists::{COMPONENT, COMPONENTS, CONNECTIONS, PORT, Refusal};
 use liveness::Analysis;
 use liveness::steps::analyze;
 use scene::connections::keep_all;
@@ -46,12 +45,12 @@ const STACK: usize = 2 * COMPONENTS;
 
 // How many bytes are left after the blocks before the verdict rows.
 fn left_after_blocks(
-    left: Found,
+    left: Option<usize>,
     components: &[u64],
     kept: &[u64],
     regions: &[u64],
     sources: &[u64],
-) -> Found
+) -> Option<usize>
     ensures { result ≡ left_after left (length (blocks_text components.now kept.now regions.now sources.now)) }
 {
     let a = left_after(left, ANSWER);
@@ -92,7 +91,7 @@ fn print_rows(
     sources: &[u64],
     inputs: &[u64],
     out: &mut [u8],
-) -> Printed
+) -> Result<usize, Refusal>
     requires id_table { IdTable scene.now keys.now }
     requires ready { (ps fs : List ℤ) × Ready scene.now ps fs fed.now labels.now upstream.now }
     ensures { (ps fs : List ℤ) → Ready scene.now ps fs fed.now labels.now upstream.now →
@@ -100,17 +99,17 @@ fn print_rows(
         (whole_text scene.now ps fs components.now kept.now regions.now sources.now inputs.now)
         out.old out.new result }
 {
-    let a = left_after_blocks(Found::At(out.len()), components, kept, regions, sources);
+    let a = left_after_blocks(Some(out.len()), components, kept, regions, sources);
     let rest = left_after_rows(a, keys, scene, fed, labels, upstream, inputs);
-    if let Found::Nothing = rest {
-        return Printed::Refused(Refusal {
-            number: 2,
-            list: 3,
+    if let None = rest {
+        return Err(Refusal {
+            fault: Fault::ShortSlice,
+            list: None,
             item: 0,
         });
     }
     let at = put_blocks(out, components, kept, regions, sources);
-    Printed::Written(put_rows(out, at, keys, scene, fed, labels, upstream, inputs))
+    Ok(put_rows(out, at, keys, scene, fed, labels, upstream, inputs))
 }
 
 // ---- the rows of a scene
@@ -130,7 +129,7 @@ fn print_analysis(
     inputs: &[u64],
     found: Analysis,
     out: &mut [u8],
-) -> Printed
+) -> Result<usize, Refusal>
     requires { (ps fs : List ℤ) × (Accepts scene.now ps fs keys.now × (Gathered scene.now ps ports.now nets.now fragments.now ×
         (Analyzed scene.now ports.now fs regions.now sources.now inputs.now found × Ready scene.now ports.now fs fed.now labels.now upstream.now))) }
     ensures { (ps fs : List ℤ) → Accepts scene.now ps fs keys.now →
@@ -192,7 +191,7 @@ fn print_ready(
     found: Analysis,
     stack: &mut [usize],
     out: &mut [u8],
-) -> Printed
+) -> Result<usize, Refusal>
     requires accepts { (ps : List ℤ) × (Accepts scene.now ps frontiers.now keys.now × Gathered scene.now ps ports.now nets.now fragments.now) }
     requires settled_ends { SettledEnds scene.now ports.now source_at.now sink_at.now }
     requires analyzed { Analyzed scene.now ports.now frontiers.now regions.now sources.now inputs.now found }
@@ -244,7 +243,7 @@ fn print_kept(
     nets: &[u64],
     fragments: &[u64],
     out: &mut [u8],
-) -> Printed
+) -> Result<usize, Refusal>
     requires { (ps : List ℤ) × (Accepts scene.now ps frontiers.now keys.now × Gathered scene.now ps ports.now nets.now fragments.now) }
     ensures { (ps : List ℤ) → Accepts scene.now ps frontiers.now keys.now →
         Gathered scene.now ps ports.now nets.now fragments.now →
@@ -296,7 +295,7 @@ fn print_scene(
     connections: &[i64],
     frontiers: &[i64],
     out: &mut [u8],
-) -> Printed
+) -> Result<usize, Refusal>
     requires { Accepts scene.now connections.now frontiers.now keys.now }
     ensures { PrintedBy (fits (report_of scene.now connections.now frontiers.now) (length out.old)) (report_of scene.now connections.now frontiers.now) out.old out.new result }
 {
@@ -322,14 +321,14 @@ pub(crate) fn print_lists(
     connections: &[i64],
     frontiers: &[i64],
     out: &mut [u8],
-) -> Printed
+) -> Result<usize, Refusal>
     ensures { PrintedBy (lists_checked components.now connections.now frontiers.now (length out.old)) (report_of components.now connections.now frontiers.now) out.old out.new result }
 {
     let mut keys = [0u64; COMPONENTS];
     let count = components.len() / COMPONENT;
     let checked = grouping_lists(components, connections, frontiers, true, &mut keys);
     match checked {
-        Checked::Refused(refusal) => Printed::Refused(refusal),
-        Checked::Accepted => print_scene(&keys[..count], components, connections, frontiers, out),
+        Err(refusal) => Err(refusal),
+        Ok(()) => print_scene(&keys[..count], components, connections, frontiers, out),
     }
 }

@@ -11,7 +11,6 @@ use blocks::inputs::{left_after_input, put_input};
 use blocks::keys::{count_length, put_count};
 use blocks::left_after;
 use inputs::asked::asked_sources;
-use lists::Found;
 
 // The number of this block.
 const INPUTS: u64 = 4;
@@ -42,7 +41,7 @@ fn put_asked(
 
 // How many bytes are left after these lines.
 fn left_after_asked(
-    left: Found,
+    left: Option<usize>,
     keys: &[u64],
     components: &[i64],
     fed: &[u64],
@@ -51,7 +50,7 @@ fn left_after_asked(
     device: u64,
     port: u64,
     status: u64,
-) -> Found
+) -> Option<usize>
     requires id_table { IdTable components.now keys.now }
     requires ready { (ps fs : List ℤ) × Ready components.now ps fs fed.now labels.now upstream.now }
     ensures { (ps fs : List ℤ) → Ready components.now ps fs fed.now labels.now upstream.now →
@@ -102,14 +101,14 @@ pub fn put_rows(
 
 // How many bytes are left after the block.
 pub fn left_after_rows(
-    left: Found,
+    left: Option<usize>,
     keys: &[u64],
     components: &[i64],
     fed: &[u64],
     labels: &[usize],
     upstream: &[u64],
     rows: &[u64],
-) -> Found
+) -> Option<usize>
     requires id_table { IdTable components.now keys.now }
     requires ready { (ps fs : List ℤ) × Ready components.now ps fs fed.now labels.now upstream.now }
     ensures { (ps fs : List ℤ) → Ready components.now ps fs fed.now labels.now upstream.now →

@@ -4,6 +4,7 @@
 --     kept_whole                   they are whole rows
 --     kept_no_missing              so refusal 7 does not arise of them
 -- Assumes nothing.
+use Rattle.std.specs.Prelude.{None}
 use mathlib.Core.Path.{◌≡◌, refl, ap, ◌∙◌}
 use mathlib.Core.Bool.{Bool, true, false}
 use mathlib.Core.List.{List, [], ◌++◌, map, append-nil, map-append}
@@ -19,7 +20,6 @@ use Rattle.lists.specs.Limits.{port_width}
 use Rattle.lists.specs.Signed.{at}
 use Rattle.lists.specs.Records.{PortConnection, connection, connection_count, port_connection, port_count}
 use Rattle.lists.specs.Ids.{has_component, support_transfer, end_missing, first_end_missing}
-use Rattle.lists.specs.declared.Found.TheVariants.{Nothing}
 use Rattle.lists.proofs.Search.{first_nothing}
 use Rattle.faces.specs.Rows.{port_places}
 use Rattle.faces.specs.Select.{support_kind}
@@ -101,7 +101,7 @@ module _ (cs ps : List ℤ) where
   pub kept_whole : length (kept_rows cs ps) % port_width ≡ 0
   kept_whole = rw (length-map (kept_rows cs ps) pos) at (each_below cs ps (connection_count ps)).whole
 
-  pub kept_no_missing : first_end_missing cs (map pos (kept_rows cs ps)) ≡ Nothing
+  pub kept_no_missing : first_end_missing cs (map pos (kept_rows cs ps)) ≡ None
   unfolding first_end_missing
   kept_no_missing =
       let rows = map pos (kept_rows cs ps) in

@@ -1,6 +1,7 @@
 -- The port connections that are kept of an accepted scene are a list that the liveness entry takes: no more of them than connections, and
 -- each field in its range.
 -- Assumes nothing.
+use Rattle.std.specs.Prelude.{Option, Some, None}
 use mathlib.Core.Path.{◌≡◌, refl}
 use mathlib.Core.Bool.{true}
 use mathlib.Core.List.{List, map}
@@ -18,8 +19,6 @@ use Rattle.lists.specs.Records.{Connection, component, connection, component_cou
 use Rattle.lists.specs.Ranges.{port_low, port_high}
 use Rattle.lists.specs.Ids.{place_below, place_of, has_component}
 use Rattle.lists.specs.Within.{Components, PortConnections}
-use Rattle.lists.specs.declared.Found.{Found}
-use Rattle.lists.specs.declared.Found.TheVariants.{At, Nothing}
 use Rattle.lists.proofs.Search.{found_at, never}
 use Rattle.lists.proofs.Fields.{first_most}
 use Rattle.scene.specs.Kept.{link_of, row_by, rows_below, kept_rows, kept_count}
@@ -49,9 +48,9 @@ id_most : (cs : List ℤ) → Components cs → (id : ℕ) → has_component cs 
 unfolding place_below
 id_most cs w id h = go (place_of cs id) refl h
   where
-    go : (f : Found) → place_of cs id ≡ f → is_found f ≡ true → id ≤ 4294967295
-    go Nothing e t = never t
-    go (At p) e t =
+    go : (f : Option ℕ) → place_of cs id ≡ f → is_found f ≡ true → id ≤ 4294967295
+    go None e t = never t
+    go (Some p) e t =
         let f = found_at (λ k. eqb (component cs k).id id) 0 (component_count cs) p e in
         let below : p < component_count cs = omega (arith, f.below) in
         omega (arith, eqb-true (component cs p).id id f.passes, first_most w p below (omega arith) 4294967295 refl refl)

@@ -2,6 +2,7 @@
 --     between_none, between_some        the ports of a connection by the face of its step
 --     Linked, linked                    both ends are components, their ports are below seven, and the kind is not Support
 -- Assumes nothing.
+use Rattle.std.specs.Prelude.{Option, Some, None}
 use mathlib.Core.Path.{◌≡◌, refl, sym, ap, ◌∙◌}
 use mathlib.Core.Bool.{Bool, true, false, cond}
 use mathlib.Core.List.{List}
@@ -14,8 +15,6 @@ use borrow.Author.Tests.{eqb-true, ne_eqb}
 use Rattle.lists.specs.First.{is_found}
 use Rattle.lists.specs.Records.{Component, Connection, component}
 use Rattle.lists.specs.Ids.{place_of, has_component}
-use Rattle.lists.specs.declared.Found.{Found}
-use Rattle.lists.specs.declared.Found.TheVariants.{At, Nothing}
 use Rattle.lists.proofs.Search.{FoundAt, found_at, both}
 use Rattle.faces.specs.Ports.{Port, NoFace, Down, Structural, opposite, ports_of}
 use Rattle.faces.specs.Rows.{port_places}
@@ -38,14 +37,14 @@ module _ (source sink : Component) (kind : ℕ) where
   between_some face e h = rw (← e, ne_eqb face NoFace h)
 
 pub record Chosen (source sink : Component) (kind i j : ℕ) : Type 0 where
-  pub out : select_port (ports_of source) (step_face source sink) true kind ≡ At i
-  pub into : select_port (ports_of sink) (opposite (step_face source sink)) false kind ≡ At j
+  pub out : select_port (ports_of source) (step_face source sink) true kind ≡ Some i
+  pub into : select_port (ports_of sink) (opposite (step_face source sink)) false kind ≡ Some j
 
-both_chosen : (t : Bool) (f g : Found) (i j : ℕ) → cond t Dropped (both_ports f g) ≡ Ports i j → (f ≡ At i) × (g ≡ At j)
+both_chosen : (t : Bool) (f g : Option ℕ) (i j : ℕ) → cond t Dropped (both_ports f g) ≡ Ports i j → (f ≡ Some i) × (g ≡ Some j)
 both_chosen true f g i j e = let z : ◌≡◌ {A = ℕ} 0 1 = cc in absurd (omega arith)
-both_chosen false Nothing g i j e = let z : ◌≡◌ {A = ℕ} 0 1 = cc in absurd (omega arith)
-both_chosen false (At a) Nothing i j e = let z : ◌≡◌ {A = ℕ} 0 1 = cc in absurd (omega arith)
-both_chosen false (At a) (At b) i j e = (cc, cc)
+both_chosen false None g i j e = let z : ◌≡◌ {A = ℕ} 0 1 = cc in absurd (omega arith)
+both_chosen false (Some a) None i j e = let z : ◌≡◌ {A = ℕ} 0 1 = cc in absurd (omega arith)
+both_chosen false (Some a) (Some b) i j e = (cc, cc)
 
 chosen : (source sink : Component) (kind i j : ℕ) → ports_between source sink kind ≡ Ports i j → Chosen source sink kind i j
 unfolding ports_between
@@ -61,12 +60,12 @@ pub record Picked (c : Component) (face : ℕ) (outgoing : Bool) (kind i : ℕ) 
   pub faces : (port_at (ports_of c) i).face ≡ face
   pub fit : fits (port_at (ports_of c) i) outgoing kind ≡ true
 
-first_fitting : (ports : List Port) (face : ℕ) (outgoing : Bool) (kind i : ℕ) → select_port ports face outgoing kind ≡ At i
+first_fitting : (ports : List Port) (face : ℕ) (outgoing : Bool) (kind i : ℕ) → select_port ports face outgoing kind ≡ Some i
     → FoundAt (λ k. serves (port_at ports k) face outgoing kind) 0 (length ports) i
 unfolding select_port
 first_fitting ports face outgoing kind i e = found_at (λ k. serves (port_at ports k) face outgoing kind) 0 (length ports) i e
 
-picked : (c : Component) (face : ℕ) (outgoing : Bool) (kind i : ℕ) → select_port (ports_of c) face outgoing kind ≡ At i → Picked c face outgoing kind i
+picked : (c : Component) (face : ℕ) (outgoing : Bool) (kind i : ℕ) → select_port (ports_of c) face outgoing kind ≡ Some i → Picked c face outgoing kind i
 unfolding serves
 picked c face outgoing kind i e =
     let f = first_fitting (ports_of c) face outgoing kind i e in
@@ -106,10 +105,10 @@ pub record Linked (cs : List ℤ) (p : Connection) (i j : ℕ) : Type 0 where
 pub linked : (cs : List ℤ) (p : Connection) (i j : ℕ) → link_of cs p ≡ Ports i j → Linked cs p i j
 linked cs p i j e = go (place_of cs p.source) (place_of cs p.sink) refl refl e
   where
-    go : (f g : Found) → place_of cs p.source ≡ f → place_of cs p.sink ≡ g → link_between cs p.kind f g ≡ Ports i j → Linked cs p i j
-    go Nothing g a b h = let z : ◌≡◌ {A = ℕ} 0 1 = cc in absurd (omega arith)
-    go (At x) Nothing a b h = let z : ◌≡◌ {A = ℕ} 0 1 = cc in absurd (omega arith)
-    go (At x) (At y) a b h =
+    go : (f g : Option ℕ) → place_of cs p.source ≡ f → place_of cs p.sink ≡ g → link_between cs p.kind f g ≡ Ports i j → Linked cs p i j
+    go None g a b h = let z : ◌≡◌ {A = ℕ} 0 1 = cc in absurd (omega arith)
+    go (Some x) None a b h = let z : ◌≡◌ {A = ℕ} 0 1 = cc in absurd (omega arith)
+    go (Some x) (Some y) a b h =
         let from = component cs x in
         let to = component cs y in
         let c = chosen from to p.kind i j h in

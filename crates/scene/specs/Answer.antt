@@ -1,13 +1,13 @@
 -- What the ports entry answers (document 01, after the table of refusals): number, list and item of a refusal, which changes no slice; or
 -- number 0 and how many port connections are kept, and these as rows in the lent slice.
 -- Assumes nothing: these are definitions.
+use Rattle.std.specs.Prelude.{Result, Ok, Err}
+use Rattle.lists.specs.declared.Refusal.{Refusal}
 use Rattle.std.specs.Prelude.{ℕ, ◌+◌, ◌*◌, ◌≡◌, List, [], ◌∷◌, ◌++◌, map, length, take, drop, ℤ, pos}
 use Rattle.lists.specs.Limits.{port_width}
 use Rattle.checks.specs.Refusals.{ports_refusal, refusal_numbers, numbers_by}
 use Rattle.lists.specs.Slices.{laid, left_of}
 use Rattle.scene.specs.Kept.{kept_rows, kept_count}
-use Rattle.scene.specs.declared.connections.Selected.{Selected}
-use Rattle.scene.specs.declared.connections.Selected.TheVariants.{Kept, Refused}
 
 -- ---- what the code writes on the way
 
@@ -28,14 +28,14 @@ pub record AllKept (cs ps out out' : List ℤ) (r : ℕ) : Type 0 where
 -- ---- what the entry answers
 
 -- the numbers of each case: 0 and the count, or those of the refusal
-abbrev pub answer_of : Selected → List ℕ
-answer_of (Kept count) = 0 ∷ count ∷ []
-answer_of (Refused r) = refusal_numbers r
+abbrev pub answer_of : Result ℕ Refusal → List ℕ
+answer_of (Ok count) = 0 ∷ count ∷ []
+answer_of (Err r) = refusal_numbers r
 
 -- the answer for these lists and a lent slice of n numbers
 abbrev pub ports_answer : List ℤ → List ℤ → ℕ → List ℕ
 ports_answer cs ps n = numbers_by (ports_refusal cs ps n) (kept_count cs ps ∷ [])
 
-pub record Answered (cs ps out out' : List ℤ) (r : Selected) : Type 0 where
+pub record Answered (cs ps out out' : List ℤ) (r : Result ℕ Refusal) : Type 0 where
   pub answer : answer_of r ≡ ports_answer cs ps (length out)
   pub left : out' ≡ left_of (ports_refusal cs ps (length out)) (map pos (kept_rows cs ps)) out

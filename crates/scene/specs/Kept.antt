@@ -1,12 +1,11 @@
 -- The port connections that are kept of a scene's grouping connections (document 01, "scene.rs: ports"): an end with no component, face or
 -- port drops the connection. Those kept stay in order.
 -- Assumes nothing: these are definitions.
+use Rattle.std.specs.Prelude.{Option, Some, None}
 use Rattle.std.specs.Prelude.{ℕ, zero, suc, ◌/◌, true, false, cond, List, [], ◌∷◌, ◌++◌, eqb, length, ℤ}
 use Rattle.lists.specs.Limits.{port_width}
 use Rattle.lists.specs.Records.{Component, Connection, component, connection, connection_count}
 use Rattle.lists.specs.Ids.{place_of}
-use Rattle.lists.specs.declared.Found.{Found}
-use Rattle.lists.specs.declared.Found.TheVariants.{At, Nothing}
 use Rattle.faces.specs.Ports.{NoFace, opposite, ports_of}
 use Rattle.faces.specs.Step.{step_face}
 use Rattle.faces.specs.Select.{select_port, transfer_of}
@@ -14,10 +13,10 @@ use Rattle.scene.specs.declared.connections.Link.{Link}
 use Rattle.scene.specs.declared.connections.Link.TheVariants.{Ports, Dropped}
 
 -- a port at each end
-abbrev pub both_ports : Found → Found → Link
-both_ports (At i) (At j) = Ports i j
-both_ports (At i) Nothing = Dropped
-both_ports Nothing sink = Dropped
+abbrev pub both_ports : Option ℕ → Option ℕ → Link
+both_ports (Some i) (Some j) = Ports i j
+both_ports (Some i) None = Dropped
+both_ports None sink = Dropped
 
 -- the source's port at the step's face and the sink's at the opposite one
 unfoldable pub ports_between : Component → Component → ℕ → Link
@@ -27,10 +26,10 @@ ports_between source sink kind =
     (both_ports (select_port (ports_of source) face true kind) (select_port (ports_of sink) (opposite face) false kind))
 
 -- between the components at two places
-abbrev pub link_between : List ℤ → ℕ → Found → Found → Link
-link_between cs kind (At a) (At b) = ports_between (component cs a) (component cs b) kind
-link_between cs kind (At a) Nothing = Dropped
-link_between cs kind Nothing sink = Dropped
+abbrev pub link_between : List ℤ → ℕ → Option ℕ → Option ℕ → Link
+link_between cs kind (Some a) (Some b) = ports_between (component cs a) (component cs b) kind
+link_between cs kind (Some a) None = Dropped
+link_between cs kind None sink = Dropped
 
 abbrev pub link_of : List ℤ → Connection → Link
 link_of cs p = link_between cs p.kind (place_of cs p.source) (place_of cs p.sink)

@@ -17,7 +17,7 @@ use faces::select::{select_port, transfer_of};
 use faces::step::{facing_between, opposite_face};
 use lists::hints::{HINTS, hint_ids, place_near};
 use lists::numbers::natural_at;
-use lists::{COMPONENT, COMPONENTS, CONNECTION, Checked, Found, PORT, Refusal};
+use lists::{COMPONENT, COMPONENTS, CONNECTION, PORT, Refusal};
 
 // The ports that a connection takes at its ends, or none.
 #[derive(Clone, Copy)]
@@ -26,15 +26,8 @@ pub enum Link {
     Dropped,
 }
 
-// How many port connections are kept, or why the scene is refused.
-#[derive(Clone, Copy)]
-pub enum Selected {
-    Kept(usize),
-    Refused(Refusal),
-}
-
 // The port that component k has for a connection at a face.
-fn port_at(components: &[i64], k: usize, face: u64, outgoing: bool, kind: u64) -> Found
+fn port_at(components: &[i64], k: usize, face: u64, outgoing: bool, kind: u64) -> Option<usize>
     requires components { Components components.now }
     requires k_bound { k < component_count components.now }
     ensures { result ≡ select_port (ports_of (component components.now k)) face outgoing kind }
@@ -81,11 +74,11 @@ fn ports_between(components: &[i64], a: usize, b: usize, kind: u64) -> Link
         return Link::Dropped;
     }
     let out = port_at(components, a, face, true, kind);
-    let Found::At(source) = out else {
+    let Some(source) = out else {
         return Link::Dropped;
     };
     let into = port_at(components, b, opposite_face(face), false, kind);
-    let Found::At(sink) = into else {
+    let Some(sink) = into else {
         return Link::Dropped;
     };
     Link::Ports { source, sink }
@@ -107,11 +100,11 @@ fn link_of(
 {
     let at = k * CONNECTION;
     let from = place_near(keys, hints, natural_at(connections, at));
-    let Found::At(a) = from else {
+    let Some(a) = from else {
         return Link::Dropped;
     };
     let to = place_near(keys, hints, natural_at(connections, at + 1));
-    let Found::At(b) = to else {
+    let Some(b) = to else {
         return Link::Dropped;
     };
     ports_between(components, a, b, natural_at(connections, at + 2))
@@ -187,7 +180,7 @@ pub fn keep_all(components: &[i64], keys: &[u64], connections: &[i64], out: &mut
 }
 
 // The port connections of a scene, in the order of its grouping connections, as rows at the front of `out`.
-pub fn port_connections(components: &[i64], connections: &[i64], out: &mut [i64]) -> Selected
+pub fn port_connections(components: &[i64], connections: &[i64], out: &mut [i64]) -> Result<usize, Refusal>
     ensures { Answered components.now connections.now out.old out.new result }
 {
     let enough = room_for(connections.len() / CONNECTION, PORT, out.len());
@@ -199,9 +192,9 @@ pub fn port_connections(components: &[i64], connections: &[i64], out: &mut [i64]
         enough,
         &mut keys,
     );
-    if let Checked::Refused(refusal) = checked {
-        return Selected::Refused(refusal);
+    if let Err(refusal) = checked {
+        return Err(refusal);
     }
     let count = components.len() / COMPONENT;
-    Selected::Kept(keep_all(components, &keys[..count], connections, out))
+    Ok(keep_all(components, &keys[..count], connections, out))
 }

@@ -5,6 +5,8 @@
 -- "A negative count is 9, and a missing or extra line is 9 at its place. A count over its limit is refusal 1 with that list's number and the
 -- limit as item; 9 or 1 comes by whichever line is first, before all else."
 -- Assumes nothing: these are definitions.
+use Rattle.lists.specs.declared.Fault.{Fault}
+use Rattle.std.specs.Prelude.{None}
 use Rattle.std.specs.Prelude.{ℕ, zero, suc, ◌+◌, ◌*◌, min, cond, List, [], ◌∷◌, leb, ℤ, length}
 use Rattle.lines.specs.Line.{Taken, taken, refused, read_line, natural}
 use Rattle.lists.specs.Limits.{component_limit, connection_limit, frontier_limit}
@@ -42,7 +44,7 @@ pub data Part : Type 0 where
 
 -- 9 at a line of the sheet
 abbrev pub bad_line : ℕ → Refusal
-bad_line line = record { number = 9; list = 3; item = line }
+bad_line line = record { fault = Fault.BadLine; list = None; item = line }
 
 -- 1: a count over its limit
 abbrev pub over_limit : ℕ → ℕ → Refusal

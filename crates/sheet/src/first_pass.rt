@@ -34,8 +34,8 @@ fn bad_line(line: usize) -> Refusal
     ensures { result ≡ bad_line line }
 {
     Refusal {
-        number: 9,
-        list: 3,
+        fault: Fault::BadLine,
+        list: None,
         item: line,
     }
 }

@@ -37,12 +37,6 @@ pub struct Counts {
     pub frontiers: usize,
 }
 
-#[derive(Clone, Copy)]
-pub enum Reading {
-    Read(Counts),
-    Refused(Refusal),
-}
-
 // Reads a sheet into lent work lists. The limits, the most records of each list, are cut to those of a scene.
 pub fn read_sheet(
     text: &[u8],
@@ -50,12 +44,12 @@ pub fn read_sheet(
     components: &mut [i64],
     connections: &mut [i64],
     frontiers: &mut [i64],
-) -> Reading
+) -> Result<Counts, Refusal>
     ensures { SheetRead (parse limits.components limits.connections limits.frontiers text.now) components.old components.new connections.old connections.new frontiers.old frontiers.new result }
 {
     let outline = check_sheet(text, limits);
     match outline {
-        Outline::Refused(refusal) => Reading::Refused(refusal),
+        Outline::Refused(refusal) => Err(refusal),
         Outline::Good(places) => {
             let c = places.components;
             let p = places.connections;
@@ -64,14 +58,14 @@ pub fn read_sheet(
                 & room_for(p.count, CONNECTION, connections.len())
                 & room_for(f.count, FRONTIER, frontiers.len());
             if !enough {
-                return Reading::Refused(Refusal {
-                    number: 2,
-                    list: 3,
+                return Err(Refusal {
+                    fault: Fault::ShortSlice,
+                    list: None,
                     item: 0,
                 });
             }
             store_sheet(text, places, components, connections, frontiers);
-            Reading::Read(Counts {
+            Ok(Counts {
                 components: c.count,
                 connections: p.count,
                 frontiers: f.count,

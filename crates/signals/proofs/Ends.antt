@@ -5,6 +5,7 @@
 --     member_is                a used id has the member of a component exactly where it is its id
 --     source_is, sink_is       so an end is a component exactly where it has its member
 -- Assumes nothing.
+use Rattle.std.specs.Prelude.{Option, Some, None}
 use mathlib.Core.Path.{◌≡◌, refl, sym, ap, ◌∙◌}
 use mathlib.Core.Bool.{Bool, true, false, not, ◌&&◌}
 use mathlib.Core.Logic.{⊎_elim}
@@ -19,8 +20,6 @@ use Rattle.tables.specs.Laws.{same?, order?}
 use Rattle.lists.specs.Records.{component, port_connection, component_count, port_count}
 use Rattle.lists.specs.First.{is_found}
 use Rattle.lists.specs.Ids.{place_below, place_of, has_component, end_missing, first_end_missing, smaller_ids, member_of}
-use Rattle.lists.specs.declared.Found.{Found}
-use Rattle.lists.specs.declared.Found.TheVariants.{At, Nothing}
 use Rattle.lists.proofs.Search.{never, both, found_at, none_found}
 use Rattle.lists.proofs.Members.{smaller_less, member_below}
 use Rattle.signals.specs.Signals.{is_signal, source_member, sink_member}
@@ -36,11 +35,11 @@ pub found_place : (cs : List ℤ) (id : ℕ) → has_component cs id ≡ true �
 unfolding place_below
 found_place cs id e = go (place_of cs id) refl e
   where
-    go : (x : Found) → place_of cs id ≡ x → is_found x ≡ true → (p : ℕ) × (p < component_count cs) × ((component cs p).id ≡ id)
-    go (At p) q t =
+    go : (x : Option ℕ) → place_of cs id ≡ x → is_found x ≡ true → (p : ℕ) × (p < component_count cs) × ((component cs p).id ≡ id)
+    go (Some p) q t =
         let f = found_at (λ k. eqb (component cs k).id id) 0 (component_count cs) p q in
         (p, omega (arith, f.below), eqb-true (component cs p).id id f.passes)
-    go Nothing q t = never t
+    go None q t = never t
 
 pub found_below : (cs : List ℤ) (id : ℕ) → has_component cs id ≡ true → smaller_ids cs id < component_count cs
 found_below cs id e =
@@ -79,7 +78,7 @@ not_missing : (s e : Bool) → (s && not e) ≡ false → s ≡ true → e ≡ t
 not_missing true e q t = not-false e q
 not_missing false e q t = never t
 
-module _ (cs ps : List ℤ) (ends : first_end_missing cs ps ≡ Nothing) where
+module _ (cs ps : List ℤ) (ends : first_end_missing cs ps ≡ None) where
   pub ends_below : (k : ℕ) → k < port_count ps → is_signal ps k ≡ true → Ended cs ps k
   unfolding first_end_missing
   ends_below k h signal =

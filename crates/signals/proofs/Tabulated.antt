@@ -4,6 +4,7 @@
 --     member_tab              a value is a member where the function has it at some place
 --     first_cong              a search by a test that is the same
 -- Assumes nothing.
+use Rattle.std.specs.Prelude.{Option, Some, None}
 use mathlib.Core.Path.{◌≡◌, refl, sym, ◌∙◌}
 use mathlib.Core.Bool.{Bool}
 use mathlib.Core.Logic.{⊎_elim}
@@ -20,8 +21,6 @@ use Rattle.tables.specs.Order.{member}
 use Rattle.tables.specs.Laws.{at_member, member_none}
 use Rattle.lists.specs.Records.{port_count}
 use Rattle.lists.specs.First.{first_from, is_found, some, tabulate}
-use Rattle.lists.specs.declared.Found.{Found}
-use Rattle.lists.specs.declared.Found.TheVariants.{At, Nothing}
 use Rattle.lists.proofs.Search.{found_at, none_found}
 use Rattle.signals.specs.Signals.{is_signal}
 use Rattle.signals.specs.Keys.{signal_key, signal_keys}
@@ -57,12 +56,12 @@ module _ (f : ℕ → ℕ) where
   pub member_tab : (n v : ℕ) → member v (tabulate f n) ≡ some (λ k. eqb (f k) v) n
   member_tab n v = go (first_from (λ k. eqb (f k) v) 0 n) refl
     where
-      go : (x : Found) → first_from (λ k. eqb (f k) v) 0 n ≡ x → member v (tabulate f n) ≡ is_found x
-      go (At p) e =
+      go : (x : Option ℕ) → first_from (λ k. eqb (f k) v) 0 n ≡ x → member v (tabulate f n) ≡ is_found x
+      go (Some p) e =
           let p-found = found_at (λ k. eqb (f k) v) 0 n p e in
           let h : p < n = omega (arith, p-found.below) in
           at_member v (tabulate f n) p (rw (tab_length n) h) (tab_at n p h ∙ eqb-true (f p) v p-found.passes)
-      go Nothing e =
+      go None e =
           member_none v (tabulate f n) (λ k h q.
           let l : k < n = rw (tab_length n) at h in
           eqb-false (f k) v (none_found (λ k. eqb (f k) v) 0 n e k (omega arith) (omega arith)) (sym (tab_at n k l) ∙ q))

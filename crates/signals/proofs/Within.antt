@@ -6,6 +6,7 @@
 --     labels_under                        all of them
 --     places_under                        the regions of the components, by list place
 -- Assumes nothing.
+use Rattle.std.specs.Prelude.{None}
 use mathlib.Core.Path.{◌≡◌}
 use mathlib.Core.Bool.{true, ◌&&◌}
 use mathlib.Core.List.{List}
@@ -17,7 +18,6 @@ use lib.IntN.{ℤ}
 use borrow.Author.Tests.{eqb-true}
 use Rattle.lists.specs.Records.{component_count, port_count}
 use Rattle.lists.specs.Ids.{first_end_missing}
-use Rattle.lists.specs.declared.Found.TheVariants.{Nothing}
 use Rattle.lists.proofs.Search.{both}
 use Rattle.lists.proofs.Members.{member_below}
 use Rattle.regions.specs.Graph.{Within, at}
@@ -41,7 +41,7 @@ module _ (cs ps : List ℤ) where
       let g = both (eqb (source_member cs ps k) a) (eqb (sink_member cs ps k) b) e.1 in
       (k, h, e.0, eqb-true (source_member cs ps k) a g.0, eqb-true (sink_member cs ps k) b g.1)
 
-module _ (cs ps : List ℤ) (ends : first_end_missing cs ps ≡ Nothing) where
+module _ (cs ps : List ℤ) (ends : first_end_missing cs ps ≡ None) where
   pub signals_within : Within (component_count cs) (signals cs ps)
   signals_within a b e =
       let (k, h, signal, p, q) = signal_at cs ps a b e in

@@ -1,10 +1,9 @@
 -- Arrays of flags and of counts, as the functions of this crate leave them.
 -- Assumes nothing: these are definitions.
+use Rattle.std.specs.Prelude.{Option, Some, None}
 use Rattle.std.specs.Prelude.{ℕ, ◌≤◌, ◌<◌, ◌≡◌, Bool, true, ◌&&◌, List, eqb, length, get_or, set}
 use Rattle.sets.specs.Members.{count_below}
 use Rattle.lists.specs.First.{some}
-use Rattle.lists.specs.declared.Found.{Found}
-use Rattle.lists.specs.declared.Found.TheVariants.{At, Nothing}
 use Rattle.regions.specs.Graph.{marked}
 
 -- the first n flags are the values of P
@@ -35,9 +34,9 @@ pub record Indices (n m : ℕ) (index : List ℕ) : Type 0 where
   pub below : (p : ℕ) → p < n → get_or index p 0 < m
 
 -- the flag of the place that was found is set, and no other changes
-abbrev pub flag_found : Found → List Bool → List Bool
-flag_found (At p) flags = set flags p true
-flag_found Nothing flags = flags
+abbrev pub flag_found : Option ℕ → List Bool → List Bool
+flag_found (Some p) flags = set flags p true
+flag_found None flags = flags
 
-pub record FirstFlagged (found : Found) (flags flags' : List Bool) : Type 0 where
+pub record FirstFlagged (found : Option ℕ) (flags flags' : List Bool) : Type 0 where
   pub is : flags' ≡ flag_found found flags

@@ -4,13 +4,12 @@
 --     is_cyclic, holds_drive       of a region's number
 --     is_inferred               of a list place
 -- Assumes nothing: these are definitions.
+use Rattle.std.specs.Prelude.{Option, Some, None}
 use Rattle.std.specs.Prelude.{ℕ, Bool, not, ◌&&◌, ◌||◌, List, eqb, leb, ℤ}
 use Rattle.sets.specs.Members.{count_below}
 use Rattle.lists.specs.Records.{component, port_connection, component_count, port_count}
 use Rattle.lists.specs.First.{some, tabulate}
 use Rattle.lists.specs.Ids.{place_of, member_of}
-use Rattle.lists.specs.declared.Found.{Found}
-use Rattle.lists.specs.declared.Found.TheVariants.{At, Nothing}
 use Rattle.regions.specs.Graph.{at}
 use Rattle.regions.specs.Kosaraju.{region_of, count}
 use Rattle.signals.specs.Signals.{is_signal, source_member, sink_member, signals}
@@ -47,9 +46,9 @@ wire = 0
 abbrev pub is_passive : ℕ → Bool
 is_passive kind = eqb kind 9 || eqb kind 10
 
-abbrev pub kind_at : List ℤ → Found → ℕ
-kind_at cs (At p) = (component cs p).kind
-kind_at cs Nothing = 0
+abbrev pub kind_at : List ℤ → Option ℕ → ℕ
+kind_at cs (Some p) = (component cs p).kind
+kind_at cs None = 0
 
 -- the region gets a connection from another region's component
 unfoldable pub fed_from_outside : List ℤ → List ℤ → ℕ → Bool

@@ -1,17 +1,16 @@
 -- Drive sources (document 01, "liveness.rs"): kinds 4, 5, 6 (source kind 0), 7, 3 (source kind 1), and the first listed component at each
 -- frontier's position (2). Components are named by their list place.
 -- Assumes nothing: these are definitions.
+use Rattle.std.specs.Prelude.{Option, Some, None}
 use Rattle.std.specs.Prelude.{ℕ, ◌≤◌, ◌<◌, ◌≡◌, Bool, true, false, ◌&&◌, ◌||◌, List, [], ◌∷◌, eqb, get_or, ℤ}
 use Rattle.std.specs.Int.Signed.{lt_z}
 use Rattle.lists.specs.Signed.{eq_z, less_then}
 use Rattle.lists.specs.Records.{Component, Position, component, frontier, component_count, frontier_count}
 use Rattle.lists.specs.First.{first_from, is_found, some}
-use Rattle.lists.specs.declared.Found.{Found}
-use Rattle.lists.specs.declared.Found.TheVariants.{At, Nothing}
 
 -- the source kind of a block, in the order of the kinds: Lever, Button, PressurePlate 0; RedstoneTorch, RedstoneBlock 1
-unfoldable pub source_kind : ℕ → Found
-source_kind kind = get_or (Nothing ∷ Nothing ∷ Nothing ∷ At 1 ∷ At 0 ∷ At 0 ∷ At 0 ∷ At 1 ∷ []) kind Nothing
+unfoldable pub source_kind : ℕ → Option ℕ
+source_kind kind = get_or (None ∷ None ∷ None ∷ Some 1 ∷ Some 0 ∷ Some 0 ∷ Some 0 ∷ Some 1 ∷ []) kind None
 
 abbrev pub same_position : Component → Position → Bool
 same_position c at = eq_z c.x at.x && (eq_z c.y at.y && eq_z c.z at.z)
@@ -27,12 +26,12 @@ pub record Parted (cs : List ℤ) (at : Position) (r : ℕ) : Type 0 where
   pub from : (p : ℕ) → r ≤ p → p < component_count cs → before_position (component cs p) at ≡ false
 
 -- the first listed component at a position
-unfoldable pub first_at : List ℤ → Position → Found
+unfoldable pub first_at : List ℤ → Position → Option ℕ
 first_at cs at = first_from (λ p. same_position (component cs p) at) 0 (component_count cs)
 
-abbrev pub is_at : ℕ → Found → Bool
-is_at p (At q) = eqb q p
-is_at p Nothing = false
+abbrev pub is_at : ℕ → Option ℕ → Bool
+is_at p (Some q) = eqb q p
+is_at p None = false
 
 -- the component at place p is the first at some frontier's position
 unfoldable pub is_on_frontier : List ℤ → List ℤ → ℕ → Bool

@@ -1,4 +1,5 @@
 // The stages of the analysis over local arrays: tables of edges, regions.
+ghost use Rattle.std.specs.Prelude.{None};
 ghost use Rattle.std.specs.Prelude.{◌≡◌, ◌||◌, List, ◌*◌, ◌≤◌, leb, length, get_or, ℤ};
 ghost use Rattle.tables.specs.Order.{Ascending};
 ghost use Rattle.lists.specs.Limits.{component_limit};
@@ -7,7 +8,6 @@ ghost use Rattle.lists.specs.Ids.{IdTable, IsIdTable, member_of, first_repeated}
 ghost use Rattle.lists.specs.Ends.{Settled, SettledEnds};
 ghost use Rattle.lists.specs.Within.{PortConnections};
 ghost use Rattle.lists.specs.First.{some};
-ghost use Rattle.lists.specs.declared.Found.TheVariants.{Nothing};
 ghost use Rattle.regions.specs.Keys.{edges, Reversed};
 ghost use Rattle.regions.specs.Graph.{marked};
 ghost use Rattle.regions.specs.Search.{Zeros, Regions};
@@ -89,7 +89,7 @@ pub fn find_regions(
 // The member of each component, by list place.
 pub fn place_members(keys: &[u64], members: &mut [usize])
     requires { IsIdTable keys.now × (length keys.now ≤ length members.old) }
-    ensures { (cs : List ℤ) → IdTable cs keys.now → first_repeated cs ≡ Nothing → Numbers (component_count cs) (member_of cs) members.new }
+    ensures { (cs : List ℤ) → IdTable cs keys.now → first_repeated cs ≡ None → Numbers (component_count cs) (member_of cs) members.new }
 {
     let mut m: usize = 0;
     while m < keys.len() {

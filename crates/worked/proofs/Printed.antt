@@ -1,5 +1,7 @@
 -- The worked sheet of document 01, as antt computes it, and what the sheet entry leaves when it is handed that sheet.
 -- Assumes nothing.
+use Rattle.std.specs.Prelude.{⊤, Result, Ok}
+use Rattle.lists.specs.declared.Refusal.{Refusal}
 use Prim.Native.Nat.{ℕ}
 use mathlib.Core.Path.{◌≡◌, refl, ap, ap₂, ◌∙◌}
 use mathlib.Core.List.{List, [], ◌∷◌}
@@ -12,8 +14,6 @@ use Rattle.lists.specs.Order.{record_before, first_not_ascending}
 use Rattle.lists.specs.Ids.{place_below, first_repeated, smaller_ids}
 use Rattle.checks.specs.Refusals.{not_whole, grouping_lists, sheet_refusal, ◌or_else◌}
 use Rattle.lists.specs.Slices.{laid, left_of}
-use Rattle.lists.specs.declared.Checked.{Checked}
-use Rattle.lists.specs.declared.Checked.TheVariants.{Accepted}
 use Rattle.lines.specs.Decimal.{digits_then}
 use Rattle.lines.specs.Line.{read_digits, read_end, read_magnitude, read_number, has_key, read_line}
 use Rattle.sheet.specs.Sheet.{Parsed, Lists, read_fields, read_list, parse}
@@ -37,8 +37,6 @@ use Rattle.inputs.specs.Query.{is_immediate, upstream, is_inferred_for}
 use Rattle.blocks.specs.Lines.{spaced}
 use Rattle.report.specs.Report.{all_rows, member_id, ids_below, port_lines, verdict_lines, report_of}
 use Rattle.report.specs.Entry.{fits, answer_by, report_checked, Reported}
-use Rattle.report.specs.declared.Printed.{Printed}
-use Rattle.report.specs.declared.Printed.TheVariants.{Written}
 use Rattle.worked.specs.Example.{sheet_text, lever_and_repeater, from_lever, and_support, report_text, program_parse, Example}
 use Rattle.worked.proofs.Forests.{single_places_lem}
 use Rattle.worked.proofs.Dropped.{dropped_uncounted}
@@ -64,26 +62,26 @@ example_prints = simp (example_nets, example_fragments)
 example_drops : report_of lever_and_repeater and_support [] ≡ report_text
 example_drops = dropped_uncounted ∙ example_prints
 
-lists_accepted : sheet_refusal lever_and_repeater from_lever [] ≡ Accepted
+lists_accepted : sheet_refusal lever_and_repeater from_lever [] ≡ Ok tt
 unfolding first_from all_from record_in_range first_out_of_range record_before first_not_ascending place_below first_repeated not_whole grouping_lists
 lists_accepted = refl
 
-example_accepts : report_checked (Lists lever_and_repeater from_lever []) 2048 3072 768 65536 ≡ Accepted
-example_accepts = ap₂ (λ (lists : Checked) (text : List ℕ). lists or_else fits text 65536) lists_accepted example_prints
+example_accepts : report_checked (Lists lever_and_repeater from_lever []) 2048 3072 768 65536 ≡ Ok tt
+example_accepts = ap₂ (λ (lists : Result ⊤ Refusal) (text : List ℕ). lists or_else fits text 65536) lists_accepted example_prints
 
 pub example : Example
 example = record { reads = example_reads; accepts = example_accepts; prints = example_prints; drops = example_drops }
 
 -- lent what the program lends, the sheet entry writes exactly these bytes, at the front of the buffer
-pub example_printed : (components components' connections connections' frontiers frontiers' : List ℤ) (out out' : List ℕ) (r : Printed)
+pub example_printed : (components components' connections connections' frontiers frontiers' : List ℤ) (out out' : List ℕ) (r : Result ℕ Refusal)
     → length components ≡ 2048 → length connections ≡ 3072 → length frontiers ≡ 768 → length out ≡ 65536
     → Reported (program_parse sheet_text) components components' connections connections' frontiers frontiers' out out' r
-    → (r ≡ Written (length report_text)) × (out' ≡ laid report_text out)
+    → (r ≡ Ok (length report_text)) × (out' ≡ laid report_text out)
 example_printed components components' connections connections' frontiers frontiers' out out' r a b c d left =
-    (left.printed.answer ∙ ap₂ answer_by accepted text, left.printed.left ∙ ap₂ (λ (checks : Checked) (t : List ℕ). left_of checks t out) accepted text)
+    (left.printed.answer ∙ ap₂ answer_by accepted text, left.printed.left ∙ ap₂ (λ (checks : Result ⊤ Refusal) (t : List ℕ). left_of checks t out) accepted text)
   where
     text : report_of (components_of (program_parse sheet_text)) (connections_of (program_parse sheet_text)) (frontiers_of (program_parse sheet_text)) ≡ report_text
     text = ap (λ (p : Parsed). report_of (components_of p) (connections_of p) (frontiers_of p)) example_reads ∙ example_prints
 
-    accepted : report_checked (program_parse sheet_text) (length components) (length connections) (length frontiers) (length out) ≡ Accepted
+    accepted : report_checked (program_parse sheet_text) (length components) (length connections) (length frontiers) (length out) ≡ Ok tt
     accepted = rw (example_reads, a, b, c, d, example_accepts)

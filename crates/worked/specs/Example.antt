@@ -4,8 +4,8 @@
 --     Example                   the sheet is read as these lists, no check refuses it, and its report is those bytes, also with a connection
 --                               more that is dropped
 -- Assumes nothing: these are definitions.
+use Rattle.std.specs.Prelude.{Ok}
 use Rattle.std.specs.Prelude.{ℕ, ◌≡◌, List, [], ◌∷◌, ℤ, pos}
-use Rattle.lists.specs.declared.Checked.TheVariants.{Accepted}
 use Rattle.lines.specs.Text.{ascii}
 use Rattle.sheet.specs.Sheet.{Parsed, Lists, parse}
 use Rattle.report.specs.Report.{report_of}
@@ -38,6 +38,6 @@ program_parse text = parse 256 1024 256 text
 -- the program lends work lists for as many, of eight, three and three numbers each, and 65,536 bytes
 pub record Example : Type 0 where
   pub reads : program_parse sheet_text ≡ Lists lever_and_repeater from_lever []
-  pub accepts : report_checked (Lists lever_and_repeater from_lever []) 2048 3072 768 65536 ≡ Accepted
+  pub accepts : report_checked (Lists lever_and_repeater from_lever []) 2048 3072 768 65536 ≡ Ok tt
   pub prints : report_of lever_and_repeater from_lever [] ≡ report_text
   pub drops : report_of lever_and_repeater and_support [] ≡ report_text

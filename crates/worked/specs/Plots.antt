@@ -6,13 +6,12 @@
 -- "Ids are as named; unspecified fields 0." W2 is a scene of the grouping entry, W4 one of the ports entry; W6 to W12 are scenes of the liveness
 -- entry, whose port connections have transfer 0.
 -- Assumes nothing: these are definitions.
+use Rattle.std.specs.Prelude.{Option, Some, None}
 use Rattle.std.specs.Prelude.{ℕ, ◌/◌, ◌≡◌, true, false, List, [], ◌∷◌, ◌++◌, map, eqb, length, get_or, ℤ, pos, negsuc}
 use Rattle.sets.specs.Members.{as_nat}
 use Rattle.lists.specs.First.{tabulate}
 use Rattle.lists.specs.Records.{component, component_count}
 use Rattle.checks.specs.Refusals.{grouping_lists, liveness_lists, packed}
-use Rattle.lists.specs.declared.Found.{Found}
-use Rattle.lists.specs.declared.Found.TheVariants.{At, Nothing}
 use Rattle.lines.specs.Text.{ascii}
 use Rattle.circuit.specs.Topology.{nets_of, net_count, fragment_count}
 use Rattle.faces.specs.Ports.{Input, Output, Control, Support, RedstoneSignal, Structural, NoFace, North, East, South, West, Up, Down, ports_for}
@@ -86,9 +85,9 @@ cyclic cs ps = tabulate (λ r. as_nat (is_cyclic cs ps r)) (region_count cs ps)
 abbrev pub face : ℤ → ℤ → ℤ → List ℕ
 face x y z = facing_between (pos 0) (pos 0) (pos 0) x y z ∷ []
 
-abbrev pub port_number : Found → List ℕ
-port_number (At k) = k ∷ []
-port_number Nothing = []
+abbrev pub port_number : Option ℕ → List ℕ
+port_number (Some k) = k ∷ []
+port_number None = []
 
 -- ---- the plots
 

@@ -1,7 +1,7 @@
 -- Answers for the goals that the search leaves.
+use Rattle.std.specs.Prelude.{Option}
 use mathlib.Core.Path.{◌≡◌, sym, ap, ◌∙◌}
 use mathlib.Core.List.{List, ◌++◌}
-use Rattle.lists.specs.declared.Found.{Found}
 use Prim.Native.Nat.{ℕ, suc, ◌+◌, ◌/◌}
 use native.Mathlib.Numerals.{add-one}
 use native.Mathlib.Omega.{arith}
@@ -36,6 +36,6 @@ returns c =
     let first : c.count_length.result ≡ length count = c.count_length.ensures ∙ ap (λ (n : ℕ). length (line_of (count_name c.args.block) (pos (length rows / n)))) w in
     let sum : c.count_length.result + length (lines_from c.args.block rows 0) ≡ length (count ++ lines_from c.args.block rows 0) = omega (arith, length-append count (lines_from c.args.block rows 0)) in
     sym (left_none l.rest) ∙ ap (left_after l.rest) (sym none) ∙ l.invariant
-    ∙ ap (λ (r : Found). left_after r (length (lines_from c.args.block rows 0))) c.left_after-rest.ensures
+    ∙ ap (λ (r : Option ℕ). left_after r (length (lines_from c.args.block rows 0))) c.left_after-rest.ensures
     ∙ left_then c.args.left c.count_length.result (length (lines_from c.args.block rows 0))
     ∙ ap (left_after c.args.left) sum

@@ -1,5 +1,8 @@
 -- `circuit::from_parts` meets its contract: the checks first, and where they accept the groups, by the table of ids that they left.
 -- Assumes nothing.
+use Rattle.std.specs.Prelude.{Result, Ok, Err}
+use Rattle.std.proofs.Common.{rules}
+use Rattle.lists.specs.declared.Refusal.{Refusal}
 use mathlib.Core.Path.{◌≡◌, sym, ap₂, ◌∙◌}
 use mathlib.Core.Bool.{Bool, ◌&&◌}
 use mathlib.Core.List.{[], ◌∷◌}
@@ -9,41 +12,39 @@ use lib.ListN.{length, take}
 use lib.Seq.{length-take-le}
 use Rattle.lists.specs.Records.{component_count}
 use Rattle.checks.specs.Refusals.{room_for, grouping_refusal}
-use Rattle.lists.specs.declared.Checked.TheVariants.{Accepted}
 use Rattle.lists.proofs.Search.{both}
 use Rattle.checks.proofs.Accepted.{GroupingScene, grouping_accept, room_places}
 use Rattle.circuit.specs.declared.Counts.{Counts}
-use Rattle.circuit.specs.declared.Grouping.TheVariants.{Groups}
 use Rattle.circuit.proofs.from_parts.Goals as goal
-use Rattle.circuit.proofs.from_parts.Goals.{After-grouping_lists-checked}
+use Rattle.circuit.proofs.from_parts.Goals.{After-grouping_lists}
 
-same_counts : {r : Counts} {nets fragments : ℕ} → r.nets ≡ nets → r.fragments ≡ fragments → Groups r ≡ Groups (record { nets = nets; fragments = fragments })
+same_counts : {r : Counts} {nets fragments : ℕ} → r.nets ≡ nets → r.fragments ≡ fragments → ◌≡◌ {A = Result Counts Refusal} (Ok r) (Ok (record { nets = nets; fragments = fragments }))
 same_counts {r} e f = rw (← e, ← f)
 
 -- the answer of the checks, by the definition
-answer : (c : After-grouping_lists-checked)
+answer : (c : After-grouping_lists)
     →
-    c.grouping_lists-checked.result
+    c.grouping_lists.result
     ≡ grouping_refusal c.args.components.now c.args.connections.now (length c.args.nets.now) (length c.args.fragments.now)
 answer c =
-    c.grouping_lists-checked.ensures.answer
+    c.grouping_lists.ensures.answer
     ∙ rw (c.room_for-2.ensures, c.room_for.ensures)
 
-abbrev enough : After-grouping_lists-checked → Bool
+abbrev enough : After-grouping_lists → Bool
 enough c =
     room_for (component_count c.args.components.now) 1 (length c.args.nets.now)
     && room_for (component_count c.args.components.now) 1 (length c.args.fragments.now)
 
 -- an accepted scene
-accepted : (c : After-grouping_lists-checked) → c.grouping_lists-checked.result ≡ Accepted
-    → grouping_refusal c.args.components.now c.args.connections.now (length c.args.nets.now) (length c.args.fragments.now) ≡ Accepted
+accepted : (c : After-grouping_lists) → c.grouping_lists.result ≡ Ok tt
+    → grouping_refusal c.args.components.now c.args.connections.now (length c.args.nets.now) (length c.args.fragments.now) ≡ Ok tt
 accepted c e = sym (answer c) ∙ e
 
-scene : (c : After-grouping_lists-checked) → c.grouping_lists-checked.result ≡ Accepted
+scene : (c : After-grouping_lists) → c.grouping_lists.result ≡ Ok tt
     → GroupingScene c.args.components.now c.args.connections.now [] (enough c)
 scene c e = grouping_accept _ _ _ _ (accepted c e)
 
-room : (c : After-grouping_lists-checked) → c.grouping_lists-checked.result ≡ Accepted
+room : (c : After-grouping_lists) → c.grouping_lists.result ≡ Ok tt
     → (component_count c.args.components.now ≤ length c.args.nets.now)
     × (component_count c.args.components.now ≤ length c.args.fragments.now)
 room c e =
@@ -54,37 +55,38 @@ room c e =
     (room_places n nets tests.0, room_places n fragments tests.1)
 
 -- the table of ids at the front of the keys
-long : (c : After-grouping_lists-checked) → c.grouping_lists-checked.result ≡ Accepted
+long : (c : After-grouping_lists) → c.grouping_lists.result ≡ Ok tt
     → let n = component_count c.args.components.now in
-    (n ≤ length c.grouping_lists-checked.new.keys) × (length (take n c.grouping_lists-checked.new.keys) ≡ n)
+    (n ≤ length c.grouping_lists.new.keys) × (length (take n c.grouping_lists.new.keys) ≡ n)
 long c e =
-    let keys = c.grouping_lists-checked.new.keys in
+    let keys = c.grouping_lists.new.keys in
     let h : component_count c.args.components.now ≤ length keys =
-    omega (arith, (scene c e).components.few, c.grouping_lists-checked.auto.keys) in
+    omega (arith, (scene c e).components.few, c.grouping_lists.auto.keys) in
     (h, length-take-le _ keys h)
 
 pub slice_bounds-keys-end : goal.slice_bounds-keys-end
-slice_bounds-keys-end c = (long (goal.at.slice_bounds-keys-end c).After-grouping_lists-checked c.in-Accepted.is).0
+slice_bounds-keys-end c = (long (goal.at.slice_bounds-keys-end c).After-grouping_lists c.in_ok-grouping_lists.was).0
 
 pub slice_bounds-group-end : goal.slice_bounds-group-end
-slice_bounds-group-end c = sym (long (goal.at.slice_bounds-group-end c).After-grouping_lists-checked c.in-Accepted.is).1
+slice_bounds-group-end c = sym (long (goal.at.slice_bounds-group-end c).After-grouping_lists c.in_ok-grouping_lists.was).1
 
 pub group-requires : goal.group-requires
 group-requires c =
-    let now = (goal.at.group-requires c).After-grouping_lists-checked in
-    let n = (long now c.in-Accepted.is).1 in
-    let s = scene now c.in-Accepted.is in
-    let places = room now c.in-Accepted.is in
-    let table = c.grouping_lists-checked.ensures.table c.in-Accepted.is in record {
+    let now = (goal.at.group-requires c).After-grouping_lists in
+    let n = (long now c.in_ok-grouping_lists.was).1 in
+    let s = scene now c.in_ok-grouping_lists.was in
+    let places = room now c.in_ok-grouping_lists.was in
+    let table = c.grouping_lists.ensures.table c.in_ok-grouping_lists.was in record {
       connections = s.connections;
       id_table = (c.args.components.now, table);
       keys_len_bound = (omega (arith, n, s.components.few), (omega (arith, n, places), omega (arith, n, places)));
     }
 
-pub returns-in-Refused : goal.returns-in-Refused
-returns-in-Refused c =
-    let e = sym (answer (goal.at.returns-in-Refused c).After-grouping_lists-checked) ∙ c.in-Refused.is in
-    record { answer = rw e; numbers = rw e; nets_left = rw e; fragments_left = rw e }
+pub returns-in_err-grouping_lists : goal.returns-in_err-grouping_lists
+returns-in_err-grouping_lists c =
+    let e = sym (answer (goal.at.returns-in_err-grouping_lists c).After-grouping_lists) ∙ c.in_err-grouping_lists.was in
+    let back : c.from_residual.result ≡ Err c.in_err-grouping_lists.field-0.0 = search rules in
+    record { answer = rw (e, back); numbers = rw (e, back); nets_left = rw e; fragments_left = rw e }
 
 pub shape_of-nets : goal.shape_of-nets
 shape_of-nets c = c.group.auto.nets
@@ -92,11 +94,11 @@ shape_of-nets c = c.group.auto.nets
 pub shape_of-fragments : goal.shape_of-fragments
 shape_of-fragments c = c.group.auto.fragments
 
-pub returns-in-Accepted : goal.returns-in-Accepted
-returns-in-Accepted c =
-    let table = c.grouping_lists-checked.ensures.table c.in-Accepted.is in
+pub returns : goal.returns
+returns c =
+    let table = c.grouping_lists.ensures.table c.in_ok-grouping_lists.was in
     let g = c.group.ensures c.args.components.now table in
-    let e = accepted (goal.at.returns-in-Accepted c).After-grouping_lists-checked c.in-Accepted.is in
+    let e = accepted (goal.at.returns c).After-grouping_lists c.in_ok-grouping_lists.was in
     record {
       answer = rw e (same_counts g.net_count_lem g.fragment_count_lem);
       numbers = rw e (ap₂ (λ (nets fragments : ℕ). 0 ∷ nets ∷ fragments ∷ []) g.net_count_lem g.fragment_count_lem);

@@ -9,15 +9,15 @@ use Rattle.plotreport.proofs.main.Goals as goal
 
 -- the report is within the buffer
 pub slice_bounds-out-end : goal.slice_bounds-out-end
-slice_bounds-out-end c = omega (arith, printed_within c.report_sheet-printed.ensures c.in-Written.is, c.report_sheet-printed.auto.out)
+slice_bounds-out-end c = omega (arith, printed_within c.report_sheet-printed.ensures c.in-Ok.is, c.report_sheet-printed.auto.out)
 
 pub slice_bounds-write_all-end : goal.slice_bounds-write_all-end
 slice_bounds-write_all-end c =
-    let within = printed_within c.report_sheet-printed.ensures c.in-Written.is in
+    let within = printed_within c.report_sheet-printed.ensures c.in-Ok.is in
     sym (length-take-le _ _ (omega (arith, within, c.report_sheet-printed.auto.out)))
 
 pub put_refusal-count-requires : goal.put_refusal-count-requires
 put_refusal-count-requires c = refusal_room _
 
-pub slice_bounds-write_all-end-in-Refused : goal.slice_bounds-write_all-end-in-Refused
-slice_bounds-write_all-end-in-Refused c = sym (length-take-le _ _ (omega (arith, c.put_refusal-count.ensures.count, c.put_refusal-count.ensures.room, put_length c.put_refusal-count.ensures)))
+pub slice_bounds-write_all-end-in-Err : goal.slice_bounds-write_all-end-in-Err
+slice_bounds-write_all-end-in-Err c = sym (length-take-le _ _ (omega (arith, c.put_refusal-count.ensures.count, c.put_refusal-count.ensures.room, put_length c.put_refusal-count.ensures)))

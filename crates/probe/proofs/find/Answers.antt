@@ -1,5 +1,6 @@
 -- `probe::find` meets its contract.
 -- Assumes nothing.
+use Rattle.std.specs.Prelude.{Option, Some, None, Ok}
 use mathlib.Core.Path.{◌≡◌, sym, ◌∙◌}
 use mathlib.Core.Bool.{true}
 use mathlib.Core.List.{List, []}
@@ -12,17 +13,14 @@ use Rattle.lists.specs.Limits.{component_limit}
 use Rattle.lists.specs.Records.{component_count}
 use Rattle.lists.specs.Ids.{place_of}
 use Rattle.checks.specs.Refusals.{grouping_lists}
-use Rattle.lists.specs.declared.Found.{Found}
-use Rattle.lists.specs.declared.Found.TheVariants.{At, Nothing}
-use Rattle.lists.specs.declared.Checked.TheVariants.{Accepted}
 use Rattle.lists.proofs.Table.{place_below_lem}
 use Rattle.checks.proofs.Accepted.{GroupingScene, grouping_accept, id_past}
 use Rattle.probe.specs.Places.{IsPlace}
 use Rattle.probe.proofs.find.Goals as goal
 use Rattle.probe.proofs.find.Goals.{In-Accepted}
 
-accepted : (c : In-Accepted) → grouping_lists c.args.components.now [] [] true ≡ Accepted
-accepted c = sym c.grouping_lists-checked.ensures.answer ∙ c.in-Accepted.is
+accepted : (c : In-Accepted) → grouping_lists c.args.components.now [] [] true ≡ Ok tt
+accepted c = sym c.grouping_lists-checked.ensures.answer ∙ c.in-Ok.is
 
 scene : (c : In-Accepted) → GroupingScene c.args.components.now [] [] true
 scene c = grouping_accept _ _ _ _ (accepted c)
@@ -38,9 +36,9 @@ long c =
     (h, length-take-le _ keys h)
 
 -- a place that is found is a component's
-is_place : (cs : List ℤ) (id : ℕ) → component_count cs ≤ component_limit → (f : Found) → place_of cs id ≡ f → IsPlace f
-is_place cs id few (At k) e = omega (arith, place_below_lem cs id k e)
-is_place cs id few Nothing e = tt
+is_place : (cs : List ℤ) (id : ℕ) → component_count cs ≤ component_limit → (f : Option ℕ) → place_of cs id ≡ f → IsPlace f
+is_place cs id few (Some k) e = omega (arith, place_below_lem cs id k e)
+is_place cs id few None e = tt
 
 pub returns-in_default : goal.returns-in_default
 returns-in_default c =
@@ -60,7 +58,7 @@ returns-then-id-gt-GREATEST_ID c =
 pub returns : goal.returns
 returns c =
     let cs = c.args.components.now in
-    let e = c.place_of.ensures cs (c.grouping_lists-checked.ensures.table c.in-Accepted.is) in record {
+    let e = c.place_of.ensures cs (c.grouping_lists-checked.ensures.table c.in-Ok.is) in record {
       value = rw (accepted (goal.at.returns c).In-Accepted) e;
       place = is_place cs c.args.id (scene (goal.at.returns c).In-Accepted).components.few _ (sym e);
     }

@@ -1,5 +1,6 @@
 -- `probe::probe_place_of_member` meets its contract.
 -- Assumes nothing.
+use Rattle.std.specs.Prelude.{Ok}
 use mathlib.Core.Path.{◌≡◌, refl, sym, ◌∙◌}
 use mathlib.Core.Bool.{true}
 use mathlib.Core.List.{[]}
@@ -11,14 +12,13 @@ use lib.Seq.{length-take-le}
 use Rattle.lists.specs.Records.{component_count}
 use Rattle.lists.specs.Ids.{MemberPlace}
 use Rattle.checks.specs.Refusals.{grouping_lists}
-use Rattle.lists.specs.declared.Checked.TheVariants.{Accepted}
 use Rattle.checks.proofs.Chain.{refused_not}
 use Rattle.checks.proofs.Accepted.{GroupingScene, grouping_accept}
 use Rattle.probe.proofs.probe_place_of_member.Goals as goal
 use Rattle.probe.proofs.probe_place_of_member.Goals.{After-place_at, In-Accepted}
 
-accepted : (c : In-Accepted) → grouping_lists c.args.components.now [] [] true ≡ Accepted
-accepted c = sym c.grouping_lists-checked.ensures.answer ∙ c.in-Accepted.is
+accepted : (c : In-Accepted) → grouping_lists c.args.components.now [] [] true ≡ Ok tt
+accepted c = sym c.grouping_lists-checked.ensures.answer ∙ c.in-Ok.is
 
 scene : (c : In-Accepted) → GroupingScene c.args.components.now [] [] true
 scene c = grouping_accept _ _ _ _ (accepted c)
@@ -36,7 +36,7 @@ long c =
 -- the place of the member
 placed : (c : After-place_at) → MemberPlace c.args.components.now c.args.k c.place_at.result
 placed c =
-    c.place_at.ensures c.args.components.now (c.grouping_lists-checked.ensures.table c.in-Accepted.is)
+    c.place_at.ensures c.args.components.now (c.grouping_lists-checked.ensures.table c.in-Ok.is)
 
 pub returns-in_default : goal.returns-in_default
 returns-in_default c =

@@ -1,7 +1,8 @@
 -- `probe::probe_query_refusal` meets its contract.
 -- Assumes nothing.
+use Rattle.std.specs.Prelude.{⊤, Result}
+use Rattle.lists.specs.declared.Refusal.{Refusal}
 use mathlib.Core.Path.{◌≡◌, sym, ap, ◌∙◌, subst}
-use Rattle.lists.specs.declared.Checked.{Checked}
 use Rattle.checks.specs.Refusals.{query_refusal, Small, packed}
 use Rattle.checks.proofs.Small.{liveness_small}
 use Rattle.probe.proofs.probe_query_refusal.Goals as goal
@@ -13,7 +14,7 @@ answer c = cc c.liveness_lists.ensures.lists.answer
 
 pub pack-requires : goal.pack-requires
 pack-requires c =
-    subst (λ (x : Checked). Small x) (sym (answer (goal.at.pack-requires c).After-liveness_lists))
+    subst (λ (x : Result ⊤ Refusal). Small x) (sym (answer (goal.at.pack-requires c).After-liveness_lists))
     (liveness_small c.args.components.now c.args.ports.now c.args.frontiers.now _)
 
 pub returns : goal.returns

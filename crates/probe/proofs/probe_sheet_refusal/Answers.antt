@@ -1,7 +1,8 @@
 -- `probe::probe_sheet_refusal` meets its contract.
 -- Assumes nothing.
+use Rattle.std.specs.Prelude.{⊤, Result}
+use Rattle.lists.specs.declared.Refusal.{Refusal}
 use mathlib.Core.Path.{◌≡◌, sym, ap, ◌∙◌, subst}
-use Rattle.lists.specs.declared.Checked.{Checked}
 use mathlib.Core.Bool.{true}
 use Rattle.checks.specs.Refusals.{sheet_refusal, Small, packed}
 use Rattle.checks.proofs.Small.{grouping_small}
@@ -14,7 +15,7 @@ answer c = c.grouping_lists.ensures.answer
 
 pub pack-requires : goal.pack-requires
 pack-requires c =
-    subst (λ (x : Checked). Small x) (sym (answer (goal.at.pack-requires c).After-grouping_lists))
+    subst (λ (x : Result ⊤ Refusal). Small x) (sym (answer (goal.at.pack-requires c).After-grouping_lists))
     (grouping_small c.args.components.now c.args.connections.now c.args.frontiers.now true)
 
 pub returns : goal.returns

@@ -40,11 +40,11 @@ store_sheet-requires c =
       lent = lent s.3 (length a.components.now) (length a.connections.now) (length a.frontiers.now) (room ∙ c.if-not-enough.false);
     }
 
-pub returns-in-Refused : goal.returns-in-Refused
-returns-in-Refused c =
+pub returns-in-Err : goal.returns-in-Err
+returns-in-Err c =
     let a = c.args in
     let e =
-    stands a.text.now a.limits c.check_sheet-outline.result (Refused c.in-Refused.refusal) c.check_sheet-outline.ensures c.in-Refused.is in
+    stands a.text.now a.limits c.check_sheet-outline.result (Refused c.in-Err.refusal) c.check_sheet-outline.ensures c.in-Err.is in
     faulty (parsed a.limits a.text.now) a.components.now a.connections.now a.frontiers.now e
 
 pub returns-else-not-enough : goal.returns-else-not-enough

@@ -1,5 +1,6 @@
 -- `assessment::sources::is_drive` meets its contract.
 -- Assumes nothing.
+use Rattle.std.specs.Prelude.{Option}
 use mathlib.Core.Path.{◌≡◌, refl, sym, ap, ◌∙◌}
 use mathlib.Core.Bool.{◌||◌}
 use mathlib.Core.List.{List}
@@ -8,7 +9,6 @@ use native.Mathlib.Omega.{arith}
 use lib.IntN.{ℤ}
 use Rattle.lists.specs.First.{is_found}
 use Rattle.lists.specs.Records.{component}
-use Rattle.lists.specs.declared.Found.{Found}
 use Rattle.lists.proofs.Search.{record_within}
 use Rattle.lists.proofs.Fields.{field_non_neg}
 use Rattle.signals.specs.Sources.{source_kind}
@@ -20,19 +20,19 @@ natural_at-requires c =
     (omega (arith, within), field_non_neg c.requires.0 c.args.p 4 c.requires.1 (omega arith) refl)
 
 -- the kind that was looked up
-kind : (found : Found) (cs : List ℤ) (p n : ℕ) → found ≡ source_kind n → n ≡ (component cs p).kind
+kind : (found : Option ℕ) (cs : List ℤ) (p n : ℕ) → found ≡ source_kind n → n ≡ (component cs p).kind
     → found ≡ source_kind (component cs p).kind
 kind found cs p n e f = e ∙ ap source_kind f
 
-pub returns-in-At : goal.returns-in-At
-returns-in-At c =
+pub returns-in-Some : goal.returns-in-Some
+returns-in-Some c =
     let looked = kind _ c.args.components.now c.args.p _ c.source_kind-kind.ensures c.natural_at.ensures in
-    ap (λ (f : Found). is_found f || c.args.on_frontier) (sym c.in-At.is ∙ looked)
+    ap (λ (f : Option ℕ). is_found f || c.args.on_frontier) (sym c.in-Some.is ∙ looked)
 
-pub returns-in-Nothing : goal.returns-in-Nothing
-returns-in-Nothing c =
+pub returns-in-None : goal.returns-in-None
+returns-in-None c =
     let looked = kind _ c.args.components.now c.args.p _ c.source_kind-kind.ensures c.natural_at.ensures in
-    ap (λ (f : Found). is_found f || c.args.on_frontier) (sym c.in-Nothing.is ∙ looked)
+    ap (λ (f : Option ℕ). is_found f || c.args.on_frontier) (sym c.in-None.is ∙ looked)
 
 pub overflow_mul-p : goal.overflow_mul-p
 overflow_mul-p c = omega (arith, record_within c.args.p _ 8 c.requires.1)

@@ -7,12 +7,12 @@ use Rattle.assessment.proofs.verdicts.put_kind.Goals as goal
 
 pub put_source-requires : goal.put_source-requires
 put_source-requires c e =
-    c.requires (ap is_found (sym c.source_kind-found.ensures ∙ c.in-At.is))
+    c.requires (ap is_found (sym c.source_kind-found.ensures ∙ c.in-Some.is))
 
-pub returns-in-At : goal.returns-in-At
-returns-in-At c =
-    rw (sym c.source_kind-found.ensures ∙ c.in-At.is) c.put_source.ensures
+pub returns-in-Some : goal.returns-in-Some
+returns-in-Some c =
+    rw (sym c.source_kind-found.ensures ∙ c.in-Some.is) c.put_source.ensures
 
-pub returns-in-Nothing : goal.returns-in-Nothing
-returns-in-Nothing c =
-    rw (sym c.source_kind-found.ensures ∙ c.in-Nothing.is) (put_nothing c.args.out.now c.args.at)
+pub returns-in-None : goal.returns-in-None
+returns-in-None c =
+    rw (sym c.source_kind-found.ensures ∙ c.in-None.is) (put_nothing c.args.out.now c.args.at)

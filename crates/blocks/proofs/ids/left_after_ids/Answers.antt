@@ -1,4 +1,5 @@
 -- Answers for the goals that the search leaves.
+use Rattle.std.specs.Prelude.{Option}
 use borrow.Author.Rules.{rules}
 use mathlib.Core.Path.{◌≡◌, ap, ◌∙◌}
 use mathlib.Core.List.{List, [], ◌∷◌, ◌++◌}
@@ -6,7 +7,6 @@ use Prim.Native.Nat.{ℕ, ◌+◌, ◌*◌, ◌≤◌}
 use native.Mathlib.Omega.{arith}
 use lib.ListN.{length, length-append}
 use Rattle.sets.specs.Members.{word_count}
-use Rattle.lists.specs.declared.Found.{Found}
 use Rattle.blocks.specs.Lines.{spaced, set_line}
 use Rattle.blocks.specs.Blocks.{ids_in, left_after}
 use Rattle.blocks.proofs.Going.{left_then}
@@ -43,6 +43,6 @@ pub returns : goal.returns
 returns c =
     let ids = ids_in c.args.keys.now c.args.set.words in
     left_done _ _ c.loop-m-test.false c.loop-m.invariant
-    ∙ ap (λ (r : Found). left_after r (length (spaced ids))) c.left_after-rest.ensures
+    ∙ ap (λ (r : Option ℕ). left_after r (length (spaced ids))) c.left_after-rest.ensures
     ∙ left_then c.args.left (length c.args.key.now + 2) (length (spaced ids))
     ∙ ap (left_after c.args.left) (line_long c.args.key.now ids)

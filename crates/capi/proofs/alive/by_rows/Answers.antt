@@ -1,5 +1,7 @@
 -- `capi::alive::by_rows` meets its contract: the answer on lists of numbers is packed where it refuses, and written as bytes where it
 -- does not. Assumes nothing.
+use Rattle.std.specs.Prelude.{⊤, Result}
+use Rattle.lists.specs.declared.Refusal.{Refusal}
 use borrow.Author.Rules.{rules}
 use mathlib.Core.Path.{◌≡◌, sym, ap, ◌∙◌, subst}
 use Prim.Native.Nat.{ℕ}
@@ -8,14 +10,13 @@ use lib.ListN.{get_or}
 use mir.Val.{Fits}
 use mir.Syntax.{w64}
 use Rattle.checks.specs.Refusals.{Small, packed}
-use Rattle.lists.specs.declared.Checked.{Checked}
 use Rattle.checks.proofs.Small.{liveness_small}
 use Rattle.capi.proofs.LivenessLaws.{WordsOfSet, found, few_regions, regions_there, sources_there, inputs_there, accepted_alive, refused_alive}
 use Rattle.capi.proofs.alive.by_rows.Goals as goal
 
 -- ---- refused
-small_as : {a b : Checked} → a ≡ b → Small b → Small a
-small_as {a} {b} e h = subst (λ (x : Checked). Small x) (sym e) h
+small_as : {a b : Result ⊤ Refusal} → a ≡ b → Small b → Small a
+small_as {a} {b} e h = subst (λ (x : Result ⊤ Refusal). Small x) (sym e) h
 
 pub pack-requires : goal.pack-requires
 pack-requires c =
@@ -29,7 +30,7 @@ pub write_answer-requires : goal.write_answer-requires
 write_answer-requires c =
     let call = c.analyze_signal_liveness-analysis in
     let room = c.requires in
-    let accepted = sym call.ensures.by.answer ∙ c.in-Accepted.is in
+    let accepted = sym call.ensures.by.answer ∙ c.in-Ok.is in
     let answer = found accepted call.ensures.by in
     let few = few_regions _ _ _ _ accepted in
     record {
@@ -50,7 +51,7 @@ write_answer-requires c =
 pub returns : goal.returns
 returns c =
     let call = c.analyze_signal_liveness-analysis in
-    let accepted = sym call.ensures.by.answer ∙ c.in-Accepted.is in
+    let accepted = sym call.ensures.by.answer ∙ c.in-Ok.is in
     let answer = found accepted call.ensures.by in
     let drive : WordsOfSet call.result.drive.words =
     let word : (i : ℕ) → Fits w64 (get_or call.result.drive.words i 0) = λ i. search rules in

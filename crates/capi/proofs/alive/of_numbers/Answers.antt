@@ -1,10 +1,11 @@
 -- `capi::alive::of_numbers` meets its contract: without room for the sets the lists alone decide on the refusal. Assumes nothing.
+use Rattle.std.specs.Prelude.{⊤, Result}
+use Rattle.lists.specs.declared.Refusal.{Refusal}
 use mathlib.Core.Path.{◌≡◌, sym, ap, ◌∙◌}
 use mathlib.Core.Bool.{Bool, false, ◌&&◌}
 use lib.ListN.{length}
 use Prim.Native.Nat.{◌/◌}
 use Rattle.checks.specs.Refusals.{liveness_lists, liveness_room, packed}
-use Rattle.lists.specs.declared.Checked.{Checked}
 use Rattle.encoding.specs.Bytes.{number_bytes}
 use Rattle.capi.proofs.LivenessLaws.{short_refused, refused_alive}
 use Rattle.capi.proofs.alive.of_numbers.Goals as goal
@@ -16,7 +17,7 @@ by_places-requires c =
       number_bytes_value = sym c.room_for.ensures ∙ c.if-room_for.true;
     }
 
-no_room : (f : Bool → Checked) {t : Bool} (rest : Bool) → t ≡ false → f (t && rest) ≡ f false
+no_room : (f : Bool → Result ⊤ Refusal) {t : Bool} (rest : Bool) → t ≡ false → f (t && rest) ≡ f false
 no_room f rest e = rw e
 
 pub returns : goal.returns

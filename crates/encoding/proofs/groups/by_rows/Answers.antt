@@ -1,5 +1,6 @@
 -- `encoding::groups::by_rows` meets its contract: the rows of an accepted scene, at the front of the slices of numbers, are written as bytes.
 -- Assumes nothing.
+use Rattle.std.specs.Prelude.{⊤, Result, Ok, Err}
 use mathlib.Core.Path.{◌≡◌, sym, ◌∙◌}
 use mathlib.Core.List.{List}
 use Prim.Native.Nat.{ℕ, ◌≤◌}
@@ -9,34 +10,30 @@ use lib.Seq.{length-take-le}
 use lib.IntN.{ℤ}
 use Rattle.lists.specs.Records.{component_count}
 use Rattle.checks.specs.Refusals.{grouping_refusal, Small}
-use Rattle.lists.specs.declared.Checked.{Checked}
-use Rattle.lists.specs.declared.Checked.TheVariants.{Refused}
 use Rattle.lists.specs.declared.Refusal.{Refusal}
 use Rattle.checks.proofs.Small.{grouping_small}
 use Rattle.circuit.specs.Topology.{net_kinds, fragment_kinds, forest_of, nets_of, fragments_of, net_count, fragment_count, Grouped}
 use Rattle.circuit.specs.declared.Counts.{Counts}
-use Rattle.circuit.specs.declared.Grouping.{Grouping}
-use Rattle.circuit.specs.declared.Grouping.TheVariants.{Groups, Refused as GroupingRefused}
 use Rattle.circuit.proofs.Roots.{length_groups}
 use Rattle.circuit.proofs.Numbering.{roots_most}
 use Rattle.encoding.proofs.Answers.{refused_by, Counted, counted, Room, accepted_room, rows_front, refused_laid, accepted_laid}
 use Rattle.encoding.proofs.groups.by_rows.Goals as goal
 
 -- the lists, the rows before and after, and what was found
-module _ {cs ps : List ℤ} {nets nets' fragments fragments' : List ℕ} {r : Grouping} (g : Grouped cs ps nets nets' fragments fragments' r) where
+module _ {cs ps : List ℤ} {nets nets' fragments fragments' : List ℕ} {r : Result Counts Refusal} (g : Grouped cs ps nets nets' fragments fragments' r) where
   -- the checks of the lists, and how many components there are
-  abbrev checked : Checked
+  abbrev checked : Result ⊤ Refusal
   checked = grouping_refusal cs ps (length nets) (length fragments)
 
   abbrev count : ℕ
   count = component_count cs
 
   -- ---- refused
-  refused : {refusal : Refusal} → r ≡ GroupingRefused refusal → checked ≡ Refused refusal
+  refused : {refusal : Refusal} → r ≡ Err refusal → checked ≡ Err refusal
   refused is = refused_by checked _ _ _ (sym is ∙ g.answer)
 
   -- ---- accepted
-  module _ {counts : Counts} (is : r ≡ Groups counts) where
+  module _ {counts : Counts} (is : r ≡ Ok counts) where
     accepted : Counted checked (net_count cs ps) (fragment_count cs ps) counts
     accepted = counted checked _ _ _ (sym is ∙ g.answer)
 
@@ -62,32 +59,32 @@ module _ {cs ps : List ℤ} {nets nets' fragments fragments' : List ℕ} {r : Gr
 pub pack-requires : goal.pack-requires
 pack-requires c =
     let small : Small (checked c.from_parts-grouping.ensures) = grouping_small _ _ _ _ in
-    rw (refused c.from_parts-grouping.ensures c.in-Refused.is) at small
+    rw (refused c.from_parts-grouping.ensures c.in-Err.is) at small
 
-pub returns-in-Refused : goal.returns-in-Refused
-returns-in-Refused c = refused_laid _ _ _ _ _ _ _ (refused c.from_parts-grouping.ensures c.in-Refused.is) c.pack.ensures
+pub returns-in-Err : goal.returns-in-Err
+returns-in-Err c = refused_laid _ _ _ _ _ _ _ (refused c.from_parts-grouping.ensures c.in-Err.is) c.pack.ensures
 
 pub slice_bounds-encode-end : goal.slice_bounds-encode-end
-slice_bounds-encode-end c = (net_rows c.from_parts-grouping.ensures c.in-Groups.is c.from_parts-grouping.auto.nets).0
+slice_bounds-encode-end c = (net_rows c.from_parts-grouping.ensures c.in-Ok.is c.from_parts-grouping.auto.nets).0
 
-pub slice_bounds-encode-end-in-Groups : goal.slice_bounds-encode-end-in-Groups
-slice_bounds-encode-end-in-Groups c = sym (net_rows c.from_parts-grouping.ensures c.in-Groups.is c.from_parts-grouping.auto.nets).1
+pub slice_bounds-encode-end-in-Ok : goal.slice_bounds-encode-end-in-Ok
+slice_bounds-encode-end-in-Ok c = sym (net_rows c.from_parts-grouping.ensures c.in-Ok.is c.from_parts-grouping.auto.nets).1
 
 pub encode-requires : goal.encode-requires
 encode-requires c =
     let g = c.from_parts-grouping.ensures in
-    omega (arith, (net_rows g c.in-Groups.is c.from_parts-grouping.auto.nets).1, (room g c.in-Groups.is).net_places, c.requires)
+    omega (arith, (net_rows g c.in-Ok.is c.from_parts-grouping.auto.nets).1, (room g c.in-Ok.is).net_places, c.requires)
 
-pub slice_bounds-encode-end-in-Groups-2 : goal.slice_bounds-encode-end-in-Groups-2
-slice_bounds-encode-end-in-Groups-2 c = (fragment_rows c.from_parts-grouping.ensures c.in-Groups.is c.from_parts-grouping.auto.fragments).0
+pub slice_bounds-encode-end-in-Ok-2 : goal.slice_bounds-encode-end-in-Ok-2
+slice_bounds-encode-end-in-Ok-2 c = (fragment_rows c.from_parts-grouping.ensures c.in-Ok.is c.from_parts-grouping.auto.fragments).0
 
-pub slice_bounds-encode-end-in-Groups-3 : goal.slice_bounds-encode-end-in-Groups-3
-slice_bounds-encode-end-in-Groups-3 c = sym (fragment_rows c.from_parts-grouping.ensures c.in-Groups.is c.from_parts-grouping.auto.fragments).1
+pub slice_bounds-encode-end-in-Ok-3 : goal.slice_bounds-encode-end-in-Ok-3
+slice_bounds-encode-end-in-Ok-3 c = sym (fragment_rows c.from_parts-grouping.ensures c.in-Ok.is c.from_parts-grouping.auto.fragments).1
 
-pub encode-requires-in-Groups : goal.encode-requires-in-Groups
-encode-requires-in-Groups c =
+pub encode-requires-in-Ok : goal.encode-requires-in-Ok
+encode-requires-in-Ok c =
     let g = c.from_parts-grouping.ensures in
-    omega (arith, (fragment_rows g c.in-Groups.is c.from_parts-grouping.auto.fragments).1, (room g c.in-Groups.is).fragment_places, c.requires)
+    omega (arith, (fragment_rows g c.in-Ok.is c.from_parts-grouping.auto.fragments).1, (room g c.in-Ok.is).fragment_places, c.requires)
 
 pub pack_counts-requires : goal.pack_counts-requires
 pack_counts-requires c =
@@ -95,12 +92,12 @@ pack_counts-requires c =
     let cs = c.args.components.now in
     let ps = c.args.connections.now in
     let n = count g in (
-      omega (arith, (accepted g c.in-Groups.is).nets_are, (room g c.in-Groups.is).few, roots_most (forest_of cs ps net_kinds) n),
-      omega (arith, (accepted g c.in-Groups.is).fragments_are, (room g c.in-Groups.is).few, roots_most (forest_of cs ps fragment_kinds) n),
+      omega (arith, (accepted g c.in-Ok.is).nets_are, (room g c.in-Ok.is).few, roots_most (forest_of cs ps net_kinds) n),
+      omega (arith, (accepted g c.in-Ok.is).fragments_are, (room g c.in-Ok.is).few, roots_most (forest_of cs ps fragment_kinds) n),
     )
 
-pub returns-in-Groups : goal.returns-in-Groups
-returns-in-Groups c =
+pub returns-in-Ok : goal.returns-in-Ok
+returns-in-Ok c =
     let g = c.from_parts-grouping.ensures in
-    accepted_laid _ _ _ _ _ _ _ _ _ _ _ (accepted g c.in-Groups.is) c.encode.ensures (nets_are g c.in-Groups.is)
-    c.encode-in-Groups.ensures (fragments_are g c.in-Groups.is) c.pack_counts.ensures
+    accepted_laid _ _ _ _ _ _ _ _ _ _ _ (accepted g c.in-Ok.is) c.encode.ensures (nets_are g c.in-Ok.is)
+    c.encode-in-Ok.ensures (fragments_are g c.in-Ok.is) c.pack_counts.ensures

@@ -6,19 +6,19 @@ use Rattle.inputs.proofs.query.query_scene.Goals as goal
 
 pub input_sources-requires : goal.input_sources-requires
 input_sources-requires c =
-    let f = row_found c.args.components.now c.args.id c.args.port (sym c.row_place-place.ensures ∙ c.in-At.is) in record {
+    let f = row_found c.args.components.now c.args.id c.args.port (sym c.row_place-place.ensures ∙ c.in-Some.is) in record {
       scene = c.requires.scene;
       p_bound = (f.below, (f.port_small, c.requires.components_in_bounds));
     }
 
-pub returns-in-At : goal.returns-in-At
-returns-in-At c =
-    inputs_found c.args.id (sym c.row_place-place.ensures ∙ c.in-At.is) c.input_sources.ensures
+pub returns-in-Some : goal.returns-in-Some
+returns-in-Some c =
+    inputs_found c.args.id (sym c.row_place-place.ensures ∙ c.in-Some.is) c.input_sources.ensures
 
-pub returns-in-Nothing : goal.returns-in-Nothing
-returns-in-Nothing c =
+pub returns-in-None : goal.returns-in-None
+returns-in-None c =
     let a = c.args in
-    inputs_found a.id (sym c.row_place-place.ensures ∙ c.in-Nothing.is)
+    inputs_found a.id (sym c.row_place-place.ensures ∙ c.in-None.is)
     (c.refused_input.ensures a.components.now a.ports.now a.frontiers.now _ a.port a.stack.now)
 
 pub row_place-place-requires : goal.row_place-place-requires

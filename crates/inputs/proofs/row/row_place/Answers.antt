@@ -20,16 +20,16 @@ pub with_row-requires : goal.with_row-requires
 with_row-requires c = (
   c.requires.0,
   place_below_lem c.args.components.now c.args.id
-      (sym (looked (goal.at.with_row-requires c).After-place_of-place) ∙ c.in-At.is),
+      (sym (looked (goal.at.with_row-requires c).After-place_of-place) ∙ c.in-Some.is),
 )
 
-pub returns-in-At : goal.returns-in-At
-returns-in-At c =
+pub returns-in-Some : goal.returns-in-Some
+returns-in-Some c =
     c.with_row.ensures ∙ sym
     (row_place_lem c.args.components.now c.args.id c.args.port
-    (sym (looked (goal.at.returns-in-At c).After-place_of-place) ∙ c.in-At.is))
+    (sym (looked (goal.at.returns-in-Some c).After-place_of-place) ∙ c.in-Some.is))
 
-pub returns-in-Nothing : goal.returns-in-Nothing
-returns-in-Nothing c =
+pub returns-in-None : goal.returns-in-None
+returns-in-None c =
     sym (row_place_lem c.args.components.now c.args.id c.args.port
-    (sym (looked (goal.at.returns-in-Nothing c).After-place_of-place) ∙ c.in-Nothing.is))
+    (sym (looked (goal.at.returns-in-None c).After-place_of-place) ∙ c.in-None.is))

@@ -1,5 +1,6 @@
 -- `inputs::row::with_row` meets its contract: the required ports of a kind are those of its components.
 -- Assumes nothing.
+use Rattle.std.specs.Prelude.{Some, None}
 use mathlib.Core.Path.{◌≡◌, refl, sym, ap, ◌∙◌}
 use mathlib.Core.Bool.{Bool, cond, ◌&&◌}
 use Prim.Native.Nat.{ℕ, ◌+◌, ◌*◌, ◌≤◌}
@@ -7,7 +8,6 @@ use native.Mathlib.Omega.{arith}
 use lib.Dec.{leb, ltb}
 use lib.ListN.{length}
 use Rattle.lists.specs.Records.{component}
-use Rattle.lists.specs.declared.Found.TheVariants.{At, Nothing}
 use Rattle.lists.proofs.Search.{record_within}
 use Rattle.lists.proofs.Fields.{field_non_neg}
 use Rattle.faces.specs.Ports.{ports_of}
@@ -31,11 +31,11 @@ row c =
 
 pub returns-then-has_row : goal.returns-then-has_row
 returns-then-has_row c =
-    ap (λ (t : Bool). cond t (At c.args.p) Nothing) (sym c.if-has_row.true ∙ row (goal.at.returns-then-has_row c).After-has_row)
+    ap (λ (t : Bool). cond t (Some c.args.p) None) (sym c.if-has_row.true ∙ row (goal.at.returns-then-has_row c).After-has_row)
 
 pub returns : goal.returns
 returns c =
-    ap (λ (t : Bool). cond t (At c.args.p) Nothing) (sym c.if-has_row.false ∙ row (goal.at.returns c).After-has_row)
+    ap (λ (t : Bool). cond t (Some c.args.p) None) (sym c.if-has_row.false ∙ row (goal.at.returns c).After-has_row)
 
 pub overflow_mul-p : goal.overflow_mul-p
 overflow_mul-p c = omega (arith, within c)

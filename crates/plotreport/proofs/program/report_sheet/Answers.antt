@@ -1,7 +1,8 @@
 -- `plotreport::program::report_sheet` meets its contract: a sheet that is too long is refused, any other is the sheet entry's.
 -- Assumes nothing.
+use Rattle.std.specs.Prelude.{⊤, Result}
+use Rattle.lists.specs.declared.Refusal.{Refusal}
 use mathlib.Core.Path.{sym, subst}
-use Rattle.lists.specs.declared.Checked.{Checked}
 use Rattle.sheet.specs.Entry.{components_of, connections_of, frontiers_of}
 use Rattle.report.specs.Report.{report_of}
 use Rattle.report.specs.Entry.{PrintedBy}
@@ -18,6 +19,6 @@ returns c =
     let p = parsed_by a.text.now in
     let report = c.report in
     record {
-      by = subst (λ (checks : Checked). PrintedBy checks (report_of (components_of p) (connections_of p) (frontiers_of p)) a.out.now report.new.out report.result)
+      by = subst (λ (checks : Result ⊤ Refusal). PrintedBy checks (report_of (components_of p) (connections_of p) (frontiers_of p)) a.out.now report.new.out report.result)
           (sym (short_sheet a.text.now c.if-text-gt-BYTES.false)) report.ensures.printed;
     }

@@ -4,8 +4,8 @@ use mathlib.Core.Path.{sym, ap, ◌∙◌}
 use Rattle.probe.specs.Sheets.{packed_report}
 use Rattle.probe.proofs.sheets.pack_printed.Goals as goal
 
-pub returns-in-Written : goal.returns-in-Written
-returns-in-Written c = c.pack_refusal.ensures ∙ ap packed_report (sym c.in-Written.is)
+pub returns-in-Ok : goal.returns-in-Ok
+returns-in-Ok c = c.pack_refusal.ensures ∙ ap packed_report (sym c.in-Ok.is)
 
-pub returns-in-Refused : goal.returns-in-Refused
-returns-in-Refused c = c.pack_refusal-in-Refused.ensures ∙ ap packed_report (sym c.in-Refused.is)
+pub returns-in-Err : goal.returns-in-Err
+returns-in-Err c = c.pack_refusal-in-Err.ensures ∙ ap packed_report (sym c.in-Err.is)

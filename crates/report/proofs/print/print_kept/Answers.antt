@@ -1,6 +1,7 @@
 -- `report::print::print_kept` meets its contract: the kept connections are a scene, and its analysis leaves its rows at the fronts of the
 -- local arrays.
 -- Assumes nothing.
+use Rattle.std.specs.Prelude.{Ok}
 use mathlib.Core.Path.{sym, subst}
 use mathlib.Core.List.{List}
 use Prim.Native.Nat.{ℕ, ◌*◌, ◌≤◌}
@@ -8,7 +9,6 @@ use native.Mathlib.Omega.{arith}
 use lib.IntN.{ℤ}
 use lib.ListN.{length}
 use lib.Seq.{length-take-le}
-use Rattle.lists.specs.declared.Checked.TheVariants.{Accepted}
 use Rattle.assessment.specs.Verdicts.{source_rows, input_rows}
 use Rattle.liveness.specs.Scene.{Scene}
 use Rattle.liveness.specs.Entry.{AnalyzedBy}
@@ -40,7 +40,7 @@ analyze-found-requires c =
     }
 
 module _ {cs ps fs : List ℤ} {regions regions' sources sources' inputs inputs' stack stack' : List ℕ} {r : Analysis}
-    (a : AnalyzedBy Accepted cs ps fs regions regions' sources sources' inputs inputs' stack stack' r) where
+    (a : AnalyzedBy (Ok tt) cs ps fs regions regions' sources sources' inputs inputs' stack stack' r) where
   sources_inside : r.sources * 2 ≤ length sources'
   sources_inside = omega (arith, a.source_count, front_long (source_rows cs ps fs) sources a.sources_left)
 

@@ -1,5 +1,6 @@
 -- `report::print::print_lists` meets its contract: the checks decide, and leave the table of ids for the scene.
 -- Assumes nothing.
+use Rattle.std.specs.Prelude.{Ok}
 use mathlib.Core.Path.{◌≡◌, sym, ◌∙◌}
 use mathlib.Core.Bool.{true}
 use mathlib.Core.List.{List}
@@ -11,11 +12,10 @@ use lib.Seq.{length-take-le}
 use Rattle.lists.specs.Limits.{component_limit}
 use Rattle.lists.specs.Records.{component_count}
 use Rattle.checks.specs.Refusals.{sheet_refusal}
-use Rattle.lists.specs.declared.Checked.TheVariants as checked
 use Rattle.checks.proofs.Accepted.{GroupingScene, grouping_accept}
 use Rattle.report.proofs.print.print_lists.Goals as goal
 
-few : (cs ps fs : List ℤ) (keys : List ℕ) → sheet_refusal cs ps fs ≡ checked.Accepted → length keys ≡ component_limit
+few : (cs ps fs : List ℤ) (keys : List ℕ) → sheet_refusal cs ps fs ≡ Ok tt → length keys ≡ component_limit
     → component_count cs ≤ length keys
 few cs ps fs keys accepted long =
     let scene : GroupingScene cs ps fs true = grouping_accept cs ps fs true accepted in
@@ -25,28 +25,28 @@ pub slice_bounds-keys-end : goal.slice_bounds-keys-end
 slice_bounds-keys-end c =
     let a = c.args in
     let checks = c.grouping_lists-checked in
-    few a.components.now a.connections.now a.frontiers.now checks.new.keys (sym checks.ensures.answer ∙ c.in-Accepted.is) checks.auto.keys
+    few a.components.now a.connections.now a.frontiers.now checks.new.keys (sym checks.ensures.answer ∙ c.in-Ok.is) checks.auto.keys
 
 pub slice_bounds-print_scene-end : goal.slice_bounds-print_scene-end
 slice_bounds-print_scene-end c =
     let a = c.args in
     let checks = c.grouping_lists-checked in
-    let accepted = sym checks.ensures.answer ∙ c.in-Accepted.is in
+    let accepted = sym checks.ensures.answer ∙ c.in-Ok.is in
     sym (length-take-le _ checks.new.keys
     (few a.components.now a.connections.now a.frontiers.now checks.new.keys accepted checks.auto.keys))
 
 pub print_scene-requires : goal.print_scene-requires
 print_scene-requires c =
     let checks = c.grouping_lists-checked in
-    record { accepted = sym checks.ensures.answer ∙ c.in-Accepted.is; table = checks.ensures.table c.in-Accepted.is }
+    record { accepted = sym checks.ensures.answer ∙ c.in-Ok.is; table = checks.ensures.table c.in-Ok.is }
 
-pub returns-in-Refused : goal.returns-in-Refused
-returns-in-Refused c =
-    let e = sym c.grouping_lists-checked.ensures.answer ∙ c.in-Refused.is in
+pub returns-in-Err : goal.returns-in-Err
+returns-in-Err c =
+    let e = sym c.grouping_lists-checked.ensures.answer ∙ c.in-Err.is in
     record { answer = rw e; numbers = rw e; left = rw e }
 
-pub returns-in-Accepted : goal.returns-in-Accepted
-returns-in-Accepted c =
-    let e = sym c.grouping_lists-checked.ensures.answer ∙ c.in-Accepted.is in
+pub returns-in-Ok : goal.returns-in-Ok
+returns-in-Ok c =
+    let e = sym c.grouping_lists-checked.ensures.answer ∙ c.in-Ok.is in
     let p = c.print_scene.ensures in
     record { answer = rw e p.answer; numbers = rw e p.numbers; left = rw e p.left }

@@ -1,12 +1,11 @@
 -- `report::print::print_rows` meets its contract: what is left after the whole says whether it fits; then it is written.
 -- Assumes nothing.
+use Rattle.std.specs.Prelude.{Option, Some}
 use mathlib.Core.Path.{◌≡◌, sym, ◌∙◌}
 use mathlib.Core.List.{List, ◌++◌}
 use Prim.Native.Nat.{ℕ, ◌≤◌}
 use native.Mathlib.Omega.{arith}
 use lib.ListN.{length, length-append}
-use Rattle.lists.specs.declared.Found.{Found}
-use Rattle.lists.specs.declared.Found.TheVariants.{At}
 use Rattle.lines.proofs.Writing.{put_room, put_put}
 use Rattle.blocks.specs.Blocks.{left_after}
 use Rattle.blocks.proofs.Going.{left_more, left_fits, left_short}
@@ -15,27 +14,27 @@ use Rattle.report.proofs.Fitting.{printed_none, printed_put}
 use Rattle.report.proofs.print.print_rows.Goals as goal
 
 -- what is left after the whole, which is the blocks and then the rows
-measured : (n : ℕ) (blocks rows : List ℕ) {a rest : Found} → a ≡ left_after (At n) (length blocks) → rest ≡ left_after a (length rows)
-    → rest ≡ left_after (At n) (length (blocks ++ rows))
-measured n blocks rows e f = f ∙ left_more (At n) blocks rows e
+measured : (n : ℕ) (blocks rows : List ℕ) {a rest : Option ℕ} → a ≡ left_after (Some n) (length blocks) → rest ≡ left_after a (length rows)
+    → rest ≡ left_after (Some n) (length (blocks ++ rows))
+measured n blocks rows e f = f ∙ left_more (Some n) blocks rows e
 
 -- it fits
-enough : (n : ℕ) (blocks rows : List ℕ) {a rest : Found} {left : ℕ} → a ≡ left_after (At n) (length blocks)
-    → rest ≡ left_after a (length rows) → rest ≡ At left → length (blocks ++ rows) ≤ n
+enough : (n : ℕ) (blocks rows : List ℕ) {a rest : Option ℕ} {left : ℕ} → a ≡ left_after (Some n) (length blocks)
+    → rest ≡ left_after a (length rows) → rest ≡ Some left → length (blocks ++ rows) ≤ n
 enough n blocks rows {left = left} e f is = left_fits n (length (blocks ++ rows)) left (sym (measured n blocks rows e f) ∙ is)
 
 pub left_after_rows-rest-requires : goal.left_after_rows-rest-requires
 left_after_rows-rest-requires c = record { id_table = c.requires.id_table; ready = c.requires.ready }
 
-pub returns-in-Nothing : goal.returns-in-Nothing
-returns-in-Nothing c ps fs ready =
+pub returns-in-None : goal.returns-in-None
+returns-in-None c ps fs ready =
     let a = c.args in
     let n = length a.out.now in
     let blocks = blocks_text a.components.now a.kept.now a.regions.now a.sources.now in
     let rows = inputs_text a.scene.now ps fs a.inputs.now in
     printed_none (blocks ++ rows) a.out.now
     (left_short n (length (blocks ++ rows))
-    (sym (measured n blocks rows c.left_after_blocks-a.ensures (c.left_after_rows-rest.ensures ps fs ready)) ∙ c.in-Nothing.is))
+    (sym (measured n blocks rows c.left_after_blocks-a.ensures (c.left_after_rows-rest.ensures ps fs ready)) ∙ c.in-None.is))
 
 pub put_blocks-at-requires : goal.put_blocks-at-requires
 put_blocks-at-requires c =

@@ -1,4 +1,5 @@
 -- Answers for the goals that the search leaves.
+use Rattle.std.specs.Prelude.{Option}
 use borrow.Author.Rules.{rules}
 use mathlib.Core.Path.{◌≡◌, refl, sym, ap, ◌∙◌}
 use mathlib.Core.List.{List, ◌++◌}
@@ -6,7 +7,6 @@ use Prim.Native.Nat.{ℕ, ◌+◌, ◌/◌, ◌^◌, ◌<◌}
 use native.Mathlib.Omega.{arith}
 use lib.IntN.{pos}
 use lib.ListN.{length, get_or, length-append}
-use Rattle.lists.specs.declared.Found.{Found}
 use Rattle.lines.specs.Text.{ascii}
 use Rattle.lines.specs.Decimal.{line_of}
 use Rattle.blocks.specs.Blocks.{left_after}
@@ -50,7 +50,7 @@ returns c ps fs ready =
     let none : length (lines_from text rows l.k) ≡ 0 = ap length (lines_none text rows l.k c.loop-k-test.false) in
     let sum : counted.result + length all ≡ length (line ++ all) = omega (arith, length-append line all) in
     sym (left_none l.rest) ∙ ap (left_after l.rest) (sym none) ∙ l.invariant.left ps fs ready
-    ∙ ap (λ (r : Found). left_after r (length all)) c.left_after-rest.ensures
+    ∙ ap (λ (r : Option ℕ). left_after r (length all)) c.left_after-rest.ensures
     ∙ left_then c.args.left counted.result (length all)
     ∙ ap (left_after c.args.left) sum
 

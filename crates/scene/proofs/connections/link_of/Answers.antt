@@ -62,7 +62,7 @@ place_near-to-requires c =
 
 pub returns-in_default-to : goal.returns-in_default-to
 returns-in_default-to c =
-    let e = sym (from_place (goal.at.returns-in_default-to c).After-place_near-from) ∙ c.in-At.is in
+    let e = sym (from_place (goal.at.returns-in_default-to c).After-place_near-from) ∙ c.in-Some.is in
     let g = sym (to-place (goal.at.returns-in_default-to c).After-place_near-to) ∙ c.in_default-to.is in
     rw (e, g)
 
@@ -75,16 +75,16 @@ natural_at-requires-3 c = (
 
 pub ports_between-requires : goal.ports_between-requires
 ports_between-requires c =
-    let e = sym (from_place (goal.at.ports_between-requires c).After-place_near-from) ∙ c.in-At.is in
-    let g = sym (to-place (goal.at.ports_between-requires c).After-place_near-to) ∙ c.in-At-to.is in record {
+    let e = sym (from_place (goal.at.ports_between-requires c).After-place_near-from) ∙ c.in-Some.is in
+    let g = sym (to-place (goal.at.ports_between-requires c).After-place_near-to) ∙ c.in-Some-to.is in record {
       components = c.requires.components;
       a_bound = (place_below_lem c.args.components.now _ _ e, place_below_lem c.args.components.now _ _ g);
     }
 
 pub returns : goal.returns
 returns c =
-    let e = sym (from_place (goal.at.returns c).After-place_near-from) ∙ c.in-At.is in
-    let g = sym (to-place (goal.at.returns c).After-place_near-to) ∙ c.in-At-to.is in
+    let e = sym (from_place (goal.at.returns c).After-place_near-from) ∙ c.in-Some.is in
+    let g = sym (to-place (goal.at.returns c).After-place_near-to) ∙ c.in-Some-to.is in
     rw (e, g, ← c.natural_at-3.ensures) c.ports_between.ensures
 
 pub overflow_mul-at : goal.overflow_mul-at

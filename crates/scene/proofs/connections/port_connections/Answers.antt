@@ -1,5 +1,10 @@
 -- `scene::connections::port_connections` meets its contract: the checks decide, and leave the table of ids for the work.
 -- Assumes nothing.
+use Rattle.lists.specs.declared.Fault.{Fault}
+use Rattle.lists.specs.declared.Section.{Section}
+use Rattle.std.specs.Prelude.{Some}
+use Rattle.std.specs.Prelude.{⊤, Result, Ok}
+use Rattle.lists.specs.declared.Refusal.{Refusal}
 use mathlib.Core.Path.{◌≡◌, sym, ap, ◌∙◌}
 use mathlib.Core.Bool.{Bool}
 use mathlib.Core.List.{List, []}
@@ -13,8 +18,6 @@ use Rattle.lists.specs.Records.{component_count, connection_count}
 use Rattle.lists.specs.Ranges.{first_out_of_range, component_low, component_high, connection_low, connection_high}
 use Rattle.lists.specs.Order.{first_not_ascending, connection_order}
 use Rattle.checks.specs.Refusals.{refuse, room_for, grouping_lists, ports_refusal}
-use Rattle.lists.specs.declared.Checked.{Checked}
-use Rattle.lists.specs.declared.Checked.TheVariants as checked
 use Rattle.checks.proofs.Chain.{both_accept}
 use Rattle.lists.proofs.Fields.{within}
 use Rattle.checks.proofs.Accepts.{Scene, scene_accept, grouping_parts}
@@ -22,13 +25,13 @@ use Rattle.scene.proofs.connections.port_connections.Goals as goal
 use Rattle.scene.proofs.connections.port_connections.Goals.{Start}
 
 -- what the checks say
-checks : (s : Start) {r : Checked} {enough : Bool} → r ≡ grouping_lists s.args.components.now s.args.connections.now [] enough
+checks : (s : Start) {r : Result ⊤ Refusal} {enough : Bool} → r ≡ grouping_lists s.args.components.now s.args.connections.now [] enough
     → enough ≡ room_for (connection_count s.args.connections.now) port_width (length s.args.out.now)
     → r ≡ ports_refusal s.args.components.now s.args.connections.now (length s.args.out.now)
 checks s e d = e ∙ ap (grouping_lists s.args.components.now s.args.connections.now []) d
 
 -- where they accept
-module _ (s : Start) (accept : ports_refusal s.args.components.now s.args.connections.now (length s.args.out.now) ≡ checked.Accepted) where
+module _ (s : Start) (accept : ports_refusal s.args.components.now s.args.connections.now (length s.args.out.now) ≡ Ok tt) where
   scene : let ps = s.args.connections.now in
       Scene s.args.components.now connection_width (length ps) (first_out_of_range connection_low connection_high ps) []
       (room_for (connection_count ps) port_width (length s.args.out.now))
@@ -36,15 +39,15 @@ module _ (s : Start) (accept : ports_refusal s.args.components.now s.args.connec
       let cs = s.args.components.now in
       let ps = s.args.connections.now in
       scene_accept cs connection_width (length ps) (first_out_of_range connection_low connection_high ps) [] _
-      (both_accept _ (refuse 6 1 (first_not_ascending connection_order connection_width ps)) (grouping_parts cs ps [] _ ∙ accept)).0
+      (both_accept _ (refuse Fault.UnsortedConnections (Some Section.Connections) (first_not_ascending connection_order connection_width ps)) (grouping_parts cs ps [] _ ∙ accept)).0
 
   few : (keys : List ℕ) → length keys ≡ component_limit → component_count s.args.components.now ≤ length keys
   few keys e = omega (arith, scene.lengths.components_few)
 
-pub returns-in-Refused : goal.returns-in-Refused
-returns-in-Refused c =
-    let s = (goal.at.returns-in-Refused c).Start in
-    let e = sym (checks s c.grouping_lists-checked.ensures.answer c.room_for-enough.ensures) ∙ c.in-Refused.is in
+pub returns-in-Err : goal.returns-in-Err
+returns-in-Err c =
+    let s = (goal.at.returns-in-Err c).Start in
+    let e = sym (checks s c.grouping_lists-checked.ensures.answer c.room_for-enough.ensures) ∙ c.in-Err.is in
     record { answer = rw e; left = rw e }
 
 pub slice_bounds-keys-end : goal.slice_bounds-keys-end

@@ -158,27 +158,27 @@ returns-then-f-text c =
     ∙ something_behind _ _ _ a.text.now _ _ c.if-f-text.true
     ∙ ap Faulty (sym c.bad_line.ensures)
 
-pub returns-in-Refused : goal.returns-in-Refused
-returns-in-Refused c =
+pub returns-in-Err : goal.returns-in-Err
+returns-in-Err c =
     let a = c.args in
     let e =
-    first a.text.now a.limits c.cut-most.result c.cut-most.ensures c.check_list-first.result (Refused c.in-Refused.refusal)
-    c.check_list-first.ensures c.in-Refused.is in
+    first a.text.now a.limits c.cut-most.result c.cut-most.ensures c.check_list-first.result (Refused c.in-Err.refusal)
+    c.check_list-first.ensures c.in-Err.is in
     first_fault a.limits.components a.limits.connections a.limits.frontiers a.text.now e
 
-pub returns-in-Refused-second : goal.returns-in-Refused-second
-returns-in-Refused-second c =
+pub returns-in-Err-second : goal.returns-in-Err-second
+returns-in-Err-second c =
     let a = c.args in
     let g =
     first a.text.now a.limits c.cut-most.result c.cut-most.ensures c.check_list-first.result (Good c.in-Good.c) c.check_list-first.ensures
     c.in-Good.is in
     let e =
     second a.text.now a.limits c.cut-most.result c.cut-most.ensures c.in-Good.c.end (line-1 c.in-Good.c) c.check_list-second.result
-    (Refused c.in-Refused-second.refusal) c.check_list-second.ensures c.in-Refused-second.is in
+    (Refused c.in-Err-second.refusal) c.check_list-second.ensures c.in-Err-second.is in
     second_fault a.limits.components a.limits.connections a.limits.frontiers a.text.now g.3 e
 
-pub returns-in-Refused-third : goal.returns-in-Refused-third
-returns-in-Refused-third c =
+pub returns-in-Err-third : goal.returns-in-Err-third
+returns-in-Err-third c =
     let a = c.args in
     let g =
     first a.text.now a.limits c.cut-most.result c.cut-most.ensures c.check_list-first.result (Good c.in-Good.c) c.check_list-first.ensures
@@ -188,7 +188,7 @@ returns-in-Refused-third c =
     (Good c.in-Good-second.p) c.check_list-second.ensures c.in-Good-second.is in
     let e =
     third a.text.now a.limits c.cut-most.result c.cut-most.ensures c.in-Good-second.p.end (line-2 c.in-Good.c c.in-Good-second.p)
-    c.check_list-third.result (Refused c.in-Refused-third.refusal) c.check_list-third.ensures c.in-Refused-third.is in
+    c.check_list-third.result (Refused c.in-Err-third.refusal) c.check_list-third.ensures c.in-Err-third.is in
     third_fault a.limits.components a.limits.connections a.limits.frontiers a.text.now g.3 h.3 e
 
 pub returns-else-f-text : goal.returns-else-f-text

@@ -1,4 +1,5 @@
 -- Answers for the goals that the search leaves.
+use Rattle.std.specs.Prelude.{None}
 use mathlib.Core.Path.{◌≡◌, refl, sym, ap, ◌∙◌}
 use mathlib.Core.Logic.{⊎_elim}
 use mathlib.Core.List.{List}
@@ -11,13 +12,12 @@ use lib.Seq.{get_or-set_same, get_or-set_other}
 use Rattle.tables.specs.Laws.{same?}
 use Rattle.lists.specs.Records.{component_count}
 use Rattle.lists.specs.Ids.{member_of, first_repeated}
-use Rattle.lists.specs.declared.Found.TheVariants.{Nothing}
 use Rattle.lists.proofs.Table.{table_long}
 use Rattle.lists.proofs.Members.{member_below, member_inj}
 use Rattle.signals.proofs.stages.place_members.Goals as goal
 
 -- a further member at its component's place
-placed : (cs : List ℤ) (members : List ℕ) (m r : ℕ) → first_repeated cs ≡ Nothing → r < component_count cs → member_of cs r ≡ m → r < length members
+placed : (cs : List ℤ) (members : List ℕ) (m r : ℕ) → first_repeated cs ≡ None → r < component_count cs → member_of cs r ≡ m → r < length members
     → ((p : ℕ) → p < component_count cs → member_of cs p < m → get_or members p 0 ≡ member_of cs p)
     → (p : ℕ) → p < component_count cs → member_of cs p < m + 1 → get_or (set members r m) p 0 ≡ member_of cs p
 placed cs members m r once below is room before p h l =
