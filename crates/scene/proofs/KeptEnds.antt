@@ -4,6 +4,7 @@
 --     kept_whole                   they are whole rows
 --     kept_no_missing              so refusal 7 does not arise of them
 -- Assumes nothing.
+use Rattle.std.specs.Prelude.{Option, Some}
 use Rattle.std.specs.Prelude.{None}
 use mathlib.Core.Path.{◌≡◌, refl, ap, ◌∙◌}
 use mathlib.Core.Bool.{Bool, true, false}
@@ -24,17 +25,15 @@ use Rattle.lists.proofs.Search.{first_nothing}
 use Rattle.faces.specs.Rows.{port_places}
 use Rattle.faces.specs.Select.{support_kind}
 use Rattle.scene.specs.Kept.{link_of, row_by, kept_row, rows_below, kept_rows, kept_count}
-use Rattle.scene.specs.declared.connections.Link.{Link}
-use Rattle.scene.specs.declared.connections.Link.TheVariants.{Ports, Dropped}
 use Rattle.faces.proofs.Transfers.{transfer_below}
 use Rattle.scene.proofs.Links.{linked}
 
 pub support_dropped : (cs ps : List ℤ) (k : ℕ) → (connection ps k).kind ≡ support_kind → kept_row cs ps k ≡ []
 support_dropped cs ps k e = go (link_of cs (connection ps k)) refl
   where
-    go : (l : Link) → link_of cs (connection ps k) ≡ l → row_by (connection ps k) l ≡ []
-    go Dropped h = refl
-    go (Ports i j) h = absurd ((linked cs (connection ps k) i j h).unsupported e)
+    go : (l : Option (ℕ × ℕ)) → link_of cs (connection ps k) ≡ l → row_by (connection ps k) l ≡ []
+    go None h = refl
+    go (Some (i, j)) h = absurd ((linked cs (connection ps k) i j h).unsupported e)
 
 -- ---- a row
 
@@ -76,12 +75,12 @@ module _ (cs rows row : List ℤ) (r : Each cs rows) (five : length row ≡ 5) (
     each = λ i h. at_row i (ltb i (length rows / 5)) refl h;
   }
 
-one_more : (cs ps rows : List ℤ) (k : ℕ) → Each cs rows → (l : Link) → link_of cs (connection ps k) ≡ l → Each cs (rows ++ map pos (row_by (connection ps k) l))
-one_more cs ps rows k r Dropped e = rw append-nil r
-one_more cs ps rows k r (Ports i j) e =
+one_more : (cs ps rows : List ℤ) (k : ℕ) → Each cs rows → (l : Option (ℕ × ℕ)) → link_of cs (connection ps k) ≡ l → Each cs (rows ++ map pos (row_by (connection ps k) l))
+one_more cs ps rows k r None e = rw append-nil r
+one_more cs ps rows k r (Some (i, j)) e =
     let p = connection ps k in
     let l = linked cs p i j e in
-    more cs rows (map pos (row_by p (Ports i j))) r refl
+    more cs rows (map pos (row_by p (Some (i, j)))) r refl
     (record { source = l.source; sink = l.sink; source_port_of = l.source_port_of; sink_port_of = l.sink_port_of; transfer = transfer_below p.kind l.unsupported })
 
 each_below : (cs ps : List ℤ) (k : ℕ) → Each cs (map pos (rows_below cs ps k))

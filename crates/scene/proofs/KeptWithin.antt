@@ -22,15 +22,13 @@ use Rattle.lists.specs.Within.{Components, PortConnections}
 use Rattle.lists.proofs.Search.{found_at, never}
 use Rattle.lists.proofs.Fields.{first_most}
 use Rattle.scene.specs.Kept.{link_of, row_by, rows_below, kept_rows, kept_count}
-use Rattle.scene.specs.declared.connections.Link.{Link}
-use Rattle.scene.specs.declared.connections.Link.TheVariants.{Ports, Dropped}
 use Rattle.scene.proofs.KeptEnds.{KeptEnds, kept_ends}
 
 -- ---- how many
 
-row_few : (p : Connection) (l : Link) → length (row_by p l) ≤ port_width
-row_few p (Ports i j) = omega arith
-row_few p Dropped = omega arith
+row_few : (p : Connection) (l : Option (ℕ × ℕ)) → length (row_by p l) ≤ port_width
+row_few p (Some (i, j)) = omega arith
+row_few p None = omega arith
 
 rows_few : (cs ps : List ℤ) (k : ℕ) → length (rows_below cs ps k) ≤ k * port_width
 unfolding rows_below

@@ -21,13 +21,12 @@ use Rattle.faces.specs.Rows.{port_places}
 use Rattle.faces.specs.Step.{step_face}
 use Rattle.faces.specs.Select.{support_kind, fits, serves, port_at, select_port}
 use Rattle.scene.specs.Kept.{both_ports, ports_between, link_between, link_of}
-use Rattle.scene.specs.declared.connections.Link.TheVariants.{Ports, Dropped}
 use Rattle.faces.proofs.Sound.{ports_few, structural_down}
 
 -- ---- between two components
 
 module _ (source sink : Component) (kind : ℕ) where
-  pub between_none : step_face source sink ≡ NoFace → ports_between source sink kind ≡ Dropped
+  pub between_none : step_face source sink ≡ NoFace → ports_between source sink kind ≡ None
   unfolding ports_between
   between_none e = rw e
 
@@ -40,13 +39,13 @@ pub record Chosen (source sink : Component) (kind i j : ℕ) : Type 0 where
   pub out : select_port (ports_of source) (step_face source sink) true kind ≡ Some i
   pub into : select_port (ports_of sink) (opposite (step_face source sink)) false kind ≡ Some j
 
-both_chosen : (t : Bool) (f g : Option ℕ) (i j : ℕ) → cond t Dropped (both_ports f g) ≡ Ports i j → (f ≡ Some i) × (g ≡ Some j)
+both_chosen : (t : Bool) (f g : Option ℕ) (i j : ℕ) → cond t None (both_ports f g) ≡ Some (i, j) → (f ≡ Some i) × (g ≡ Some j)
 both_chosen true f g i j e = let z : ◌≡◌ {A = ℕ} 0 1 = cc in absurd (omega arith)
 both_chosen false None g i j e = let z : ◌≡◌ {A = ℕ} 0 1 = cc in absurd (omega arith)
 both_chosen false (Some a) None i j e = let z : ◌≡◌ {A = ℕ} 0 1 = cc in absurd (omega arith)
 both_chosen false (Some a) (Some b) i j e = (cc, cc)
 
-chosen : (source sink : Component) (kind i j : ℕ) → ports_between source sink kind ≡ Ports i j → Chosen source sink kind i j
+chosen : (source sink : Component) (kind i j : ℕ) → ports_between source sink kind ≡ Some (i, j) → Chosen source sink kind i j
 unfolding ports_between
 chosen source sink kind i j e =
     let r = both_chosen (eqb (step_face source sink) NoFace) (select_port (ports_of source) (step_face source sink) true kind)
@@ -102,10 +101,10 @@ pub record Linked (cs : List ℤ) (p : Connection) (i j : ℕ) : Type 0 where
   pub sink_port_of : j < port_places
   pub unsupported : p.kind ≡ support_kind → ⊥
 
-pub linked : (cs : List ℤ) (p : Connection) (i j : ℕ) → link_of cs p ≡ Ports i j → Linked cs p i j
+pub linked : (cs : List ℤ) (p : Connection) (i j : ℕ) → link_of cs p ≡ Some (i, j) → Linked cs p i j
 linked cs p i j e = go (place_of cs p.source) (place_of cs p.sink) refl refl e
   where
-    go : (f g : Option ℕ) → place_of cs p.source ≡ f → place_of cs p.sink ≡ g → link_between cs p.kind f g ≡ Ports i j → Linked cs p i j
+    go : (f g : Option ℕ) → place_of cs p.source ≡ f → place_of cs p.sink ≡ g → link_between cs p.kind f g ≡ Some (i, j) → Linked cs p i j
     go None g a b h = let z : ◌≡◌ {A = ℕ} 0 1 = cc in absurd (omega arith)
     go (Some x) None a b h = let z : ◌≡◌ {A = ℕ} 0 1 = cc in absurd (omega arith)
     go (Some x) (Some y) a b h =

@@ -5,6 +5,7 @@
 --     put_more                     one more row after those that are laid
 --     Laid                         the rows kept of the connections below k, none at first, one connection more, and all
 -- Assumes nothing.
+use Rattle.std.specs.Prelude.{Option, Some, None}
 use mathlib.Core.Path.{◌≡◌, refl, sym, ◌∙◌}
 use mathlib.Core.List.{List, [], ◌∷◌, ◌++◌, map, append-nil, map-append}
 use Prim.Native.Nat.{ℕ, ◌+◌, ◌*◌, ◌≤◌, ◌<◌}
@@ -24,8 +25,6 @@ use Rattle.lists.specs.Records.{Connection, connection, connection_count}
 use Rattle.lists.specs.Slices.{laid}
 use Rattle.scene.specs.Kept.{link_of, row_by, kept_row, rows_below}
 use Rattle.scene.specs.Answer.{Put, Filled, AllKept}
-use Rattle.scene.specs.declared.connections.Link.{Link}
-use Rattle.scene.specs.declared.connections.Link.TheVariants.{Ports, Dropped}
 
 -- each number is the one that is meant
 pub five_puts : {a b c d e a₁ b₁ c₁ d₁ e₁ : ℤ} (l : List ℤ) (i : ℕ) → i + 5 ≤ length l → a₁ ≡ a → b₁ ≡ b → c₁ ≡ c → d₁ ≡ d → e₁ ≡ e
@@ -62,9 +61,9 @@ pub none_laid : (cs ps old : List ℤ) → Laid cs ps old old 0 0
 unfolding rows_below
 none_laid cs ps old = record { rows = refl; full = refl; few = omega arith; long = refl; within = omega arith }
 
-row_few : (p : Connection) (l : Link) → length (map pos (row_by p l)) ≤ port_width
-row_few p (Ports i j) = omega arith
-row_few p Dropped = omega arith
+row_few : (p : Connection) (l : Option (ℕ × ℕ)) → length (map pos (row_by p l)) ≤ port_width
+row_few p (Some (i, j)) = omega arith
+row_few p None = omega arith
 
 rows_more : (cs ps : List ℤ) (k : ℕ) → map pos (rows_below cs ps (k + 1)) ≡ map pos (rows_below cs ps k) ++ map pos (kept_row cs ps k)
 unfolding rows_below

@@ -9,35 +9,33 @@ use Rattle.lists.specs.Ids.{place_of}
 use Rattle.faces.specs.Ports.{NoFace, opposite, ports_of}
 use Rattle.faces.specs.Step.{step_face}
 use Rattle.faces.specs.Select.{select_port, transfer_of}
-use Rattle.scene.specs.declared.connections.Link.{Link}
-use Rattle.scene.specs.declared.connections.Link.TheVariants.{Ports, Dropped}
 
 -- a port at each end
-abbrev pub both_ports : Option ℕ → Option ℕ → Link
-both_ports (Some i) (Some j) = Ports i j
-both_ports (Some i) None = Dropped
-both_ports None sink = Dropped
+abbrev pub both_ports : Option ℕ → Option ℕ → Option (ℕ × ℕ)
+both_ports (Some i) (Some j) = Some (i, j)
+both_ports (Some i) None = None
+both_ports None sink = None
 
 -- the source's port at the step's face and the sink's at the opposite one
-unfoldable pub ports_between : Component → Component → ℕ → Link
+unfoldable pub ports_between : Component → Component → ℕ → Option (ℕ × ℕ)
 ports_between source sink kind =
     let face = step_face source sink in
-    cond (eqb face NoFace) Dropped
+    cond (eqb face NoFace) None
     (both_ports (select_port (ports_of source) face true kind) (select_port (ports_of sink) (opposite face) false kind))
 
 -- between the components at two places
-abbrev pub link_between : List ℤ → ℕ → Option ℕ → Option ℕ → Link
+abbrev pub link_between : List ℤ → ℕ → Option ℕ → Option ℕ → Option (ℕ × ℕ)
 link_between cs kind (Some a) (Some b) = ports_between (component cs a) (component cs b) kind
-link_between cs kind (Some a) None = Dropped
-link_between cs kind None sink = Dropped
+link_between cs kind (Some a) None = None
+link_between cs kind None sink = None
 
-abbrev pub link_of : List ℤ → Connection → Link
+abbrev pub link_of : List ℤ → Connection → Option (ℕ × ℕ)
 link_of cs p = link_between cs p.kind (place_of cs p.source) (place_of cs p.sink)
 
 -- source, source port, sink, sink port, transfer; or no row
-abbrev pub row_by : Connection → Link → List ℕ
-row_by p (Ports i j) = p.source ∷ i ∷ p.sink ∷ j ∷ transfer_of p.kind ∷ []
-row_by p Dropped = []
+abbrev pub row_by : Connection → Option (ℕ × ℕ) → List ℕ
+row_by p (Some (i, j)) = p.source ∷ i ∷ p.sink ∷ j ∷ transfer_of p.kind ∷ []
+row_by p None = []
 
 abbrev pub kept_row : List ℤ → List ℤ → ℕ → List ℕ
 kept_row cs ps k = row_by (connection ps k) (link_of cs (connection ps k))

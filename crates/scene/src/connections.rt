@@ -1,5 +1,5 @@
 // The port connections that are kept of a scene.
-ghost use Rattle.std.specs.Prelude.{◌≡◌, ◌+◌, ◌*◌, ◌≤◌, ◌<◌, map, length, pos};
+ghost use Rattle.std.specs.Prelude.{◌≡◌, Some, ◌+◌, ◌*◌, ◌≤◌, ◌<◌, map, length, pos};
 ghost use Rattle.lists.specs.Limits.{port_width};
 ghost use Rattle.lists.specs.Records.{component, connection, component_count, connection_count};
 ghost use Rattle.lists.specs.Within.{Components, Connections};
@@ -18,13 +18,6 @@ use faces::step::{facing_between, opposite_face};
 use lists::hints::{HINTS, hint_ids, place_near};
 use lists::numbers::natural_at;
 use lists::{COMPONENT, COMPONENTS, CONNECTION, PORT, Refusal};
-
-// The ports that a connection takes at its ends, or none.
-#[derive(Clone, Copy)]
-pub enum Link {
-    Ports { source: usize, sink: usize },
-    Dropped,
-}
 
 // The port that component k has for a connection at a face.
 fn port_at(components: &[i64], k: usize, face: u64, outgoing: bool, kind: u64) -> Option<usize>
@@ -63,25 +56,19 @@ fn step_face(components: &[i64], a: usize, b: usize) -> u64
     )
 }
 
-// The ports of a connection from component a to component b.
-fn ports_between(components: &[i64], a: usize, b: usize, kind: u64) -> Link
+// The ports that a connection from component a to component b takes at its ends.
+fn ports_between(components: &[i64], a: usize, b: usize, kind: u64) -> Option<(usize, usize)>
     requires components { Components components.now }
     requires a_bound { (a < component_count components.now) × (b < component_count components.now) }
     ensures { result ≡ ports_between (component components.now a) (component components.now b) kind }
 {
     let face = step_face(components, a, b);
     if face == 0 {
-        return Link::Dropped;
+        return None;
     }
-    let out = port_at(components, a, face, true, kind);
-    let Some(source) = out else {
-        return Link::Dropped;
-    };
-    let into = port_at(components, b, opposite_face(face), false, kind);
-    let Some(sink) = into else {
-        return Link::Dropped;
-    };
-    Link::Ports { source, sink }
+    let source = port_at(components, a, face, true, kind)?;
+    let sink = port_at(components, b, opposite_face(face), false, kind)?;
+    Some((source, sink))
 }
 
 // The ports of connection k. `keys` is the table of ids.
@@ -91,7 +78,7 @@ fn link_of(
     connections: &[i64],
     k: usize,
     hints: &[u16; HINTS],
-) -> Link
+) -> Option<(usize, usize)>
     requires components { Components components.now }
     requires id_table { IdTable components.now keys.now }
     requires connections { Connections connections.now }
@@ -99,14 +86,8 @@ fn link_of(
     ensures { result ≡ link_of components.now (connection connections.now k) }
 {
     let at = k * CONNECTION;
-    let from = place_near(keys, hints, natural_at(connections, at));
-    let Some(a) = from else {
-        return Link::Dropped;
-    };
-    let to = place_near(keys, hints, natural_at(connections, at + 1));
-    let Some(b) = to else {
-        return Link::Dropped;
-    };
+    let a = place_near(keys, hints, natural_at(connections, at))?;
+    let b = place_near(keys, hints, natural_at(connections, at + 1))?;
     ports_between(components, a, b, natural_at(connections, at + 2))
 }
 
@@ -123,7 +104,7 @@ fn put_row(
     requires k_bound { k < connection_count connections.now }
     requires source_port_lt_port_places { (source_port < port_places) × (sink_port < port_places) }
     requires port_width_in_bounds { at + port_width ≤ length out.old }
-    ensures { Put (map pos (row_by (connection connections.now k) (Link.Ports source_port sink_port))) at out.old out.new }
+    ensures { Put (map pos (row_by (connection connections.now k) (Some (source_port, sink_port)))) at out.old out.new }
 {
     let p = k * CONNECTION;
     let transfer = transfer_of(natural_at(connections, p + 2));
@@ -152,7 +133,7 @@ fn keep(
     ensures { Filled (map pos (kept_row components.now connections.now k)) count out.old out.new result }
 {
     let link = link_of(components, keys, connections, k, hints);
-    let Link::Ports { source, sink } = link else {
+    let Some((source, sink)) = link else {
         return count;
     };
     put_row(connections, k, source, sink, out, count * PORT);
@@ -185,16 +166,13 @@ pub fn port_connections(components: &[i64], connections: &[i64], out: &mut [i64]
 {
     let enough = room_for(connections.len() / CONNECTION, PORT, out.len());
     let mut keys = [0u64; COMPONENTS];
-    let checked = grouping_lists(
+    grouping_lists(
         components,
         connections,
         &connections[..0],
         enough,
         &mut keys,
-    );
-    if let Err(refusal) = checked {
-        return Err(refusal);
-    }
+    )?;
     let count = components.len() / COMPONENT;
     Ok(keep_all(components, &keys[..count], connections, out))
 }
