@@ -10,6 +10,7 @@ use native.Mathlib.Omega.{arith}
 use mathlib.Core.Path.{◌≡◌, refl, sym, ap, subst, ◌∙◌}
 use mathlib.Core.Logic.{⊎_elim}
 use mathlib.Core.List.{List, [], ◌∷◌}
+use lib.Seq.{drop-drop}
 use lib.ListN.{length, get_or, drop, drop_of_length-le, length-append}
 use borrow.Author.Tests.{eq-eqb, ne_eqb}
 use Rattle.lines.specs.Decimal.{limit}
@@ -128,6 +129,17 @@ key_passed key s a =
       | there h q ↦ (omega (arith, simp length-append at (ap length (key_sound key s h))), q)
       | missing h q ↦ absurd (subst Accepted q a)
     ]
+
+-- the same at a position of a text
+pub known_key : (text : List ℕ) (at : ℕ) (key : List ℕ) → Accepted (read_line key (drop at text))
+    → (read_line key (drop at text) ≡ read_number (drop (at + length key + 1) text))
+    × Accepted (read_number (drop (at + length key + 1) text))
+known_key text at key a =
+    let e = (key_passed key (drop at text) a).1 in
+    let s : at + (length key + 1) ≡ at + length key + 1 = omega arith in
+    let q : read_line key (drop at text) ≡ read_number (drop (at + length key + 1) text) =
+    e ∙ ap read_number (drop-drop (length key + 1) at text ∙ ap (λ (n : ℕ). drop n text) s) in
+    (q, subst Accepted q a)
 
 pub known_start : (s : List ℕ) → Accepted (read_magnitude s) → (read_digits 0 s ≡ read_magnitude s) × Accepted (read_digits 0 s)
 known_start s a = let e = magnitude_digits s a in (e, subst Accepted (sym e) a)

@@ -16,19 +16,19 @@ use Rattle.sheet.specs.Sheet.{Parsed, Lists, Faulty}
 use Rattle.sheet.specs.Entry.{enough_room, SheetRead}
 use Rattle.sheet.specs.Places.{AllStand, Lent, AllLaid}
 use Rattle.sheet.specs.declared.Places.{Places}
-use Rattle.sheet.specs.declared.Reading.TheVariants.{Read, Refused}
+use Rattle.std.specs.Prelude.{Ok, Err}
 
 module _ (p : Parsed) (a b c : List ℤ) where
-  pub faulty : {r : Refusal} → p ≡ Faulty r → SheetRead p a a b b c c (Refused r)
+  pub faulty : {r : Refusal} → p ≡ Faulty r → SheetRead p a a b b c c (Err r)
   faulty e = record { answer = rw e; numbers = rw e; components_left = rw e; connections_left = rw e; frontiers_left = rw e }
 
   module _ {cs ps fs : List ℤ} (e : p ≡ Lists cs ps fs) where
-    pub short : enough_room cs ps fs (length a) (length b) (length c) ≡ false → SheetRead p a a b b c c (Refused (record { number = 2; list = 3; item = 0 }))
+    pub short : enough_room cs ps fs (length a) (length b) (length c) ≡ false → SheetRead p a a b b c c (Err (record { number = 2; list = 3; item = 0 }))
     short h = record { answer = rw (e, h); numbers = rw (e, h); components_left = rw (e, h); connections_left = rw (e, h); frontiers_left = rw (e, h) }
 
     pub read : {a' b' c' : List ℤ} {x y z : ℕ} → enough_room cs ps fs (length a) (length b) (length c) ≡ true → AllLaid cs ps fs a a' b b' c c'
         → x ≡ component_count cs → y ≡ connection_count ps → z ≡ frontier_count fs
-        → SheetRead p a a' b b' c c' (Read (record { components = x; connections = y; frontiers = z }))
+        → SheetRead p a a' b b' c c' (Ok (record { components = x; connections = y; frontiers = z }))
     read h l k m n = record {
       answer = rw (e, h, k, m, n);
       numbers = rw (e, h, k, m, n);

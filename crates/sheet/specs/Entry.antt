@@ -1,17 +1,16 @@
 -- What reading a sheet answers and leaves (document 01, "The sheet and the program": "Then come 2 for the work lists"; after the table of
 -- refusals: "A sheet also needs work lists of the lengths it counts", a refusal "changes no slice").
 -- Assumes nothing: these are definitions.
-use Rattle.std.specs.Prelude.{ℕ, ◌≡◌, Bool, ◌&&◌, List, [], ◌∷◌, ℤ, length}
+use Rattle.std.specs.Prelude.{ℕ, ◌≡◌, Bool, ◌&&◌, List, [], ◌∷◌, ℤ, Result, Ok, Err, length}
 use Rattle.lists.specs.Limits.{component_width, connection_width, frontier_width}
 use Rattle.lists.specs.Records.{component_count, connection_count, frontier_count}
 use Rattle.checks.specs.Refusals.{refuse, too_short, room_for, refusal_numbers, numbers_by}
 use Rattle.lists.specs.Slices.{left_of}
+use Rattle.lists.specs.declared.Refusal.{Refusal}
 use Rattle.lists.specs.declared.Checked.{Checked}
 use Rattle.lists.specs.declared.Checked.TheVariants as checked
 use Rattle.sheet.specs.Sheet.{Parsed, Lists, Faulty}
 use Rattle.sheet.specs.declared.Counts.{Counts}
-use Rattle.sheet.specs.declared.Reading.{Reading}
-use Rattle.sheet.specs.declared.Reading.TheVariants.{Read, Refused}
 
 -- ---- the lists of a sheet; of a faulty one none
 
@@ -48,17 +47,17 @@ counts_of p = record {
   frontiers = frontier_count (frontiers_of p);
 }
 
-abbrev pub reading_of : Checked → Counts → Reading
-reading_of checked.Accepted counts = Read counts
-reading_of (checked.Refused r) counts = Refused r
+abbrev pub reading_of : Checked → Counts → Result Counts Refusal
+reading_of checked.Accepted counts = Ok counts
+reading_of (checked.Refused r) counts = Err r
 
 -- the paper's numbers of each case: 0 and how many records each list has, or those of the refusal
-abbrev pub numbers_of : Reading → List ℕ
-numbers_of (Read counts) = 0 ∷ counts.components ∷ counts.connections ∷ counts.frontiers ∷ []
-numbers_of (Refused r) = refusal_numbers r
+abbrev pub numbers_of : Result Counts Refusal → List ℕ
+numbers_of (Ok counts) = 0 ∷ counts.components ∷ counts.connections ∷ counts.frontiers ∷ []
+numbers_of (Err r) = refusal_numbers r
 
 -- from a parsed text and three lent work lists
-pub record SheetRead (p : Parsed) (components components' connections connections' frontiers frontiers' : List ℤ) (r : Reading) : Type 0 where
+pub record SheetRead (p : Parsed) (components components' connections connections' frontiers frontiers' : List ℤ) (r : Result Counts Refusal) : Type 0 where
   pub answer : r ≡ reading_of (sheet_checked p (length components) (length connections) (length frontiers)) (counts_of p)
   pub numbers : numbers_of r ≡ numbers_by (sheet_checked p (length components) (length connections) (length frontiers))
       (component_count (components_of p) ∷ connection_count (connections_of p) ∷ frontier_count (frontiers_of p) ∷ [])

@@ -9,7 +9,9 @@ use Rattle.std.specs.Prelude.{ℕ, zero, suc, ◌+◌, ◌*◌, min, cond, List,
 use Rattle.lines.specs.Line.{Taken, taken, refused, read_line, natural}
 use Rattle.lists.specs.Limits.{component_limit, connection_limit, frontier_limit}
 use Rattle.lists.specs.declared.Refusal.{Refusal}
-use Rattle.sheet.specs.Keys.{field_key, count_key, keys_of}
+use Rattle.sheet.specs.Keys.{field_key, count_key, keys_of, list_number}
+use Rattle.sheet.specs.declared.Section.{Section}
+use Rattle.sheet.specs.declared.Section.TheVariants.{Components, Connections, Frontiers}
 
 -- ---- a run of lines
 
@@ -45,8 +47,8 @@ abbrev pub bad_line : ℕ → Refusal
 bad_line line = record { number = 9; list = 3; item = line }
 
 -- 1: a count over its limit
-abbrev pub over_limit : ℕ → ℕ → Refusal
-over_limit list limit = record { number = 1; list = list; item = limit }
+abbrev pub over_limit : Section → ℕ → Refusal
+over_limit list limit = record { number = 1; list = list_number list; item = limit }
 
 -- the fields, the first of which is at a line of the sheet
 abbrev pub fields_from : ℕ → Fields → Part
@@ -54,12 +56,12 @@ fields_from line (got zs s) = part zs s (line + length zs)
 fields_from line (stop k) = fault (bad_line (line + k))
 
 -- the list of a count that was read, or not, at a line of the sheet
-abbrev pub counted : ℕ → ℕ → ℕ → Taken ℕ → Part
+abbrev pub counted : Section → ℕ → ℕ → Taken ℕ → Part
 counted list limit line (taken n s) =
     cond (leb n limit) (fields_from (line + 1) (read_fields (keys_of list) (n * length (keys_of list)) 0 s)) (fault (over_limit list limit))
 counted list limit line refused = fault (bad_line line)
 
-unfoldable pub read_list : ℕ → ℕ → ℕ → List ℕ → Part
+unfoldable pub read_list : Section → ℕ → ℕ → List ℕ → Part
 read_list list limit line s = counted list limit line (natural (read_line (count_key list) s))
 
 -- ---- the sheet
@@ -82,7 +84,7 @@ ended cs ps fs (b ∷ s) line = Faulty (bad_line line)
 -- the caller's limits, cut to those of a scene
 unfoldable pub parse : ℕ → ℕ → ℕ → List ℕ → Parsed
 parse components connections frontiers s =
-    read_list 0 (min components component_limit) 0 s
-    then λ cs s₁ line₁. read_list 1 (min connections connection_limit) line₁ s₁
-    then λ ps s₂ line₂. read_list 2 (min frontiers frontier_limit) line₂ s₂
+    read_list Components (min components component_limit) 0 s
+    then λ cs s₁ line₁. read_list Connections (min connections connection_limit) line₁ s₁
+    then λ ps s₂ line₂. read_list Frontiers (min frontiers frontier_limit) line₂ s₂
     then λ fs s₃ line₃. ended cs ps fs s₃ line₃

@@ -10,9 +10,17 @@ ghost use Rattle.sheet.specs.Sheet.{parse};
 ghost use Rattle.sheet.specs.Entry.{SheetRead};
 
 use checks::refusals::room_for;
-use first_pass::{Outline, check_sheet};
+use first_pass::check_sheet;
 use lists::{COMPONENT, CONNECTION, FRONTIER, Refusal};
 use second_pass::store_sheet;
+
+// A list of a sheet.
+#[derive(Clone, Copy)]
+pub enum Section {
+    Components,
+    Connections,
+    Frontiers,
+}
 
 // How many records a list has, and where its fields start and end in the text.
 #[derive(Clone, Copy)]
@@ -37,12 +45,6 @@ pub struct Counts {
     pub frontiers: usize,
 }
 
-#[derive(Clone, Copy)]
-pub enum Reading {
-    Read(Counts),
-    Refused(Refusal),
-}
-
 // Reads a sheet into lent work lists. The limits, the most records of each list, are cut to those of a scene.
 pub fn read_sheet(
     text: &[u8],
@@ -50,32 +52,27 @@ pub fn read_sheet(
     components: &mut [i64],
     connections: &mut [i64],
     frontiers: &mut [i64],
-) -> Reading
+) -> Result<Counts, Refusal>
     ensures { SheetRead (parse limits.components limits.connections limits.frontiers text.now) components.old components.new connections.old connections.new frontiers.old frontiers.new result }
 {
-    let outline = check_sheet(text, limits);
-    match outline {
-        Outline::Refused(refusal) => Reading::Refused(refusal),
-        Outline::Good(places) => {
-            let c = places.components;
-            let p = places.connections;
-            let f = places.frontiers;
-            let enough = room_for(c.count, COMPONENT, components.len())
-                & room_for(p.count, CONNECTION, connections.len())
-                & room_for(f.count, FRONTIER, frontiers.len());
-            if !enough {
-                return Reading::Refused(Refusal {
-                    number: 2,
-                    list: 3,
-                    item: 0,
-                });
-            }
-            store_sheet(text, places, components, connections, frontiers);
-            Reading::Read(Counts {
-                components: c.count,
-                connections: p.count,
-                frontiers: f.count,
-            })
-        }
+    let places = check_sheet(text, limits)?;
+    let c = places.components;
+    let p = places.connections;
+    let f = places.frontiers;
+    let enough = room_for(c.count, COMPONENT, components.len())
+        & room_for(p.count, CONNECTION, connections.len())
+        & room_for(f.count, FRONTIER, frontiers.len());
+    if !enough {
+        return Err(Refusal {
+            number: 2,
+            list: 3,
+            item: 0,
+        });
     }
+    store_sheet(text, places, components, connections, frontiers);
+    Ok(Counts {
+        components: c.count,
+        connections: p.count,
+        frontiers: f.count,
+    })
 }
