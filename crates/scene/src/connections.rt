@@ -161,7 +161,11 @@ pub fn keep_all(components: &[i64], keys: &[u64], connections: &[i64], out: &mut
 }
 
 // The port connections of a scene, in the order of its grouping connections, as rows at the front of `out`.
-pub fn port_connections(components: &[i64], connections: &[i64], out: &mut [i64]) -> Result<usize, Refusal>
+pub fn port_connections(
+    components: &[i64],
+    connections: &[i64],
+    out: &mut [i64],
+) -> Result<usize, Refusal>
     ensures { Answered components.now connections.now out.old out.new result }
 {
     let enough = room_for(connections.len() / CONNECTION, PORT, out.len());

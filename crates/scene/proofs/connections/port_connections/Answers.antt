@@ -2,8 +2,8 @@
 -- Assumes nothing.
 use Rattle.lists.specs.declared.Fault.{Fault}
 use Rattle.lists.specs.declared.Section.{Section}
-use Rattle.std.specs.Prelude.{Some}
-use Rattle.std.specs.Prelude.{⊤, Result, Ok}
+use Rattle.std.specs.Prelude.{Some, ⊤, Result, Ok, Err}
+use Rattle.std.proofs.Common.{rules}
 use Rattle.lists.specs.declared.Refusal.{Refusal}
 use mathlib.Core.Path.{◌≡◌, sym, ap, ◌∙◌}
 use mathlib.Core.Bool.{Bool}
@@ -44,31 +44,32 @@ module _ (s : Start) (accept : ports_refusal s.args.components.now s.args.connec
   few : (keys : List ℕ) → length keys ≡ component_limit → component_count s.args.components.now ≤ length keys
   few keys e = omega (arith, scene.lengths.components_few)
 
-pub returns-in-Err : goal.returns-in-Err
-returns-in-Err c =
-    let s = (goal.at.returns-in-Err c).Start in
-    let e = sym (checks s c.grouping_lists-checked.ensures.answer c.room_for-enough.ensures) ∙ c.in-Err.is in
-    record { answer = rw e; left = rw e }
+pub returns-in_err-grouping_lists : goal.returns-in_err-grouping_lists
+returns-in_err-grouping_lists c =
+    let s = (goal.at.returns-in_err-grouping_lists c).Start in
+    let e = sym (checks s c.grouping_lists.ensures.answer c.room_for-enough.ensures) ∙ c.in_err-grouping_lists.was in
+    let back : c.from_residual.result ≡ Err c.in_err-grouping_lists.field-0.0 = search rules in
+    record { answer = rw (e, back); left = rw e }
 
 pub slice_bounds-keys-end : goal.slice_bounds-keys-end
 slice_bounds-keys-end c =
     let s = (goal.at.slice_bounds-keys-end c).Start in
-    let e = sym (checks s c.grouping_lists-checked.ensures.answer c.room_for-enough.ensures) ∙ c.in_default.is in
-    few s e c.grouping_lists-checked.new.keys c.grouping_lists-checked.auto.keys
+    let e = sym (checks s c.grouping_lists.ensures.answer c.room_for-enough.ensures) ∙ c.in_ok-grouping_lists.was in
+    few s e c.grouping_lists.new.keys c.grouping_lists.auto.keys
 
 pub slice_bounds-keep_all-end : goal.slice_bounds-keep_all-end
 slice_bounds-keep_all-end c =
     let s = (goal.at.slice_bounds-keep_all-end c).Start in
-    let e = sym (checks s c.grouping_lists-checked.ensures.answer c.room_for-enough.ensures) ∙ c.in_default.is in
-    sym (length-take-le _ c.grouping_lists-checked.new.keys (few s e c.grouping_lists-checked.new.keys c.grouping_lists-checked.auto.keys))
+    let e = sym (checks s c.grouping_lists.ensures.answer c.room_for-enough.ensures) ∙ c.in_ok-grouping_lists.was in
+    sym (length-take-le _ c.grouping_lists.new.keys (few s e c.grouping_lists.new.keys c.grouping_lists.auto.keys))
 
 pub keep_all-requires : goal.keep_all-requires
 keep_all-requires c =
     let s = (goal.at.keep_all-requires c).Start in
-    let e = sym (checks s c.grouping_lists-checked.ensures.answer c.room_for-enough.ensures) ∙ c.in_default.is in
+    let e = sym (checks s c.grouping_lists.ensures.answer c.room_for-enough.ensures) ∙ c.in_ok-grouping_lists.was in
     let p = scene s e in record {
       components = within component_limit component_low component_high c.args.components.now p.lengths.components_few p.ranges.components;
-      id_table = c.grouping_lists-checked.ensures.table c.in_default.is;
+      id_table = c.grouping_lists.ensures.table c.in_ok-grouping_lists.was;
       connections = within connection_limit connection_low connection_high c.args.connections.now p.lengths.connections_few
           p.ranges.connections;
       port_width_in_bounds = omega (arith, leb-true (connection_count c.args.connections.now) (length c.args.out.now / port_width) p.lengths.room);
@@ -77,5 +78,5 @@ keep_all-requires c =
 pub returns : goal.returns
 returns c =
     let s = (goal.at.returns c).Start in
-    let e = sym (checks s c.grouping_lists-checked.ensures.answer c.room_for-enough.ensures) ∙ c.in_default.is in
+    let e = sym (checks s c.grouping_lists.ensures.answer c.room_for-enough.ensures) ∙ c.in_ok-grouping_lists.was in
     record { answer = rw (e, ← c.keep_all.ensures.count); left = rw e c.keep_all.ensures.rows }
