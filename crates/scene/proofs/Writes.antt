@@ -1,22 +1,23 @@
 -- Rows written one after the other into a slice.
 --     small_read, natural_read     numbers read back from their bits
---     five_puts                    a row of five, stored number by number
+--     part_put                     a row written over a part of its length
 --     put_nothing                  no row changes nothing
 --     put_more                     one more row after those that are laid
 --     Laid                         the rows kept of the connections below k, none at first, one connection more, and all
 -- Assumes nothing.
 use Rattle.std.specs.Prelude.{Option, Some, None}
 use mathlib.Core.Path.{◌≡◌, refl, sym, ◌∙◌}
-use mathlib.Core.List.{List, [], ◌∷◌, ◌++◌, map, append-nil, map-append}
+use mathlib.Core.List.{List, [], ◌++◌, map, append-nil, append_assoc, map-append}
 use Prim.Native.Nat.{ℕ, ◌+◌, ◌*◌, ◌≤◌, ◌<◌}
 use native.Mathlib.Nat.{add-zero}
-use native.Mathlib.Numerals.{add-one, add-two, add-three, add-four}
+use native.Mathlib.Numerals.{add-one}
 use native.Mathlib.Omega.{arith}
-use lib.ListN.{length, set, length-append, length-map, take-append-drop}
-use lib.Seq.{sets-eq, take-append_seam, drop-append-add, drop-drop}
+use lib.ListN.{length, length-append, length-map, take-append-drop}
+use lib.Seq.{take-append_seam, drop-append-add, drop-drop}
 use lib.IntN.{ℤ, pos, nat_abs}
 use lib.Dec.{T}
 use lib.Signed.{non_neg, pos-nat_abs}
+use borrow.Rule.Slice.PartMut.{put_mid}
 use mir.Syntax.{w64}
 use mir.Val.{to_z, of_z, SFits}
 use mir.Facts.{to_z-of_z}
@@ -26,11 +27,9 @@ use Rattle.lists.specs.Slices.{laid}
 use Rattle.scene.specs.Kept.{link_of, row_by, kept_row, rows_below}
 use Rattle.scene.specs.Answer.{Put, Filled, AllKept}
 
--- each number is the one that is meant
-pub five_puts : {a b c d e a₁ b₁ c₁ d₁ e₁ : ℤ} (l : List ℤ) (i : ℕ) → i + 5 ≤ length l → a₁ ≡ a → b₁ ≡ b → c₁ ≡ c → d₁ ≡ d → e₁ ≡ e
-    → Put (a ∷ b ∷ c ∷ d ∷ e ∷ []) i l (set (set (set (set (set l i a₁) (i + 1) b₁) (i + 2) c₁) (i + 3) d₁) (i + 4) e₁)
-five_puts {a} {b} {c} {d} {e} l i h p q r s t =
-    record { wrote = rw (p, q, r, s, t, add-one i, add-two i, add-three i, add-four i) (sets-eq (a ∷ b ∷ c ∷ d ∷ e ∷ []) l i h) }
+-- a row written over a part of its length
+pub part_put : {part row : List ℤ} (l : List ℤ) (a k : ℕ) → part ≡ row → length row ≡ k → Put row a l (put_mid a k l part)
+part_put {part} {row} l a k e n = record { wrote = rw (e, n, drop-drop, append_assoc) }
 
 -- a number that is not negative, read back from its bits
 pub small_read : (n : ℕ) → n < 9223372036854775808 → to_z w64 n ≡ pos n
