@@ -10,10 +10,6 @@ pub place_near-requires : goal.place_near-requires
 place_near-requires c =
     omega (arith, c.natural_at-source.ensures, first_most c.args.self.now.connections_within c.args.k c.requires (omega arith) 4294967295 refl refl)
 
-pub place_near-requires-2 : goal.place_near-requires-2
-place_near-requires-2 c =
-    omega (arith, c.natural_at-sink.ensures, field_most c.args.self.now.connections_within c.args.k 1 c.requires (omega arith) 4294967295 refl refl)
-
 pub ports_between-requires : goal.ports_between-requires
 ports_between-requires c =
     let cs = c.args.self.now.components.now in
