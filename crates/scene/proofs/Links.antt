@@ -107,8 +107,8 @@ pub linked : (cs : List ℤ) (p : Connection) (i j : ℕ) → link_of cs p ≡ S
 linked cs p i j e = go (place_of cs p.source) (place_of cs p.sink) refl refl e
   where
     go : (f g : Option ℕ) → place_of cs p.source ≡ f → place_of cs p.sink ≡ g → link_between cs p.kind f g ≡ Some (i, j) → Linked cs p i j
-    go None g a b h = let z : ◌≡◌ {A = ℕ} 0 1 = cc in absurd (omega arith)
-    go (Some x) None a b h = let z : ◌≡◌ {A = ℕ} 0 1 = cc in absurd (omega arith)
+    go None g a b h = cc
+    go (Some x) None a b h = cc
     go (Some x) (Some y) a b h =
         let from = component cs x in
         let to = component cs y in

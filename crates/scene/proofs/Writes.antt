@@ -53,14 +53,12 @@ pub record Laid (cs ps old out : List ℤ) (count k : ℕ) : Type 0 where
   pub rows : out ≡ laid (map pos (rows_below cs ps k)) old
   pub full : count * port_width ≡ length (map pos (rows_below cs ps k))
   pub few : count ≤ k
-  pub long : length out ≡ length old
-  pub within : k ≤ connection_count ps
 
 pub none_laid : (cs ps old : List ℤ) → Laid cs ps old old 0 0
 unfolding rows_below
-none_laid cs ps old = record { rows = refl; full = refl; few = omega arith; long = refl; within = omega arith }
+none_laid cs ps old = record { rows = refl; full = refl; few = omega arith }
 
-row_few : (p : Connection) (l : Option (ℕ × ℕ)) → length (map pos (row_by p l)) ≤ port_width
+pub row_few : (p : Connection) (l : Option (ℕ × ℕ)) → length (row_by p l) ≤ port_width
 row_few p (Some (i, j)) = omega arith
 row_few p None = omega arith
 
@@ -68,22 +66,17 @@ rows_more : (cs ps : List ℤ) (k : ℕ) → map pos (rows_below cs ps (k + 1)) 
 unfolding rows_below
 rows_more cs ps k = rw (add-one k) (map-append pos (rows_below cs ps k) (kept_row cs ps k))
 
-pub one_laid : (cs ps old out out' : List ℤ) (count k r : ℕ) → k < connection_count ps → length out' ≡ length out → Laid cs ps old out count k
+pub one_laid : (cs ps old out out' : List ℤ) (count k r : ℕ) → Laid cs ps old out count k
     → Filled (map pos (kept_row cs ps k)) count out out' r → Laid cs ps old out' r (k + 1)
-one_laid cs ps old out out' count k r h same i f =
+one_laid cs ps old out out' count k r i f =
     let put = rw i.full at f.put in
+    let few = row_few (connection ps k) (link_of cs (connection ps k)) in
     record {
       rows = rw (rows_more cs ps k) (put_more (map pos (rows_below cs ps k)) (map pos (kept_row cs ps k)) old out out' i.rows put);
       full = rw (rows_more cs ps k, length-append) (omega (arith, f.count, i.full));
-      few = omega (arith, f.count, i.few, row_few (connection ps k) (link_of cs (connection ps k)));
-      long = omega (arith, same, i.long);
-      within = omega arith;
+      few = omega (arith, f.count, i.few, few, length-map (kept_row cs ps k) pos);
     }
 
-pub all_laid : (cs ps old out : List ℤ) (count k : ℕ) → connection_count ps ≤ k → Laid cs ps old out count k → AllKept cs ps old out count
-all_laid cs ps old out count k h i =
-    let e : connection_count ps ≡ k = omega (arith, i.within) in
-    record {
-      rows = rw e i.rows;
-      count = rw e (omega (arith, i.full, length-map (rows_below cs ps k) pos));
-    }
+pub all_laid : (cs ps old out : List ℤ) (count k : ℕ) → connection_count ps ≡ k → Laid cs ps old out count k → AllKept cs ps old out count
+all_laid cs ps old out count k e i =
+    record { rows = rw e i.rows; count = rw e (omega (arith, i.full, length-map (rows_below cs ps k) pos)) }

@@ -2,7 +2,7 @@
 -- Assumes nothing.
 use mathlib.Core.Path.{refl, sym, ◌∙◌}
 use native.Mathlib.Omega.{arith}
-use Rattle.lists.proofs.Fields.{first_most, field_most}
+use Rattle.lists.proofs.Fields.{first_most}
 use Rattle.lists.proofs.Table.{place_below_lem}
 use Rattle.scene.proofs.connections.Scene.link_of.Goals as goal
 
