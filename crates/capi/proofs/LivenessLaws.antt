@@ -205,9 +205,9 @@ module _ (components ports frontiers : List ℕ) where
   whole_three e =
       let (one, others) = both_accept first (second or_else third) e in
       let (two, three) = both_accept second third others in
-      let c = refuse_none 1 0 (not_whole (number_bytes * component_width) component_limit (length components)) one in
-      let p = refuse_none 1 1 (not_whole (number_bytes * port_width) connection_limit (length ports)) two in
-      let f = refuse_none 1 2 (not_whole (number_bytes * frontier_width) frontier_limit (length frontiers)) three in
+      let c = refuse_none Fault.ListLength (Some Section.Components) (not_whole (number_bytes * component_width) component_limit (length components)) one in
+      let p = refuse_none Fault.ListLength (Some Section.Connections) (not_whole (number_bytes * port_width) connection_limit (length ports)) two in
+      let f = refuse_none Fault.ListLength (Some Section.Frontiers) (not_whole (number_bytes * frontier_width) frontier_limit (length frontiers)) three in
       record {
         components_few = omega (arith, whole_few _ component_limit _ c, whole_all _ component_limit _ c);
         ports_few = omega (arith, whole_few _ connection_limit _ p, whole_all _ connection_limit _ p);
@@ -216,9 +216,9 @@ module _ (components ports frontiers : List ℕ) where
 
   pub three_fit : Small (liveness_whole components ports frontiers)
   three_fit =
-      small_or_else first (second or_else third) (whole_small 0 (number_bytes * component_width) component_limit (length components) (lit< tt) (lit≤ tt))
-      (λ _. small_or_else second third (whole_small 1 (number_bytes * port_width) connection_limit (length ports) (lit< tt) (lit≤ tt))
-      (λ _. whole_small 2 (number_bytes * frontier_width) frontier_limit (length frontiers) (lit< tt) (lit≤ tt)))
+      small_or_else first (second or_else third) (whole_small (Some Section.Components) (number_bytes * component_width) component_limit (length components) (lit≤ tt))
+      (λ _. small_or_else second third (whole_small (Some Section.Connections) (number_bytes * port_width) connection_limit (length ports) (lit≤ tt))
+      (λ _. whole_small (Some Section.Frontiers) (number_bytes * frontier_width) frontier_limit (length frontiers) (lit≤ tt)))
 
   module _ (regions regions' sources sources' inputs inputs' sets sets' stack stack' : List ℕ) (r : ℕ) where
     pub decoded_alive : (cs fs : List ℤ) → cs ≡ numbers components → fs ≡ numbers frontiers → liveness_whole components ports frontiers ≡ Ok tt

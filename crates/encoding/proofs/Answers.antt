@@ -16,7 +16,7 @@ use mathlib.Core.Bool.{Bool, true, false, ◌&&◌}
 use mathlib.Core.List.{List, []}
 use Prim.Native.Nat.{ℕ, ◌+◌, ◌*◌, ◌/◌, ◌≤◌, min}
 use native.Mathlib.Omega.{arith}
-use lib.Dec.{leb, lit<, lit≤}
+use lib.Dec.{leb, lit≤}
 use lib.ListN.{length, take}
 use lib.IntN.{ℤ}
 use borrow.Author.Tests.{leb-true, leb-false, le-leb, lt-leb}
@@ -47,7 +47,7 @@ pub record Counted (checked : Result ⊤ Refusal) (nets fragments : ℕ) (counts
   pub nets_are : counts.nets ≡ nets
   pub fragments_are : counts.fragments ≡ fragments
 
-same_counts : {a b : Counts} → Ok a ≡ Ok b → a ≡ b
+same_counts : {a b : Counts} → ◌≡◌ {A = Result Counts Refusal} (Ok a) (Ok b) → a ≡ b
 same_counts e = cc
 
 pub counted : (checked : Result ⊤ Refusal) (nets fragments : ℕ) (counts : Counts) → Ok counts ≡ answer_of checked nets fragments → Counted checked nets fragments counts
@@ -122,8 +122,8 @@ module _ (components connections : List ℕ) where
   pub whole_lists : groups_whole components connections ≡ Ok tt → Whole
   whole_lists e =
       let (first, second) = both_accept (refuse Fault.ListLength (Some Section.Components) (not_whole (number_bytes * component_width) component_limit (length components))) _ e in
-      let c = refuse_none 1 0 (not_whole (number_bytes * component_width) component_limit (length components)) first in
-      let p = refuse_none 1 1 (not_whole (number_bytes * connection_width) connection_limit (length connections)) second in
+      let c = refuse_none Fault.ListLength (Some Section.Components) (not_whole (number_bytes * component_width) component_limit (length components)) first in
+      let p = refuse_none Fault.ListLength (Some Section.Connections) (not_whole (number_bytes * connection_width) connection_limit (length connections)) second in
       record {
         components_few = omega (arith, whole_few _ component_limit _ c, whole_all _ component_limit _ c);
         connections_few = omega (arith, whole_few _ connection_limit _ p, whole_all _ connection_limit _ p);
@@ -133,8 +133,8 @@ module _ (components connections : List ℕ) where
   whole_fits =
       small_or_else (refuse Fault.ListLength (Some Section.Components) (not_whole (number_bytes * component_width) component_limit (length components)))
       (refuse Fault.ListLength (Some Section.Connections) (not_whole (number_bytes * connection_width) connection_limit (length connections)))
-      (whole_small 0 (number_bytes * component_width) component_limit (length components) (lit< tt) (lit≤ tt))
-      (λ _. whole_small 1 (number_bytes * connection_width) connection_limit (length connections) (lit< tt) (lit≤ tt))
+      (whole_small (Some Section.Components) (number_bytes * component_width) component_limit (length components) (lit≤ tt))
+      (λ _. whole_small (Some Section.Connections) (number_bytes * connection_width) connection_limit (length connections) (lit≤ tt))
 
   module _ (nets nets' fragments fragments' : List ℕ) (r : ℕ) where
     pub decoded_laid : (cs ps : List ℤ) → cs ≡ numbers components → ps ≡ numbers connections → groups_whole components connections ≡ Ok tt

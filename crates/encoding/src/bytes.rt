@@ -6,10 +6,6 @@ ghost use Rattle.encoding.specs.Bytes.{number_bytes, signed, word_at, numbers, l
 // The bytes of a number.
 pub const NUMBER: usize = 8;
 
-const GREATEST: u64 = 18446744073709551615;
-
-const GREATEST_SIGNED: u64 = 9223372036854775807;
-
 // Number i of the bytes, without its sign.
 fn word_at(bytes: &[u8], i: usize) -> u64
     requires { i * number_bytes + number_bytes ≤ length bytes.now }
@@ -17,22 +13,17 @@ fn word_at(bytes: &[u8], i: usize) -> u64
 {
     let start = i * NUMBER;
     let mut value: u64 = 0;
-    let mut k = NUMBER;
-    while 0 < k {
-        k -= 1;
+    for k in (0..NUMBER).rev() {
         value = bytes[start + k] as u64 + 256 * value;
     }
     value
 }
 
-// The signed number of a word. A cast would not be lossless above the greatest signed number.
+// The signed number of a word.
 fn signed_of(word: u64) -> i64
     ensures { result ≡ signed word }
 {
-    if word <= GREATEST_SIGNED {
-        return word as i64;
-    }
-    -1 - (GREATEST - word) as i64
+    word.cast_signed()
 }
 
 // Reads each whole number of the bytes.
@@ -40,12 +31,9 @@ pub fn decode(bytes: &[u8], out: &mut [i64])
     requires { length bytes.now / number_bytes ≤ length out.old }
     ensures { out.new ≡ laid (numbers bytes.now) out.old }
 {
-    let count = bytes.len() / NUMBER;
-    let mut k: usize = 0;
-    while k < count {
+    for k in 0..bytes.len() / NUMBER {
         let number = signed_of(word_at(bytes, k));
         out[k] = number;
-        k += 1;
     }
 }
 
@@ -53,8 +41,7 @@ pub fn decode(bytes: &[u8], out: &mut [i64])
 pub fn places(len: usize, limit: usize) -> usize
     ensures { result ≡ min (len / number_bytes) limit }
 {
-    let count = len / NUMBER;
-    if count < limit { count } else { limit }
+    (len / NUMBER).min(limit)
 }
 
 // Writes the bytes of a number at the front of a slice.
@@ -63,11 +50,9 @@ fn put_number(out: &mut [u8], value: u64)
     ensures { out.new ≡ laid (low_bytes number_bytes value) out.old }
 {
     let mut rest = value;
-    let mut k: usize = 0;
-    while k < NUMBER {
+    for k in 0..NUMBER {
         out[k] = (rest % 256) as u8;
         rest /= 256;
-        k += 1;
     }
 }
 
@@ -76,11 +61,9 @@ pub fn encode(values: &[u64], out: &mut [u8])
     requires { length values.now * number_bytes ≤ length out.old }
     ensures { out.new ≡ laid (bytes_of values.now) out.old }
 {
-    let mut k: usize = 0;
-    while k < values.len() {
+    for k in 0..values.len() {
         let start = k * NUMBER;
         put_number(&mut out[start..], values[k]);
-        k += 1;
     }
 }
 
@@ -96,9 +79,5 @@ pub fn encode_at(values: &[u64], out: &mut [u8], at: usize)
 pub fn wipe(out: &mut [u8])
     ensures { out.new ≡ cleared out.old }
 {
-    let mut i: usize = 0;
-    while i < out.len() {
-        out[i] = 0;
-        i += 1;
-    }
+    out.fill(0);
 }

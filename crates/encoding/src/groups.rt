@@ -9,7 +9,7 @@ ghost use Rattle.encoding.specs.Entry.{groups_whole, GroupsLaid, GroupsByBytes};
 
 use super::bytes::{NUMBER, decode, encode, places};
 use checks::refusals::pack;
-use circuit::{from_parts};
+use circuit::from_parts;
 use lists::{COMPONENT, COMPONENTS, CONNECTION, CONNECTIONS};
 
 // The counts of an accepted scene as one number.

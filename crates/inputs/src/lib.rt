@@ -8,7 +8,7 @@ mod row;
 ghost use Rattle.inputs.specs.Query.{Answered};
 
 use checks::refusals::{liveness_lists, room_for};
-use lists::{COMPONENT, COMPONENTS, CONNECTIONS};
+use lists::{COMPONENT, COMPONENTS, CONNECTIONS, Refusal};
 use query::{query_scene, refused_input};
 use sets::ComponentSet;
 

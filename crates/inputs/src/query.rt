@@ -24,7 +24,7 @@ use super::row::row_place;
 use assessment::verdicts::slot_fed;
 use lists::ids::member_of;
 use lists::numbers::natural_at;
-use lists::{COMPONENT, COMPONENTS, CONNECTIONS, PORT, Refusal};
+use lists::{COMPONENT, COMPONENTS, CONNECTIONS, Fault, PORT, Refusal};
 use liveness::prepare::prepare;
 use liveness::steps::{flag_drive, flag_inferred};
 use regions::HINTED;

@@ -8,9 +8,9 @@ ghost use Rattle.assessment.specs.Rows.{first_required, required_count};
 ghost use Rattle.inputs.specs.Query.{with_row, row_place};
 
 use assessment::verdicts::{first_required, required_count};
+use lists::COMPONENT;
 use lists::ids::place_of;
 use lists::numbers::natural_at;
-use lists::{COMPONENT};
 
 // Ids are below this; the table of ids has no key past it.
 const IDS: u64 = 1 << 32;

@@ -7,16 +7,19 @@
 -- Assumes nothing.
 use Prim.Native.Nat.{ℕ, ◌+◌, ◌-◌, ◌*◌, ◌≤◌, ◌<◌}
 use native.Mathlib.Omega.{arith}
-use mathlib.Core.Path.{◌≡◌, sym, ap, subst, ◌∙◌}
+use mathlib.Core.Path.{◌≡◌, refl, sym, ap, subst, ◌∙◌}
 use mathlib.Core.Logic.{⊎_elim}
 use mathlib.Core.List.{List, [], ◌∷◌}
-use lib.ListN.{length, drop, drop_of_length-le, length-append}
+use lib.Seq.{drop-drop}
+use lib.ListN.{length, get_or, drop, drop_of_length-le, length-append}
 use borrow.Author.Tests.{eq-eqb, ne_eqb}
 use Rattle.lines.specs.Decimal.{limit}
-use Rattle.lines.specs.Line.{Taken, taken, refused, Accepted, read_digits, read_end, read_magnitude, positive, negative, read_number, read_line}
-use Rattle.lines.proofs.Digits.{below_or}
-use Rattle.lines.proofs.Reading.{digit_low, digit_high, digits_feed, digits_more, magnitude_zero, magnitude_other, magnitude_digit, there, missing, keyed}
-use Rattle.lines.proofs.Grammar.{same_or, feed, more, stop, step, key_sound}
+use Rattle.lines.specs.Line.{Taken, taken_in, taken, refused, Accepted, read_digits, read_end, read_magnitude, positive, negative, read_number, read_line}
+use Rattle.lines.proofs.Digits.{below_or, same_or}
+use Rattle.lines.proofs.Reading.{next, feed_at, minus_at, plain_at, digit_low, digit_high, digits_feed, digits_more, magnitude_zero, magnitude_other, magnitude_digit, there, missing, keyed}
+use Rattle.std.specs.Prelude.{Some}
+use Rattle.lines.proofs.Placed.{taken_is, magnitude_small, positive_some, negative_some}
+use Rattle.lines.proofs.Grammar.{feed, more, stop, step, key_sound}
 
 pub digits_within : (v i : ℕ) (text : List ℕ) → Accepted (read_digits v (drop i text)) → i < length text
 unfolding read_digits
@@ -31,6 +34,21 @@ known_digit v b bs a n =
       | more g k o q ↦ (g, k, o, q)
       | stop q ↦ absurd (subst Accepted q a)
     ]
+
+-- the same at a position of a text
+module _ (v : ℕ) (text : List ℕ) (i : ℕ) (a : Accepted (read_digits v (drop i text))) where
+  pub known_at : (read_digits v (drop i text) ≡ read_digits v (drop i text)) × (i < length text)
+  known_at = (refl, digits_within v i text a)
+
+  pub known_digit_at : (get_or text i 0 ≡ 10 → ⊥)
+      → (read_digits v (drop i text) ≡ read_digits (v * 10 + (get_or text i 0 - 48)) (drop (i + 1) text))
+      × (48 ≤ get_or text i 0) × (get_or text i 0 ≤ 57) × (v * 10 + (get_or text i 0 - 48) ≤ limit)
+      × Accepted (read_digits (v * 10 + (get_or text i 0 - 48)) (drop (i + 1) text))
+  known_digit_at n =
+      let e = next text i (digits_within v i text a) in
+      let (low, high, small, q) = known_digit v (get_or text i 0) (drop (i + 1) text) (subst (λ (s : List ℕ). Accepted (read_digits v s)) e a) n in
+      let r : read_digits v (drop i text) ≡ read_digits (v * 10 + (get_or text i 0 - 48)) (drop (i + 1) text) = ap (read_digits v) e ∙ q in
+      (r, low, high, small, subst Accepted r a)
 
 end_zero : (s : List ℕ) → Accepted (read_end s) → read_digits 0 s ≡ read_end s
 unfolding read_end
@@ -78,20 +96,30 @@ positive_accepted : (q : Taken ℕ) → Accepted (positive q) → Accepted q
 positive_accepted (taken n r) a = tt
 positive_accepted refused a = a
 
-module _ (b : ℕ) (bs : List ℕ) (a : Accepted (read_number (b ∷ bs))) where
-  minus_of : b ≡ 45 → Accepted (negative (read_magnitude bs))
-  unfolding read_number
-  minus_of e = rw (eq-eqb b 45 e) at a
+module _ (text : List ℕ) (i : ℕ) (a : Accepted (read_number (drop i text))) where
+  pub known_within : (read_number (drop i text) ≡ read_number (drop i text)) × (i < length text)
+  known_within = (refl, number_within i text a)
 
-  pub minus_accepted : b ≡ 45 → Accepted (read_magnitude bs)
-  minus_accepted e = negative_accepted (read_magnitude bs) (minus_of e)
+  pub known_minus : get_or text i 0 ≡ 45
+      → (read_number (drop i text) ≡ negative (read_magnitude (drop (i + 1) text))) × Accepted (read_magnitude (drop (i + 1) text))
+  known_minus e =
+      let q = minus_at text i (number_within i text a) e in
+      (q, negative_accepted (read_magnitude (drop (i + 1) text)) (subst Accepted q a))
 
-  pub minus_some : b ≡ 45 → (m : ℕ) (r : List ℕ) → read_magnitude bs ≡ taken m r → m ≡ 0 → ⊥
-  minus_some e m r q z = subst Accepted (ap negative q ∙ ap (λ (k : ℕ). negative (taken k r)) z) (minus_of e)
+  pub known_plain : (get_or text i 0 ≡ 45 → ⊥)
+      → (read_number (drop i text) ≡ positive (read_magnitude (drop i text))) × Accepted (read_magnitude (drop i text))
+  known_plain n =
+      let q = plain_at text i (number_within i text a) n in
+      (q, positive_accepted (read_magnitude (drop i text)) (subst Accepted q a))
 
-  pub plain_accepted : (b ≡ 45 → ⊥) → Accepted (read_magnitude (b ∷ bs))
-  unfolding read_number
-  plain_accepted n = positive_accepted (read_magnitude (b ∷ bs)) (rw (ne_eqb b 45 n) at a)
+  -- behind a minus comes no 0
+  pub known_some : get_or text i 0 ≡ 45 → (n m p : ℕ) → taken_in n (read_magnitude (drop (i + 1) text)) ≡ Some (m, p) → m ≡ 0 → ⊥
+  known_some e n m p t z =
+      let q = minus_at text i (number_within i text a) e in
+      let r = taken_is n (read_magnitude (drop (i + 1) text)) m p t in
+      subst Accepted (q ∙ ap negative r.1 ∙ ap (λ (k : ℕ). negative (taken k r.0)) z) a
+
+pub ruleset number_known = (known_within, known_minus, known_plain, known_some, magnitude_small, positive_some, negative_some)
 
 -- ---- a line
 
@@ -101,3 +129,19 @@ key_passed key s a =
       | there h q ↦ (omega (arith, simp length-append at (ap length (key_sound key s h))), q)
       | missing h q ↦ absurd (subst Accepted q a)
     ]
+
+-- the same at a position of a text
+pub known_key : (text : List ℕ) (at : ℕ) (key : List ℕ) → Accepted (read_line key (drop at text))
+    → (read_line key (drop at text) ≡ read_number (drop (at + length key + 1) text))
+    × Accepted (read_number (drop (at + length key + 1) text))
+known_key text at key a =
+    let e = (key_passed key (drop at text) a).1 in
+    let s : at + (length key + 1) ≡ at + length key + 1 = omega arith in
+    let q : read_line key (drop at text) ≡ read_number (drop (at + length key + 1) text) =
+    e ∙ ap read_number (drop-drop (length key + 1) at text ∙ ap (λ (n : ℕ). drop n text) s) in
+    (q, subst Accepted q a)
+
+pub known_start : (s : List ℕ) → Accepted (read_magnitude s) → (read_digits 0 s ≡ read_magnitude s) × Accepted (read_digits 0 s)
+known_start s a = let e = magnitude_digits s a in (e, subst Accepted (sym e) a)
+
+pub ruleset digits_known = (known_start, known_at, known_digit_at, feed_at)

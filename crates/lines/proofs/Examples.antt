@@ -6,7 +6,7 @@ use lib.IntN.{pos, negsuc}
 use Rattle.lines.specs.Text.{ascii}
 use Rattle.lines.specs.Decimal.{digits_then, line_of}
 use Rattle.lines.specs.Line.{taken, refused, read_digits, read_end, read_magnitude, read_number, has_key, read_line, after_key}
-use Rattle.lines.specs.declared.read.Skip.TheVariants.{To, No}
+use Rattle.std.specs.Prelude.{Some, None}
 
 -- ---- accepted, each before another text
 
@@ -58,11 +58,11 @@ other_key = refl
 
 -- ---- the key of a line, whether or not a number follows
 
-key_alone : after_key (ascii "y=1\nx=-0\n") 4 (ascii "x") ≡ To 6
+key_alone : after_key (ascii "y=1\nx=-0\n") 4 (ascii "x") ≡ Some 6
 unfolding has_key
 key_alone = refl
 
-longer_key : after_key (ascii "xy=7\n") 0 (ascii "x") ≡ No
+longer_key : after_key (ascii "xy=7\n") 0 (ascii "x") ≡ None
 unfolding has_key
 longer_key = refl
 

@@ -4,7 +4,7 @@ use Prim.Native.Nat.{ℕ, zero, suc, ◌+◌, ◌-◌, ◌*◌, ◌/◌, ◌%◌
 use native.Mathlib.Omega.{arith}
 use mathlib.Core.Path.{◌≡◌, refl, sym, ap, ap₂, ◌∙◌}
 use mathlib.Core.Bool.{true, false≢true}
-use mathlib.Core.Logic.{◌⊎◌, inl, inr, ⊎_elim}
+use mathlib.Core.Logic.{⊎_elim}
 use mathlib.Core.List.{List, [], ◌∷◌, ◌++◌, append_assoc}
 use lib.Dec.{lit<}
 use lib.IntN.{ℤ, pos, negsuc}
@@ -13,11 +13,8 @@ use lib.Seq.{drop-append-add}
 use borrow.Author.Tests.{eq-eqb, ne_eqb, eqb-true}
 use Rattle.lines.specs.Decimal.{limit, InRange, digits_then, digits, number, line_of}
 use Rattle.lines.specs.Line.{Taken, taken, refused, read_digits, read_end, read_magnitude, positive, negative, read_number, has_key, read_line}
-use Rattle.lines.proofs.Digits.{below_or, tens, digits_last, digits_turn, digits_snoc, digits_append, digits_head}
+use Rattle.lines.proofs.Digits.{below_or, same_or, tens, digits_last, digits_turn, digits_snoc, digits_append, digits_head}
 use Rattle.lines.proofs.Reading.{digit_yes, digit_low, digit_high, digits_feed, digits_other, digits_large, digits_more, there, missing, keyed}
-
-pub same_or : (a b : ℕ) → (a ≡ b) ⊎ (a ≡ b → ⊥)
-same_or a b = ⊎_elim (λ l. inr (λ e. omega arith)) (λ g. ⊎_elim (λ l. inr (λ e. omega arith)) (λ h. inl (omega arith)) (below_or b a)) (below_or a b)
 
 -- ---- what one byte does
 

@@ -5,6 +5,5 @@ pub mod Grammar
 pub mod Placed
 pub mod Counting
 pub mod Writing
-pub mod Signs
 pub mod Again
 mod Examples

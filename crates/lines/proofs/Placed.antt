@@ -5,52 +5,49 @@ use mathlib.Core.Path.{◌≡◌, refl, sym, ap, ◌∙◌}
 use mathlib.Core.List.{List, [], ◌∷◌, ◌++◌}
 use lib.ListN.{length, drop, length-append, length-drop}
 use lib.IntN.{ℤ, pos, neg_ℤ}
-use mir.Syntax.{w64}
-use mir.Val.{SFits}
 use lib.Seq.{drop-drop, drop-append_seam}
 use Rattle.lines.specs.Decimal.{limit, InRange, number, line_of}
-use Rattle.lines.specs.Line.{Taken, taken, refused, read_magnitude, positive, negative, number_in, line_in, read_number, read_line, after_key}
-use Rattle.lines.specs.declared.read.Line.TheVariants.{Value, Bad}
-use Rattle.lines.specs.declared.read.Number.TheVariants.{Is, Not}
-use Rattle.lines.specs.declared.read.Skip.TheVariants.{To, No}
-use Rattle.lines.proofs.Reading.{there, missing, keyed}
+use Rattle.lines.specs.Line.{Taken, taken, refused, read_magnitude, positive, negative, taken_in, read_number, read_line, after_key}
+use Rattle.std.specs.Prelude.{Some, None}
+use Rattle.std.proofs.lemmas.Option.{some_pair_parts}
+use Rattle.lines.proofs.Reading.{number_none_at, minus_at, plain_at, there, missing, keyed}
 use Rattle.lines.proofs.Grammar.{magnitude_sound, read_write, write_read}
 
-pub number_taken : (n : ℕ) (q : Taken ℕ) (m p : ℕ) → number_in n q ≡ Is m p → (r : List ℕ) × (q ≡ taken m r) × (n - length r ≡ p)
-number_taken n (taken v r) m p e = (r, cc, cc)
-number_taken n refused m p e = let z : ◌≡◌ {A = ℕ} 0 1 = cc in absurd (omega arith)
+module _ {A : Type 0} where
+  pub taken_is : (n : ℕ) (q : Taken A) (v : A) (p : ℕ) → taken_in n q ≡ Some (v, p) → (r : List ℕ) × (q ≡ taken v r) × (n - length r ≡ p)
+  taken_is n (taken w r) v p e = let (a, b) = some_pair_parts w v (n - length r) p e in (r, cc, b)
+  taken_is n refused v p e = cc
 
-pub number_refused : (n : ℕ) (q : Taken ℕ) → number_in n q ≡ Not → q ≡ refused
-number_refused n (taken v r) e = cc
-number_refused n refused e = refl
+  pub refused_is : (n : ℕ) (q : Taken A) → taken_in n q ≡ None → q ≡ refused
+  refused_is n (taken v r) e = cc
+  refused_is n refused e = refl
 
-module _ (n : ℕ) (s : List ℕ) (m p : ℕ) (e : number_in n (read_magnitude s) ≡ Is m p) where
-  pub number_range : m ≤ limit
-  number_range = let q = number_taken n (read_magnitude s) m p e in (magnitude_sound s m q.0 q.1).0
+module _ (n : ℕ) (s : List ℕ) (m p : ℕ) (e : taken_in n (read_magnitude s) ≡ Some (m, p)) where
+  pub magnitude_small : m ≤ limit
+  magnitude_small = let q = taken_is n (read_magnitude s) m p e in (magnitude_sound s m q.0 q.1).0
 
-  pub positive_line : line_in n (positive (read_magnitude s)) ≡ Value (pos m) p
-  positive_line = let q = number_taken n (read_magnitude s) m p e in rw (q.1, q.2)
+  pub positive_some : taken_in n (positive (read_magnitude s)) ≡ Some (pos m, p)
+  positive_some = let q = taken_is n (read_magnitude s) m p e in rw (q.1, q.2)
 
-pub negative_line : (n : ℕ) (s : List ℕ) (m p : ℕ) → number_in n (read_magnitude s) ≡ Is m p → (m ≡ 0 → ⊥) → line_in n (negative (read_magnitude s)) ≡ Value (neg_ℤ (pos m)) p
-negative_line n s zero p e h = absurd (h refl)
-negative_line n s (suc m) p e h = let q = number_taken n (read_magnitude s) (suc m) p e in rw (q.1, q.2)
+pub negative_some : (n : ℕ) (s : List ℕ) (m p : ℕ) → taken_in n (read_magnitude s) ≡ Some (m, p) → (m ≡ 0 → ⊥) → taken_in n (negative (read_magnitude s)) ≡ Some (neg_ℤ (pos m), p)
+negative_some n s zero p e h = absurd (h refl)
+negative_some n s (suc m) p e h = let q = taken_is n (read_magnitude s) (suc m) p e in rw (q.1, q.2)
 
-pub negative_zero : (n : ℕ) (s : List ℕ) (m p : ℕ) → number_in n (read_magnitude s) ≡ Is m p → m ≡ 0 → line_in n (negative (read_magnitude s)) ≡ Bad
-negative_zero n s zero p e h = let q = number_taken n (read_magnitude s) zero p e in rw q.1
+pub negative_zero : (n : ℕ) (s : List ℕ) (m p : ℕ) → taken_in n (read_magnitude s) ≡ Some (m, p) → m ≡ 0 → taken_in n (negative (read_magnitude s)) ≡ None
+negative_zero n s zero p e h = let q = taken_is n (read_magnitude s) zero p e in rw q.1
 negative_zero n s (suc m) p e h = absurd (omega arith)
 
-pub small_fits : (m : ℕ) → m ≤ limit → SFits w64 (pos m)
-small_fits m h = record { sfits = omega arith }
+module _ (n : ℕ) (q : Taken ℕ) (e : taken_in n q ≡ None) where
+  pub positive_none : taken_in n (positive q) ≡ None
+  positive_none = rw (refused_is n q e)
 
-pub minus_fits : (m : ℕ) → m ≤ limit → SFits w64 (neg_ℤ (pos m))
-minus_fits zero h = record { sfits = omega arith }
-minus_fits (suc m) h = record { sfits = omega arith }
+  pub negative_none : taken_in n (negative q) ≡ None
+  negative_none = rw (refused_is n q e)
+
+pub ruleset number_at =
+    (number_none_at, minus_at, plain_at, magnitude_small, positive_some, negative_some, negative_zero, positive_none, negative_none)
 
 -- ---- a line at a position of a text
-
-pub line_taken : (n : ℕ) (q : Taken ℤ) (z : ℤ) (p : ℕ) → line_in n q ≡ Value z p → (r : List ℕ) × (q ≡ taken z r) × (n - length r ≡ p)
-line_taken n (taken y r) z p e = (r, cc, cc)
-line_taken n refused z p e = let c : ◌≡◌ {A = ℕ} 0 1 = cc in absurd (omega arith)
 
 pub rest_at : (text : List ℕ) (at : ℕ) (s r : List ℕ) → drop at text ≡ s ++ r → drop (at + length s) text ≡ r
 rest_at text at s r e = sym (drop-drop (length s) at text) ∙ ap (drop (length s)) e ∙ drop-append_seam s r
@@ -60,16 +57,16 @@ line_some key z = omega (arith, length-append key (61 ∷ number z (10 ∷ [])))
 
 module _ (text : List ℕ) (at : ℕ) (key : List ℕ) (z : ℤ) where
   -- where the line stands, it is read, and the position is that behind it
-  pub line_placed : (r : List ℕ) → InRange z → drop at text ≡ line_of key z ++ r → line_in (length text) (read_line key (drop at text)) ≡ Value z (at + length (line_of key z))
+  pub line_placed : (r : List ℕ) → InRange z → drop at text ≡ line_of key z ++ r → taken_in (length text) (read_line key (drop at text)) ≡ Some (z, at + length (line_of key z))
   line_placed r h e =
       let l : length text - length r ≡ at + length (line_of key z) =
       omega (arith, line_some key z, ap length e, length-drop at text, length-append (line_of key z) r) in
-      rw (e, read_write key z r h) (ap (Value z) l)
+      rw (e, read_write key z r h) (ap (λ (k : ℕ). Some (z, k)) l)
 
   -- and what is read stands there: the text behind it starts at the position
-  pub line_found : (p : ℕ) → line_in (length text) (read_line key (drop at text)) ≡ Value z p → InRange z × (p ≡ at + length (line_of key z)) × (drop at text ≡ line_of key z ++ drop p text)
+  pub line_found : (p : ℕ) → taken_in (length text) (read_line key (drop at text)) ≡ Some (z, p) → InRange z × (p ≡ at + length (line_of key z)) × (drop at text ≡ line_of key z ++ drop p text)
   line_found p e =
-      let q = line_taken (length text) (read_line key (drop at text)) z p e in
+      let q = taken_is (length text) (read_line key (drop at text)) z p e in
       let w = write_read key (drop at text) z q.0 q.1 in
       let l : p ≡ at + length (line_of key z) =
       omega (arith, line_some key z, q.2, ap length w.1, length-drop at text, length-append (line_of key z) q.0) in
@@ -77,36 +74,32 @@ module _ (text : List ℕ) (at : ℕ) (key : List ℕ) (z : ℤ) where
       (w.0, l, rw r w.1)
 
   -- a parser goes on at the position
-  pub line_rest : (p : ℕ) → line_in (length text) (read_line key (drop at text)) ≡ Value z p → (p ≤ length text) × (read_line key (drop at text) ≡ taken z (drop p text))
+  pub line_rest : (p : ℕ) → taken_in (length text) (read_line key (drop at text)) ≡ Some (z, p) → (p ≤ length text) × (read_line key (drop at text) ≡ taken z (drop p text))
   line_rest p e =
       let f = line_found p e in
-      (omega (arith, (line_taken (length text) (read_line key (drop at text)) z p e).2), rw f.2 (read_write key z (drop p text) f.0))
-
-pub line_refused : (n : ℕ) (q : Taken ℤ) → line_in n q ≡ Bad → q ≡ refused
-line_refused n (taken z r) e = cc
-line_refused n refused e = refl
+      (omega (arith, (taken_is (length text) (read_line key (drop at text)) z p e).2), rw f.2 (read_write key z (drop p text) f.0))
 
 -- ---- a key at a position of a text
 
 module _ (text : List ℕ) (at : ℕ) (key : List ℕ) where
   -- from the position that is answered the line's number is read
-  pub key_after : (p : ℕ) → after_key text at key ≡ To p → read_line key (drop at text) ≡ read_number (drop p text)
+  pub key_after : (p : ℕ) → after_key text at key ≡ Some p → read_line key (drop at text) ≡ read_number (drop p text)
   key_after p e =
       elim (keyed key (drop at text)) [
         | there h q ↦
-            let e' : To (at + length key + 1) ≡ To p = rw h at e in
+            let e' : Some (at + length key + 1) ≡ Some p = rw h at e in
             let l' : at + length key + 1 ≡ p = cc in
             let l : at + (length key + 1) ≡ p = omega arith in
             q ∙ ap read_number (drop-drop (length key + 1) at text ∙ ap (λ (n : ℕ). drop n text) l)
-        | missing h q ↦ let e' : No ≡ To p = rw h at e in let z : ◌≡◌ {A = ℕ} 0 1 = cc in absurd (omega arith)
+        | missing h q ↦ let e' : None ≡ Some p = rw h at e in let z : ◌≡◌ {A = ℕ} 0 1 = cc in absurd (omega arith)
       ]
 
   -- and a line without its key is refused
-  pub key_missing : after_key text at key ≡ No → read_line key (drop at text) ≡ refused
+  pub key_missing : after_key text at key ≡ None → read_line key (drop at text) ≡ refused
   key_missing e =
       elim (keyed key (drop at text)) [
         | there h q ↦
-            let e' : To (at + length key + 1) ≡ No = rw h at e in
+            let e' : Some (at + length key + 1) ≡ None = rw h at e in
             let z : ◌≡◌ {A = ℕ} 0 1 = cc in absurd (omega arith)
         | missing h q ↦ q
       ]

@@ -2,7 +2,7 @@
 -- what both wrote. Assumes nothing.
 use Prim.Native.Nat.{ℕ, suc, ◌+◌, ◌-◌, ◌≤◌, ◌<◌}
 use native.Mathlib.Omega.{arith}
-use mathlib.Core.Path.{◌≡◌, refl, sym, ◌∙◌}
+use mathlib.Core.Path.{◌≡◌, refl, sym, ap, ◌∙◌}
 use mathlib.Core.List.{List, [], ◌∷◌, ◌++◌, append_assoc, append-nil}
 use lib.ListN.{length, take, drop, set, get_or, length-append, length-drop, take-append-drop}
 use lib.Seq.{length-take-le, drop-cons, set_at, append_snoc, take_at, drop_at, take-length, drop-drop, drop-length}
@@ -12,6 +12,7 @@ use mathlib.Core.Bool.{true, false}
 use borrow.Author.Tests.{ltb-true}
 use Rattle.lines.specs.Decimal.{digits, number, line_of}
 use Rattle.lines.specs.Wrote.{Wrote, Put}
+use Rattle.lines.proofs.Digits.{last_digits, digits_append, digits_few, back_start, digit_set}
 use Rattle.lines.proofs.Grammar.{number_append}
 
 -- s over the front of a buffer
@@ -67,14 +68,6 @@ wrote_then {s} {t} {a} {b} {ys} {n} {m} p q =
       count = rw (length-append s t) (omega arith);
     }
 
--- a writer keeps the buffer's length, and counts no more than that
-module _ {s a b : List ℕ} {n : ℕ} (p : Wrote s a b n) where
-  pub wrote_length : length b ≡ length a
-  wrote_length = rw p.bytes (length_laid s a p.room)
-
-  pub wrote_within : n ≤ length b
-  wrote_within = omega (arith, wrote_length)
-
 -- there is room for the second writer where there is room for both
 pub room_then : {s a b : List ℕ} {n : ℕ} → Wrote s a b n → (t : List ℕ) → length (s ++ t) ≤ length a → length t ≤ length (lent b n)
 room_then {s} {a} {b} {n} p t h =
@@ -96,6 +89,16 @@ line_parts key z = simp (append_assoc, number_append z [] (10 ∷ []))
 pub line_size : (key : List ℕ) (z : ℤ) → length (line_of key z) ≡ length key + 1 + length (number z []) + 1
 line_size key z = rw (← line_parts key z) (simp length-append)
 
+-- the same by the magnitude's digits
+module _ (key : List ℕ) (z : ℤ) where
+  pub minus_size : lt_z z (pos 0) ≡ true → length (line_of key z) ≡ length key + length (digits (nat_abs z) []) + 3
+  minus_size e = omega (arith, line_size key z, ap length (number_minus z e))
+
+  pub plain_size : lt_z z (pos 0) ≡ false → length (line_of key z) ≡ length key + length (digits (nat_abs z) []) + 2
+  plain_size e = omega (arith, line_size key z, ap length (number_plain z e))
+
+pub ruleset line_sizes = (minus_size, plain_size, digits_few)
+
 -- ---- writers at a position
 
 pub room_put : (at : ℕ) (s before : List ℕ) → at + length s ≤ length before → length s ≤ length (lent before at)
@@ -114,18 +117,6 @@ wrote_put at s before ys m h w =
       room = omega (arith, length-drop at before);
       bytes = rw (w.bytes, r, l, drop-length (drop at before), append-nil, drop-drop (length s) at before);
       count = omega arith;
-    }
-
--- a position that is the end of what was written
-pub put_then : {s t a b c : List ℕ} {n m : ℕ} → Wrote s a b n → Put n t b c m → Wrote (s ++ t) a c m
-put_then {s} {t} {a} {b} {c} {n} {m} p q =
-    let e = sym p.count in
-    record {
-      room = simp length-append (omega (arith, wrote_length p, q.room, p.count));
-      bytes =
-          rw (put_front q, p.bytes, take_laid s a n e p.room, drop_laid s a n e p.room, drop-drop (length t) (length s) a, length-append s t)
-          (sym (append_assoc s t _));
-      count = rw (length-append s t) (omega (arith, p.count, q.count));
     }
 
 -- two writers at positions, the second where the first ended
@@ -153,3 +144,16 @@ module _ {at : ℕ} {s a b : List ℕ} {n : ℕ} (p : Put at s a b n) where
         bytes = rw (put_front q, x, y, drop-drop (length t) (length s) (drop at a), drop-drop (length s + length t) at a, length-append s t) (simp append_assoc);
         count = omega (arith, q.count, p.count, length-append s t);
       }
+
+pub ruleset placed = (room_put, wrote_put)
+
+-- ---- digits, written from the last to the first
+
+pub digits_written : (n rest k i : ℕ) (out out' : List ℕ) → i ≡ 0 → k ≡ length (digits n []) → length (digits n []) ≤ length out
+    → last_digits i rest (drop i out') ≡ digits n (drop k out) → Wrote (digits n []) out out' k
+unfolding last_digits
+digits_written n rest k i out out' z e h w =
+    let w' : out' ≡ digits n (drop k out) = rw z at w in
+    record { room = h; bytes = rw (w', e) (sym (digits_append 19 n [] (drop (length (digits n [])) out))); count = e }
+
+pub ruleset digits_back = (back_start, digit_set, digits_written)

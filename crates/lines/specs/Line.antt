@@ -2,14 +2,8 @@
 -- only on a nonzero number, magnitude at most 4,294,967,295"): what is taken off the front of a text, and the text that is left.
 -- The bytes: 10 LF, 45 minus, 48 to 57 the digits, 61 the sign `=`.
 -- Assumes nothing: these are definitions.
-use Rattle.std.specs.Prelude.{ℕ, zero, suc, ◌+◌, ◌-◌, ◌*◌, Bool, false, cond, ◌&&◌, List, [], ◌∷◌, leb, eqb, ℤ, pos, negsuc, length, drop}
+use Rattle.std.specs.Prelude.{ℕ, zero, suc, ◌+◌, ◌-◌, ◌*◌, Bool, false, cond, ◌&&◌, List, [], ◌∷◌, leb, eqb, ℤ, pos, negsuc, length, drop, Option, Some, None}
 use Rattle.lines.specs.Decimal.{limit}
-use Rattle.lines.specs.declared.read.Line.{Line}
-use Rattle.lines.specs.declared.read.Line.TheVariants.{Value, Bad}
-use Rattle.lines.specs.declared.read.Number.{Number}
-use Rattle.lines.specs.declared.read.Number.TheVariants.{Is, Not}
-use Rattle.lines.specs.declared.read.Skip.{Skip}
-use Rattle.lines.specs.declared.read.Skip.TheVariants.{To, No}
 
 -- a value and the text that follows it, or no value
 pub data Taken (A : Type 0) : Type 0 where
@@ -74,14 +68,11 @@ natural (taken (negsuc n) s) = refused
 natural refused = refused
 
 -- the code's answers. The text that is left is told by the position where it starts in a text of n bytes
-abbrev pub number_in : ℕ → Taken ℕ → Number
-number_in n (taken v r) = Is v (n - length r)
-number_in n refused = Not
-
-abbrev pub line_in : ℕ → Taken ℤ → Line
-line_in n (taken z r) = Value z (n - length r)
-line_in n refused = Bad
+module _ {A : Type 0} where
+  abbrev pub taken_in : ℕ → Taken A → Option (A × ℕ)
+  taken_in n (taken v r) = Some (v, n - length r)
+  taken_in n refused = None
 
 -- the position after the `=` of a key that stands at a position of the text
-abbrev pub after_key : List ℕ → ℕ → List ℕ → Skip
-after_key text at key = cond (has_key key (drop at text)) (To (at + length key + 1)) No
+abbrev pub after_key : List ℕ → ℕ → List ℕ → Option ℕ
+after_key text at key = cond (has_key key (drop at text)) (Some (at + length key + 1)) None

@@ -5,10 +5,10 @@ ghost use Rattle.lists.specs.Ids.{has_component, end_missing, first_end_missing,
 ghost use Rattle.lists.specs.Ends.{Settled, SettledEnds};
 ghost use Rattle.lists.specs.Within.{PortConnections};
 
+use super::PORT;
 use super::hints::{HINTS, hint_ids, member_near};
 use super::ids::SUPPORT;
 use super::numbers::natural_at;
-use super::{PORT};
 use tables::SPAN;
 
 // The member of field f of each port connection, 0 the sources and 2 the sinks.
@@ -17,11 +17,8 @@ fn settle(keys: &[u64], ports: &[i64], f: usize, members: &mut [usize], hints: &
     requires fact { ((f ≡ 0) ⊎ (f ≡ 2)) × (port_count ports.now ≤ length members.old) }
     ensures { (cs : List ℤ) → IdTable cs keys.now → Settled cs ports.now f members.new }
 {
-    let count = ports.len() / PORT;
-    let mut k: usize = 0;
-    while k < count {
+    for k in 0..ports.len() / PORT {
         members[k] = member_near(keys, hints, natural_at(ports, k * PORT + f));
-        k += 1;
     }
 }
 
@@ -61,18 +58,20 @@ fn end_missing(keys: &[u64], ports: &[i64], sources: &[usize], sinks: &[usize], 
 }
 
 // The first port connection with a missing end, given their settled ends.
-pub fn first_end_missing(keys: &[u64], ports: &[i64], sources: &[usize], sinks: &[usize]) -> Option<usize>
+pub fn first_end_missing(
+    keys: &[u64],
+    ports: &[i64],
+    sources: &[usize],
+    sinks: &[usize],
+) -> Option<usize>
     requires port_connections { PortConnections ports.now }
     requires ports_in_bounds { (port_count ports.now ≤ length sources.now) × (port_count ports.now ≤ length sinks.now) }
     ensures { (cs : List ℤ) → IdTable cs keys.now → SettledEnds cs ports.now sources.now sinks.now → result ≡ first_end_missing cs ports.now }
 {
-    let count = ports.len() / PORT;
-    let mut k: usize = 0;
-    while k < count {
+    for k in 0..ports.len() / PORT {
         if end_missing(keys, ports, sources, sinks, k) {
             return Some(k);
         }
-        k += 1;
     }
     None
 }

@@ -32,12 +32,10 @@ fn position(hint: u16) -> usize {
 pub fn hint_ids(keys: &[u64], hints: &mut [u16; HINTS])
     ensures { length hints.new ≡ length hints.old }
 {
-    let mut k: usize = 0;
-    while k < keys.len() {
-        let slot = slot_of(keys[k] / SPAN);
+    for (k, key) in keys.iter().enumerate() {
+        let slot = slot_of(*key / SPAN);
         hints[2 * slot + 1] = hints[2 * slot];
         hints[2 * slot] = (k % SPAN as usize) as u16;
-        k += 1;
     }
 }
 

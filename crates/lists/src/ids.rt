@@ -5,8 +5,8 @@ ghost use Rattle.lists.specs.Records.{component, component_count};
 ghost use Rattle.lists.specs.Ids.{place_of, has_component, used_earlier, first_repeated, IdTable, Unrepeated, smaller_ids, MemberPlace, MemberId};
 ghost use Rattle.lists.specs.Within.{Components};
 
+use super::COMPONENT;
 use super::numbers::natural_at;
-use super::{COMPONENT};
 use tables::SPAN;
 
 // The pair of the id of component k and its place.
@@ -24,10 +24,8 @@ pub fn id_table(components: &[i64], keys: &mut [u64], spare: &mut [u64])
     requires keys_len { (length keys.old ≡ component_count components.now) × (length keys.old ≤ length spare.old) }
     ensures { IdTable components.now keys.new }
 {
-    let mut k: usize = 0;
-    while k < keys.len() {
+    for k in 0..keys.len() {
         keys[k] = id_key(components, k);
-        k += 1;
     }
     // The keys were made by rising place.
     tables::sort_pairs(keys, spare);
@@ -53,11 +51,7 @@ pub fn has_component(keys: &[u64], id: u64) -> bool
     requires { id < 4294967296 }
     ensures { (cs : List ℤ) → IdTable cs keys.now → result ≡ has_component cs id }
 {
-    let place = place_of(keys, id);
-    match place {
-        Some(_) => true,
-        None => false,
-    }
+    place_of(keys, id).is_some()
 }
 
 // Whether an earlier component has the id of component k.
@@ -78,12 +72,10 @@ fn used_earlier(keys: &[u64], components: &[i64], k: usize) -> bool
 fn none_repeated(keys: &[u64]) -> bool
     ensures { result ≡ true → Unrepeated keys.now }
 {
-    let mut k: usize = 1;
-    while k < keys.len() {
+    for k in 1..keys.len() {
         if keys[k - 1] / SPAN == keys[k] / SPAN {
             return false;
         }
-        k += 1;
     }
     true
 }
@@ -97,13 +89,10 @@ pub fn first_repeated(keys: &[u64], components: &[i64]) -> Option<usize>
     if none_repeated(keys) {
         return None;
     }
-    let count = components.len() / COMPONENT;
-    let mut k: usize = 0;
-    while k < count {
+    for k in 0..components.len() / COMPONENT {
         if used_earlier(keys, components, k) {
             return Some(k);
         }
-        k += 1;
     }
     None
 }

@@ -13,16 +13,14 @@ fn record_before(fields: &[usize], width: usize, list: &[i64], a: usize, b: usiz
     requires width_in_bounds { (a + width ≤ length list.now) × (b + width ≤ length list.now) }
     ensures { result ≡ record_before fields.now list.now a b }
 {
-    let mut k: usize = 0;
-    while k < fields.len() {
-        let f = fields[k];
+    for f in fields {
+        let f = *f;
         if number_less(list, a + f, list, b + f) {
             return true;
         }
         if number_less(list, b + f, list, a + f) {
             return false;
         }
-        k += 1;
     }
     false
 }
@@ -33,13 +31,10 @@ fn first_not_ascending(fields: &[usize], width: usize, list: &[i64]) -> Option<u
     requires width_nonzero { 0 < width }
     ensures { result ≡ first_not_ascending fields.now width list.now }
 {
-    let count = list.len() / width;
-    let mut k: usize = 1;
-    while k < count {
+    for k in 1..list.len() / width {
         if !record_before(fields, width, list, (k - 1) * width, k * width) {
             return Some(k);
         }
-        k += 1;
     }
     None
 }
@@ -62,12 +57,9 @@ fn connection_before(list: &[i64], a: usize, b: usize) -> bool
 fn all_ascending(list: &[i64]) -> bool
     ensures { result ≡ true → first_not_ascending connection_order connection_width list.now ≡ None }
 {
-    let count = list.len() / CONNECTION;
     let mut all = true;
-    let mut k: usize = 1;
-    while k < count {
+    for k in 1..list.len() / CONNECTION {
         all = all & connection_before(list, (k - 1) * CONNECTION, k * CONNECTION);
-        k += 1;
     }
     all
 }

@@ -3,7 +3,7 @@ ghost use Rattle.std.specs.Prelude.{◌≡◌, ◌+◌, ◌≤◌, ◌<◌, leng
 ghost use Rattle.lists.specs.Signed.{at, in_range};
 ghost use Rattle.lists.specs.Ranges.{record_in_range, first_out_of_range, component_low, component_high, connection_low, connection_high, port_low, port_high, frontier_low, frontier_high};
 
-use super::{FAR};
+use super::FAR;
 
 // Whether low[f] <= list[i] <= high[f].
 fn field_in_range(low: &[i64], high: &[i64], f: usize, list: &[i64], i: usize) -> bool
@@ -18,12 +18,10 @@ fn record_in_range(low: &[i64], high: &[i64], list: &[i64], i: usize) -> bool
     requires { (length high.now ≡ length low.now) × (i + length low.now ≤ length list.now) }
     ensures { result ≡ record_in_range low.now high.now list.now i }
 {
-    let mut f: usize = 0;
-    while f < low.len() {
+    for f in 0..low.len() {
         if !field_in_range(low, high, f, list, i + f) {
             return false;
         }
-        f += 1;
     }
     true
 }
@@ -34,13 +32,10 @@ fn first_out_of_range(low: &[i64], high: &[i64], list: &[i64]) -> Option<usize>
     ensures { result ≡ first_out_of_range low.now high.now list.now }
 {
     let width = low.len();
-    let count = list.len() / width;
-    let mut k: usize = 0;
-    while k < count {
+    for k in 0..list.len() / width {
         if !record_in_range(low, high, list, k * width) {
             return Some(k);
         }
-        k += 1;
     }
     None
 }

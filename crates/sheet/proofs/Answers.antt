@@ -2,7 +2,6 @@
 -- Assumes nothing.
 use Rattle.lists.specs.declared.Fault.{Fault}
 use Rattle.std.specs.Prelude.{None}
-use Rattle.std.specs.Prelude.{Ok, Err}
 use Prim.Native.Nat.{ℕ, ◌/◌}
 use native.Mathlib.Omega.{arith}
 use mathlib.Core.Path.{◌≡◌, refl}
@@ -19,6 +18,7 @@ use Rattle.sheet.specs.Sheet.{Parsed, Lists, Faulty}
 use Rattle.sheet.specs.Entry.{enough_room, SheetRead}
 use Rattle.sheet.specs.Places.{AllStand, Lent, AllLaid}
 use Rattle.sheet.specs.declared.Places.{Places}
+use Rattle.std.specs.Prelude.{Ok, Err}
 
 module _ (p : Parsed) (a b c : List ℤ) where
   pub faulty : {r : Refusal} → p ≡ Faulty r → SheetRead p a a b b c c (Err r)

@@ -5,28 +5,25 @@
 use Prim.Native.Nat.{ℕ, ◌+◌, ◌*◌, ◌≤◌, ◌<◌}
 use native.Mathlib.Omega.{arith}
 use mathlib.Core.Path.{◌≡◌}
-use mathlib.Core.Bool.{Bool, true, false, cond}
 use mathlib.Core.List.{List}
-use lib.Dec.{eqb}
 use lib.ListN.{length}
 use borrow.Author.Tests.{le-leb, lt-leb}
 use Rattle.lines.specs.Line.{taken, refused, read_line, natural}
-use Rattle.sheet.specs.Keys.{component_keys, connection_keys, frontier_keys, count_key, keys_of}
+use Rattle.sheet.specs.Keys.{count_key, keys_of}
+use Rattle.lists.specs.declared.Section.{Section}
+use Rattle.lists.specs.declared.Section.TheVariants.{Components, Connections, Frontiers}
 use Rattle.sheet.specs.Sheet.{read_fields, fault, bad_line, over_limit, fields_from, read_list}
 
 -- ---- how many lines
 
-few_by : (b c : Bool) (n : ℕ) → n * length (cond b component_keys (cond c connection_keys frontier_keys)) ≤ 8 * n
-few_by true c n = omega arith
-few_by false true n = omega arith
-few_by false false n = omega arith
-
-pub few_lines : (list n : ℕ) → n * length (keys_of list) ≤ 8 * n
-few_lines list n = few_by (eqb list 0) (eqb list 1) n
+pub few_lines : (list : Section) (n : ℕ) → n * length (keys_of list) ≤ 8 * n
+few_lines Components n = omega arith
+few_lines Connections n = omega arith
+few_lines Frontiers n = omega arith
 
 -- ---- the list, by what its count is
 
-module _ (list limit line : ℕ) (s : List ℕ) where
+module _ (list : Section) (limit line : ℕ) (s : List ℕ) where
   pub list_fields : (n : ℕ) (r : List ℕ) → natural (read_line (count_key list) s) ≡ taken n r → n ≤ limit
       → read_list list limit line s ≡ fields_from (line + 1) (read_fields (keys_of list) (n * length (keys_of list)) 0 r)
   unfolding read_list

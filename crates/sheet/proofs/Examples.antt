@@ -9,6 +9,7 @@ use Rattle.lines.specs.Decimal.{digits_then}
 use Rattle.lines.specs.Line.{read_digits, read_end, read_magnitude, read_number, has_key, read_line}
 use Rattle.lists.specs.Limits.{component_limit}
 use Rattle.sheet.specs.Sheet.{read_fields, read_list, Parsed, Lists, Faulty, bad_line, over_limit, parse}
+use Rattle.lists.specs.declared.Section.TheVariants.{Components, Connections}
 use Rattle.sheet.specs.Writing.{field_lines, sheet_of}
 
 abbrev read : String → Parsed
@@ -88,11 +89,11 @@ count_too_large = refl
 
 -- ---- 1 at its list, whatever follows
 
-count_over : read "components=257\n" ≡ Faulty (over_limit 0 256)
+count_over : read "components=257\n" ≡ Faulty (over_limit Components 256)
 unfolding parse read_list read_line has_key read_number read_magnitude read_digits
 count_over = refl
 
-connections_over : read (components ++ "connections=1025\n") ≡ Faulty (over_limit 1 1024)
+connections_over : read (components ++ "connections=1025\n") ≡ Faulty (over_limit Connections 1024)
 unfolding parse read_list read_fields read_line has_key read_number read_magnitude read_digits read_end
 connections_over = refl
 
@@ -102,6 +103,6 @@ unfolding parse read_list read_fields read_line has_key read_number read_magnitu
 fault_before = refl
 
 -- limits above those of a scene are cut
-cut : parse 4294967295 65536 65536 (ascii "components=4294967295\n") ≡ Faulty (over_limit 0 component_limit)
+cut : parse 4294967295 65536 65536 (ascii "components=4294967295\n") ≡ Faulty (over_limit Components component_limit)
 unfolding parse read_list read_line has_key read_number read_magnitude read_digits
 cut = refl

@@ -5,12 +5,14 @@
 --     parse_write                      the writing of lists within the limits is accepted and gives them back
 --     sheet_unique                     no other lists have this writing
 -- Assumes nothing.
+use Rattle.std.specs.Prelude.{Some}
+use Rattle.lists.specs.declared.Fault.{Fault}
 use Prim.Native.Nat.{ℕ, zero, suc, ◌+◌, ◌*◌, ◌/◌, ◌%◌, ◌≤◌, min}
 use native.Mathlib.Omega.{arith}
 use mathlib.Core.Path.{◌≡◌, refl, sym, ap, ◌∙◌}
 use mathlib.Core.Bool.{Bool, true, false, cond}
 use mathlib.Core.List.{List, [], ◌∷◌, ◌++◌, append_assoc, append-nil}
-use lib.Dec.{eqb, leb}
+use lib.Dec.{leb}
 use lib.IntN.{ℤ, pos}
 use lib.ListN.{length}
 use borrow.Author.Tests.{leb-true}
@@ -19,7 +21,9 @@ use Rattle.lines.specs.Line.{Taken, taken, refused, read_line, natural}
 use Rattle.lines.proofs.Counting.{natural_taken}
 use Rattle.lines.proofs.Grammar.{read_write, write_read}
 use Rattle.lists.specs.Limits.{component_limit, connection_limit, frontier_limit}
-use Rattle.sheet.specs.Keys.{component_keys, connection_keys, frontier_keys, field_key, count_key, keys_of}
+use Rattle.lists.specs.declared.Section.{Section}
+use Rattle.lists.specs.declared.Section.TheVariants.{Components, Connections, Frontiers}
+use Rattle.sheet.specs.Keys.{field_key, count_key, keys_of}
 use Rattle.sheet.specs.Sheet.{Fields, got, stop, after, onward, read_fields, Part, part, fault, fields_from, counted, read_list, Parsed, Lists, ◌then◌, ended, parse}
 use Rattle.sheet.specs.Writing.{field_lines, list_lines, sheet_of, AllInRange, Writable, WithinLimits}
 use Rattle.sheet.proofs.Counting.{list_fields}
@@ -58,15 +62,15 @@ fields_complete keys k (z ∷ zs) r h =
 
 -- ---- whole records
 
-whole_by : (b c : Bool) (n : ℕ) → let w = length (cond b component_keys (cond c connection_keys frontier_keys)) in ((n * w) / w ≡ n) × ((n * w) % w ≡ 0)
-whole_by true c n = (omega arith, omega arith)
-whole_by false true n = (omega arith, omega arith)
-whole_by false false n = (omega arith, omega arith)
+whole : (list : Section) (n : ℕ) → let w = length (keys_of list) in ((n * w) / w ≡ n) × ((n * w) % w ≡ 0)
+whole Components n = (omega arith, omega arith)
+whole Connections n = (omega arith, omega arith)
+whole Frontiers n = (omega arith, omega arith)
 
-parts_by : (b c : Bool) (n : ℕ) → let w = length (cond b component_keys (cond c connection_keys frontier_keys)) in n % w ≡ 0 → n / w * w ≡ n
-parts_by true c n h = omega arith
-parts_by false true n h = omega arith
-parts_by false false n h = omega arith
+parts : (list : Section) (n : ℕ) → let w = length (keys_of list) in n % w ≡ 0 → n / w * w ≡ n
+parts Components n h = omega arith
+parts Connections n h = omega arith
+parts Frontiers n h = omega arith
 
 -- ---- a list
 
@@ -74,12 +78,12 @@ from_part : (line : ℕ) (f : Fields) (zs : List ℤ) (r : List ℕ) (next : ℕ
 from_part line (got ys s) zs r next e = cc
 from_part line (stop k) zs r next e = let o : ◌≡◌ {A = ℕ} 0 1 = cc in absurd (omega arith)
 
-cond_part : (b : Bool) (p : Part) (zs : List ℤ) (r : List ℕ) (next list limit : ℕ) → cond b p (fault (record { number = 1; list = list; item = limit })) ≡ part zs r next
+cond_part : (b : Bool) (p : Part) (zs : List ℤ) (r : List ℕ) (next : ℕ) (list : Section) (limit : ℕ) → cond b p (fault (record { fault = Fault.ListLength; list = Some list; item = limit })) ≡ part zs r next
     → (b ≡ true) × (p ≡ part zs r next)
 cond_part true p zs r next list limit e = (refl, e)
 cond_part false p zs r next list limit e = let o : ◌≡◌ {A = ℕ} 0 1 = cc in absurd (omega arith)
 
-module _ (list limit line : ℕ) where
+module _ (list : Section) (limit line : ℕ) where
   counted_part : (q : Taken ℕ) (zs : List ℤ) (r : List ℕ) (next : ℕ) → counted list limit line q ≡ part zs r next
       → (n : ℕ) × (s : List ℕ) × (q ≡ taken n s) × (n ≤ limit) × (read_fields (keys_of list) (n * length (keys_of list)) 0 s ≡ got zs r)
   counted_part (taken n s) zs r next e =
@@ -94,7 +98,7 @@ module _ (list limit line : ℕ) where
       let (n, t, q, few, f) = counted_part (natural (read_line (count_key list) s)) zs r next e in
       let (count, small, rest) = fields_sound (keys_of list) (n * length (keys_of list)) 0 t zs r f in
       let line = (write_read (count_key list) s (pos n) t (natural_taken (read_line (count_key list) s) n t q)).1 in
-      let (quotient, remainder) = whole_by (eqb list 0) (eqb list 1) n in
+      let (quotient, remainder) = whole list n in
       let c : length zs / length (keys_of list) ≡ n = rw count quotient in (
         record { whole = rw count remainder; few = rw c few; small = small },
         rw c
@@ -107,7 +111,7 @@ module _ (list limit line : ℕ) where
       let n = length zs / length (keys_of list) in
       let e : read_line (count_key list) (list_lines list zs ++ r) ≡ taken (pos n) (field_lines (keys_of list) 0 zs ++ r) =
       rw (append_assoc (line_of (count_key list) (pos n)) (field_lines (keys_of list) 0 zs) r) (read_write (count_key list) (pos n) (field_lines (keys_of list) 0 zs ++ r) (omega (arith, w.few))) in
-      let p : n * length (keys_of list) ≡ length zs = parts_by (eqb list 0) (eqb list 1) (length zs) w.whole in
+      let p : n * length (keys_of list) ≡ length zs = parts list (length zs) w.whole in
       list_fields list limit line (list_lines list zs ++ r) n (field_lines (keys_of list) 0 zs ++ r) (ap natural e) w.few
       ∙ rw (p, fields_complete (keys_of list) 0 zs r w.small)
 
@@ -124,7 +128,7 @@ ended_lists cs' ps' fs' [] line cs ps fs e = (refl, cc, cc, cc)
 ended_lists cs' ps' fs' (b ∷ s) line cs ps fs e = let o : ◌≡◌ {A = ℕ} 0 1 = cc in absurd (omega arith)
 
 same_lines : (cs' ps' fs' cs ps fs : List ℤ) → cs' ≡ cs → ps' ≡ ps → fs' ≡ fs
-    → list_lines 0 cs' ++ (list_lines 1 ps' ++ list_lines 2 fs') ≡ list_lines 0 cs ++ (list_lines 1 ps ++ list_lines 2 fs)
+    → list_lines Components cs' ++ (list_lines Connections ps' ++ list_lines Frontiers fs') ≡ list_lines Components cs ++ (list_lines Connections ps ++ list_lines Frontiers fs)
 same_lines cs' ps' fs' cs ps fs c p f = rw (c, p, f)
 
 module _ (components connections frontiers : ℕ) where
@@ -132,16 +136,16 @@ module _ (components connections frontiers : ℕ) where
       → WithinLimits components connections frontiers cs ps fs × (text ≡ sheet_of cs ps fs)
   unfolding parse sheet_of
   parse_sound text cs ps fs e =
-      let (cs', s₁, line₁, e₁, f₁) = then_lists (read_list 0 (min components component_limit) 0 text) _ cs ps fs e in
-      let (ps', s₂, line₂, e₂, f₂) = then_lists (read_list 1 (min connections connection_limit) line₁ s₁) _ cs ps fs f₁ in
-      let (fs', s₃, line₃, e₃, f₃) = then_lists (read_list 2 (min frontiers frontier_limit) line₂ s₂) _ cs ps fs f₂ in
+      let (cs', s₁, line₁, e₁, f₁) = then_lists (read_list Components (min components component_limit) 0 text) _ cs ps fs e in
+      let (ps', s₂, line₂, e₂, f₂) = then_lists (read_list Connections (min connections connection_limit) line₁ s₁) _ cs ps fs f₁ in
+      let (fs', s₃, line₃, e₃, f₃) = then_lists (read_list Frontiers (min frontiers frontier_limit) line₂ s₂) _ cs ps fs f₂ in
       let (nil, c, p, f) = ended_lists cs' ps' fs' s₃ line₃ cs ps fs f₃ in
-      let (cw, ct) = list_sound 0 (min components component_limit) 0 text cs' s₁ line₁ e₁ in
-      let (pw, pt) = list_sound 1 (min connections connection_limit) line₁ s₁ ps' s₂ line₂ e₂ in
-      let (fw, ft) = list_sound 2 (min frontiers frontier_limit) line₂ s₂ fs' s₃ line₃ e₃ in (
+      let (cw, ct) = list_sound Components (min components component_limit) 0 text cs' s₁ line₁ e₁ in
+      let (pw, pt) = list_sound Connections (min connections connection_limit) line₁ s₁ ps' s₂ line₂ e₂ in
+      let (fw, ft) = list_sound Frontiers (min frontiers frontier_limit) line₂ s₂ fs' s₃ line₃ e₃ in (
         record { of_components = rw c at cw; of_connections = rw p at pw; of_frontiers = rw f at fw },
         ct
-            ∙ ap (λ (t : List ℕ). list_lines 0 cs' ++ t) (pt ∙ ap (λ (t : List ℕ). list_lines 1 ps' ++ t) (ft ∙ ap (λ (t : List ℕ). list_lines 2 fs' ++ t) nil ∙ append-nil (list_lines 2 fs')))
+            ∙ ap (λ (t : List ℕ). list_lines Components cs' ++ t) (pt ∙ ap (λ (t : List ℕ). list_lines Connections ps' ++ t) (ft ∙ ap (λ (t : List ℕ). list_lines Frontiers fs' ++ t) nil ∙ append-nil (list_lines Frontiers fs')))
             ∙ same_lines cs' ps' fs' cs ps fs c p f,
       )
 
@@ -156,9 +160,9 @@ module _ (components connections frontiers : ℕ) where
       → parse components connections frontiers (sheet_of cs ps fs) ≡ Lists cs ps fs
   unfolding sheet_of
   parse_write cs ps fs w =
-      let e₁ = list_complete 0 (min components component_limit) 0 cs (list_lines 1 ps ++ list_lines 2 fs) (omega arith) w.of_components in
-      let e₂ = list_complete 1 (min connections connection_limit) (0 + 1 + length cs) ps (list_lines 2 fs) (omega arith) w.of_connections in
-      let e₃ = list_complete 2 (min frontiers frontier_limit) (0 + 1 + length cs + 1 + length ps) fs [] (omega arith) w.of_frontiers in
+      let e₁ = list_complete Components (min components component_limit) 0 cs (list_lines Connections ps ++ list_lines Frontiers fs) (omega arith) w.of_components in
+      let e₂ = list_complete Connections (min connections connection_limit) (0 + 1 + length cs) ps (list_lines Frontiers fs) (omega arith) w.of_connections in
+      let e₃ = list_complete Frontiers (min frontiers frontier_limit) (0 + 1 + length cs + 1 + length ps) fs [] (omega arith) w.of_frontiers in
       all_lists components connections frontiers _ e₁ e₂ (rw append-nil at e₃)
 
   pub sheet_unique : (cs ps fs cs' ps' fs' : List ℤ) → WithinLimits components connections frontiers cs ps fs

@@ -12,9 +12,9 @@ use mathlib.Core.Logic.{◌⊎◌, inl, inr, ⊎_elim}
 use mathlib.Core.List.{List, [], ◌∷◌, ◌++◌, append_assoc, append-nil}
 use lib.IntN.{ℤ}
 use lib.ListN.{length, drop, length-append}
-use Rattle.lines.specs.Line.{Taken, taken, refused, Accepted, read_line, line_in}
-use Rattle.lines.specs.declared.read.Line.TheVariants.{Value, Bad as NoLine}
-use Rattle.lines.proofs.Placed.{line_rest, line_refused}
+use Rattle.lines.specs.Line.{Taken, taken, refused, Accepted, read_line, taken_in}
+use Rattle.std.specs.Prelude.{Some, None}
+use Rattle.lines.proofs.Placed.{line_rest, refused_is}
 use Rattle.sheet.specs.Keys.{field_key}
 use Rattle.sheet.specs.Sheet.{Fields, got, stop, after, onward, read_fields}
 use Rattle.sheet.specs.Places.{AllRead}
@@ -55,7 +55,7 @@ module _ (keys : List (List ℕ)) (text : List ℕ) (at n : ℕ) where
   start h = record { within = omega arith; placed = h; count = refl; whole = rw (sub-zero n) (behind_nil (read_fields keys n 0 (drop at text))) }
 
   -- a line was read
-  pub step : {k p : ℕ} {before : List ℤ} → Passed k p before → k < n → (z : ℤ) (q : ℕ) → line_in (length text) (read_line (field_key keys k) (drop p text)) ≡ Value z q
+  pub step : {k p : ℕ} {before : List ℤ} → Passed k p before → k < n → (z : ℤ) (q : ℕ) → taken_in (length text) (read_line (field_key keys k) (drop p text)) ≡ Some (z, q)
       → Passed (k + 1) q (before ++ (z ∷ []))
   step {k} {p} {before} s h z q e =
       let l = line_rest text p (field_key keys k) z q e in
@@ -70,10 +70,10 @@ module _ (keys : List (List ℕ)) (text : List ℕ) (at n : ℕ) where
       }
 
   -- a line was refused
-  pub fails : {k p : ℕ} {before : List ℤ} → Passed k p before → k < n → line_in (length text) (read_line (field_key keys k) (drop p text)) ≡ NoLine
+  pub fails : {k p : ℕ} {before : List ℤ} → Passed k p before → k < n → taken_in (length text) (read_line (field_key keys k) (drop p text)) ≡ None
       → read_fields keys n 0 (drop at text) ≡ stop k
   fails {k} {p} {before} s h e =
-      let q = line_refused (length text) (read_line (field_key keys k) (drop p text)) e in
+      let q = refused_is (length text) (read_line (field_key keys k) (drop p text)) e in
       sym s.whole ∙ rw (turn keys (n - k) k (drop p text) (omega arith), q)
 
   -- where every line is as it must be, the next one is
@@ -82,7 +82,7 @@ module _ (keys : List (List ℕ)) (text : List ℕ) (at n : ℕ) where
   line_accepted {k} {p} {before} s h a =
       ⊎_elim
       (λ l. l)
-      (λ e. absurd (subst AllRead (fails s h (ap (line_in (length text)) e)) a))
+      (λ e. absurd (subst AllRead (fails s h (ap (taken_in (length text)) e)) a))
       (accepted_or (read_line (field_key keys k) (drop p text)))
 
   -- every line was read

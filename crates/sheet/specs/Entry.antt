@@ -3,13 +3,13 @@
 -- Assumes nothing: these are definitions.
 use Rattle.lists.specs.declared.Fault.{Fault}
 use Rattle.std.specs.Prelude.{None}
-use Rattle.std.specs.Prelude.{⊤, Result, Ok, Err}
-use Rattle.lists.specs.declared.Refusal.{Refusal}
-use Rattle.std.specs.Prelude.{ℕ, ◌≡◌, Bool, ◌&&◌, List, [], ◌∷◌, ℤ, length}
+use Rattle.std.specs.Prelude.{⊤}
+use Rattle.std.specs.Prelude.{ℕ, ◌≡◌, Bool, ◌&&◌, List, [], ◌∷◌, ℤ, Result, Ok, Err, length}
 use Rattle.lists.specs.Limits.{component_width, connection_width, frontier_width}
 use Rattle.lists.specs.Records.{component_count, connection_count, frontier_count}
 use Rattle.checks.specs.Refusals.{refuse, too_short, room_for, refusal_numbers, numbers_by}
 use Rattle.lists.specs.Slices.{left_of}
+use Rattle.lists.specs.declared.Refusal.{Refusal}
 use Rattle.sheet.specs.Sheet.{Parsed, Lists, Faulty}
 use Rattle.sheet.specs.declared.Counts.{Counts}
 

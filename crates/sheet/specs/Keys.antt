@@ -1,8 +1,10 @@
 -- The keys of a sheet (document 01, "The sheet and the program": "`components=`, then per component id, x, y, z, kind, facing, support,
 -- conducts; `connections=`, then source, sink, kind each; `frontiers=`, then x, y, z each").
 -- Assumes nothing: these are definitions.
-use Rattle.std.specs.Prelude.{ℕ, ◌%◌, cond, List, [], ◌∷◌, eqb, length, get_or}
+use Rattle.std.specs.Prelude.{ℕ, ◌%◌, List, [], ◌∷◌, length, get_or}
 use Rattle.lines.specs.Text.{ascii}
+use Rattle.lists.specs.declared.Section.{Section}
+use Rattle.lists.specs.declared.Section.TheVariants.{Components, Connections, Frontiers}
 
 -- ---- of the fields of a record, in order
 
@@ -20,11 +22,15 @@ frontier_keys = ascii "x" ∷ ascii "y" ∷ ascii "z" ∷ []
 abbrev pub field_key : List (List ℕ) → ℕ → List ℕ
 field_key keys k = get_or keys (k % length keys) []
 
--- ---- by the list's number: 0 components, 1 connections, 2 frontiers
+-- ---- by the list
 
 -- of its count
-abbrev pub count_key : ℕ → List ℕ
-count_key list = cond (eqb list 0) (ascii "components") (cond (eqb list 1) (ascii "connections") (ascii "frontiers"))
+abbrev pub count_key : Section → List ℕ
+count_key Components = ascii "components"
+count_key Connections = ascii "connections"
+count_key Frontiers = ascii "frontiers"
 
-abbrev pub keys_of : ℕ → List (List ℕ)
-keys_of list = cond (eqb list 0) component_keys (cond (eqb list 1) connection_keys frontier_keys)
+abbrev pub keys_of : Section → List (List ℕ)
+keys_of Components = component_keys
+keys_of Connections = connection_keys
+keys_of Frontiers = frontier_keys

@@ -5,6 +5,7 @@
 -- "A negative count is 9, and a missing or extra line is 9 at its place. A count over its limit is refusal 1 with that list's number and the
 -- limit as item; 9 or 1 comes by whichever line is first, before all else."
 -- Assumes nothing: these are definitions.
+use Rattle.std.specs.Prelude.{Some}
 use Rattle.lists.specs.declared.Fault.{Fault}
 use Rattle.std.specs.Prelude.{None}
 use Rattle.std.specs.Prelude.{ℕ, zero, suc, ◌+◌, ◌*◌, min, cond, List, [], ◌∷◌, leb, ℤ, length}
@@ -12,6 +13,8 @@ use Rattle.lines.specs.Line.{Taken, taken, refused, read_line, natural}
 use Rattle.lists.specs.Limits.{component_limit, connection_limit, frontier_limit}
 use Rattle.lists.specs.declared.Refusal.{Refusal}
 use Rattle.sheet.specs.Keys.{field_key, count_key, keys_of}
+use Rattle.lists.specs.declared.Section.{Section}
+use Rattle.lists.specs.declared.Section.TheVariants.{Components, Connections, Frontiers}
 
 -- ---- a run of lines
 
@@ -47,8 +50,8 @@ abbrev pub bad_line : ℕ → Refusal
 bad_line line = record { fault = Fault.BadLine; list = None; item = line }
 
 -- 1: a count over its limit
-abbrev pub over_limit : ℕ → ℕ → Refusal
-over_limit list limit = record { number = 1; list = list; item = limit }
+abbrev pub over_limit : Section → ℕ → Refusal
+over_limit list limit = record { fault = Fault.ListLength; list = Some list; item = limit }
 
 -- the fields, the first of which is at a line of the sheet
 abbrev pub fields_from : ℕ → Fields → Part
@@ -56,12 +59,12 @@ fields_from line (got zs s) = part zs s (line + length zs)
 fields_from line (stop k) = fault (bad_line (line + k))
 
 -- the list of a count that was read, or not, at a line of the sheet
-abbrev pub counted : ℕ → ℕ → ℕ → Taken ℕ → Part
+abbrev pub counted : Section → ℕ → ℕ → Taken ℕ → Part
 counted list limit line (taken n s) =
     cond (leb n limit) (fields_from (line + 1) (read_fields (keys_of list) (n * length (keys_of list)) 0 s)) (fault (over_limit list limit))
 counted list limit line refused = fault (bad_line line)
 
-unfoldable pub read_list : ℕ → ℕ → ℕ → List ℕ → Part
+unfoldable pub read_list : Section → ℕ → ℕ → List ℕ → Part
 read_list list limit line s = counted list limit line (natural (read_line (count_key list) s))
 
 -- ---- the sheet
@@ -84,7 +87,7 @@ ended cs ps fs (b ∷ s) line = Faulty (bad_line line)
 -- the caller's limits, cut to those of a scene
 unfoldable pub parse : ℕ → ℕ → ℕ → List ℕ → Parsed
 parse components connections frontiers s =
-    read_list 0 (min components component_limit) 0 s
-    then λ cs s₁ line₁. read_list 1 (min connections connection_limit) line₁ s₁
-    then λ ps s₂ line₂. read_list 2 (min frontiers frontier_limit) line₂ s₂
+    read_list Components (min components component_limit) 0 s
+    then λ cs s₁ line₁. read_list Connections (min connections connection_limit) line₁ s₁
+    then λ ps s₂ line₂. read_list Frontiers (min frontiers frontier_limit) line₂ s₂
     then λ fs s₃ line₃. ended cs ps fs s₃ line₃

@@ -1,34 +1,15 @@
 // The first pass over a sheet: finds its first fault, or how many records each list has and where they stand.
-ghost use Rattle.std.specs.Prelude.{◌≡◌, ◌+◌, ◌*◌, ◌≤◌, min, length, drop};
+ghost use Rattle.std.specs.Prelude.{◌≡◌, ◌+◌, ◌*◌, ◌≤◌, length, drop};
 ghost use Rattle.lists.specs.Limits.{component_limit, connection_limit};
 ghost use Rattle.sheet.specs.Keys.{keys_of};
-ghost use Rattle.sheet.specs.Sheet.{read_fields, parse, bad_line};
+ghost use Rattle.sheet.specs.Sheet.{read_fields, parse, bad_line, over_limit};
 ghost use Rattle.sheet.specs.Places.{RunAs, cut_limits, ListedAs, OutlinedAs};
 
 use super::keys::{read_count, read_field, width};
 use super::{Counts, Place, Places};
-use lines::read::{Line, Number};
-use lists::{COMPONENT, COMPONENTS, CONNECTION, CONNECTIONS, FRONTIER, FRONTIERS, Refusal};
-
-#[derive(Clone, Copy)]
-pub enum Run {
-    // The position after the last line.
-    Good(usize),
-    // The first line, from 0, that is not as it must be.
-    Bad(usize),
-}
-
-#[derive(Clone, Copy)]
-pub enum Listed {
-    Good(Place),
-    Refused(Refusal),
-}
-
-#[derive(Clone, Copy)]
-pub enum Outline {
-    Good(Places),
-    Refused(Refusal),
-}
+use lists::{
+    COMPONENT, COMPONENTS, CONNECTION, CONNECTIONS, FRONTIER, FRONTIERS, Fault, Refusal, Section,
+};
 
 fn bad_line(line: usize) -> Refusal
     ensures { result ≡ bad_line line }
@@ -40,10 +21,14 @@ fn bad_line(line: usize) -> Refusal
     }
 }
 
-fn smaller(a: usize, b: usize) -> usize
-    ensures { result ≡ min a b }
+fn over_limit(section: Section, limit: usize) -> Refusal
+    ensures { result ≡ over_limit section limit }
 {
-    if a <= b { a } else { b }
+    Refusal {
+        fault: Fault::ListLength,
+        list: Some(section),
+        item: limit,
+    }
 }
 
 // The limits, cut to those of a scene.
@@ -51,93 +36,76 @@ fn cut(limits: Counts) -> Counts
     ensures { result ≡ cut_limits limits.components limits.connections limits.frontiers }
 {
     Counts {
-        components: smaller(limits.components, COMPONENTS),
-        connections: smaller(limits.connections, CONNECTIONS),
-        frontiers: smaller(limits.frontiers, FRONTIERS),
+        components: limits.components.min(COMPONENTS),
+        connections: limits.connections.min(CONNECTIONS),
+        frontiers: limits.frontiers.min(FRONTIERS),
     }
 }
 
-// Checks n lines of a list's fields.
-fn check_fields(text: &[u8], at: usize, list: u64, n: usize) -> Run
+// Checks n lines of a list's fields: where the last one ends, or the first, from 0, that is not as it must be.
+fn check_fields(text: &[u8], at: usize, section: Section, n: usize) -> Result<usize, usize>
     requires { at ≤ length text.now }
-    ensures { RunAs text.now n (read_fields (keys_of list) n 0 (drop at text.now)) result }
+    ensures { RunAs text.now n (read_fields (keys_of section) n 0 (drop at text.now)) result }
 {
-    let mut p = at;
-    let mut k = 0;
-    while k < n {
-        let l = read_field(text, p, list, k);
-        match l {
-            Line::Value(_, q) => {
-                p = q;
-            }
-            Line::Bad => {
-                return Run::Bad(k);
-            }
-        }
-        k += 1;
+    let mut position = at;
+    for k in 0..n {
+        let (_, end) = read_field(text, position, section, k).ok_or(k)?;
+        position = end;
     }
-    Run::Good(p)
+    Ok(position)
 }
 
 // Checks a list, whose count is at a line of the sheet.
-fn check_list(text: &[u8], at: usize, list: u64, limit: usize, line: usize) -> Listed
+fn check_list(
+    text: &[u8],
+    at: usize,
+    section: Section,
+    limit: usize,
+    line: usize,
+) -> Result<Place, Refusal>
     requires at_in_bounds { at ≤ length text.now }
     requires limit_le_connection_limit { (limit ≤ connection_limit) × (line ≤ 9 * (component_limit + connection_limit)) }
-    ensures { ListedAs text.now at list limit line result }
+    ensures { ListedAs text.now at section limit line result }
 {
-    let n = read_count(text, at, list);
-    match n {
-        Number::Is(value, start) => {
-            let count = value as usize;
-            if limit < count {
-                return Listed::Refused(Refusal {
-                    number: 1,
-                    list,
-                    item: limit,
-                });
-            }
-            let run = check_fields(text, start, list, count * width(list));
-            match run {
-                Run::Good(end) => Listed::Good(Place { count, start, end }),
-                Run::Bad(k) => Listed::Refused(bad_line(line + 1 + k)),
-            }
-        }
-        Number::Not => Listed::Refused(bad_line(line)),
+    let (value, start) = read_count(text, at, section).ok_or(bad_line(line))?;
+    let count = value as usize;
+    if limit < count {
+        return Err(over_limit(section, limit));
+    }
+    match check_fields(text, start, section, count * width(section)) {
+        Ok(end) => Ok(Place { count, start, end }),
+        Err(k) => Err(bad_line(line + 1 + k)),
     }
 }
 
 // Checks a sheet. The limits, the most records of each list, are cut to those of a scene.
-pub fn check_sheet(text: &[u8], limits: Counts) -> Outline
+pub fn check_sheet(text: &[u8], limits: Counts) -> Result<Places, Refusal>
     ensures { OutlinedAs text.now (parse limits.components limits.connections limits.frontiers text.now) result }
 {
     let most = cut(limits);
-    let first = check_list(text, 0, 0, most.components, 0);
-    match first {
-        Listed::Refused(refusal) => Outline::Refused(refusal),
-        Listed::Good(c) => {
-            let line = 1 + c.count * COMPONENT;
-            let second = check_list(text, c.end, 1, most.connections, line);
-            match second {
-                Listed::Refused(refusal) => Outline::Refused(refusal),
-                Listed::Good(p) => {
-                    let next = line + 1 + p.count * CONNECTION;
-                    let third = check_list(text, p.end, 2, most.frontiers, next);
-                    match third {
-                        Listed::Refused(refusal) => Outline::Refused(refusal),
-                        Listed::Good(f) => {
-                            if f.end < text.len() {
-                                let last = next + 1 + f.count * FRONTIER;
-                                return Outline::Refused(bad_line(last));
-                            }
-                            Outline::Good(Places {
-                                components: c,
-                                connections: p,
-                                frontiers: f,
-                            })
-                        }
-                    }
-                }
-            }
-        }
+    let components = check_list(text, 0, Section::Components, most.components, 0)?;
+    let line = 1 + components.count * COMPONENT;
+    let connections = check_list(
+        text,
+        components.end,
+        Section::Connections,
+        most.connections,
+        line,
+    )?;
+    let next = line + 1 + connections.count * CONNECTION;
+    let frontiers = check_list(
+        text,
+        connections.end,
+        Section::Frontiers,
+        most.frontiers,
+        next,
+    )?;
+    if frontiers.end < text.len() {
+        return Err(bad_line(next + 1 + frontiers.count * FRONTIER));
     }
+    Ok(Places {
+        components,
+        connections,
+        frontiers,
+    })
 }

@@ -1,132 +1,84 @@
-// The keys of a sheet. Lists are 0 components, 1 connections, 2 frontiers.
-ghost use Rattle.std.specs.Prelude.{◌≡◌, ◌≤◌, ◌<◌, length, get_or, drop, []};
-ghost use Rattle.lines.specs.Line.{Accepted, read_line, natural, number_in, line_in, after_key};
-ghost use Rattle.sheet.specs.Keys.{component_keys, connection_keys, frontier_keys, field_key, count_key, keys_of};
+// The keys of a sheet, and the lines that have them.
+ghost use Rattle.std.specs.Prelude.{◌≡◌, ◌≤◌, length, drop};
+ghost use Rattle.lines.specs.Line.{Accepted, read_line, natural, taken_in};
+ghost use Rattle.sheet.specs.Keys.{field_key, count_key, keys_of};
 
 use lines::known::known_number;
-use lines::read::{Line, Number, Skip, read_number, skip_key};
-use lists::{COMPONENT, CONNECTION, FRONTIER};
+use lines::read::{read_number, skip_key};
+use lists::{COMPONENT, CONNECTION, FRONTIER, Section};
+
+// The keys of a record's fields, in order.
+const COMPONENT_KEYS: [&[u8]; 8] = [
+    b"id",
+    b"x",
+    b"y",
+    b"z",
+    b"kind",
+    b"facing",
+    b"support",
+    b"conducts",
+];
+
+const CONNECTION_KEYS: [&[u8]; 3] = [b"source", b"sink", b"kind"];
+
+const FRONTIER_KEYS: [&[u8]; 3] = [b"x", b"y", b"z"];
 
 // How many numbers a record has.
-pub fn width(list: u64) -> usize
-    ensures { result ≡ length (keys_of list) }
+pub fn width(section: Section) -> usize
+    ensures { result ≡ length (keys_of section) }
 {
-    if list == 0 {
-        return COMPONENT;
-    }
-    if list == 1 {
-        return CONNECTION;
-    }
-    FRONTIER
-}
-
-// The line of a list's count.
-pub fn read_count(text: &[u8], at: usize, list: u64) -> Number
-    ensures { result ≡ number_in (length text.now) (natural (read_line (count_key list) (drop at text.now))) }
-{
-    if list == 0 {
-        return lines::read::read_count(text, at, b"components");
-    }
-    if list == 1 {
-        return lines::read::read_count(text, at, b"connections");
-    }
-    lines::read::read_count(text, at, b"frontiers")
-}
-
-// The key of field j of a component.
-fn skip_component(text: &[u8], at: usize, j: usize) -> Skip
-    requires { (at ≤ length text.now) × (j < 8) }
-    ensures { result ≡ after_key text.now at (get_or component_keys j []) }
-{
-    match j {
-        0 => skip_key(text, at, b"id"),
-        1 => skip_key(text, at, b"x"),
-        2 => skip_key(text, at, b"y"),
-        3 => skip_key(text, at, b"z"),
-        4 => skip_key(text, at, b"kind"),
-        5 => skip_key(text, at, b"facing"),
-        6 => skip_key(text, at, b"support"),
-        _ => skip_key(text, at, b"conducts"),
+    match section {
+        Section::Components => COMPONENT,
+        Section::Connections => CONNECTION,
+        Section::Frontiers => FRONTIER,
     }
 }
 
-// The key of field j of a connection.
-fn skip_connection(text: &[u8], at: usize, j: usize) -> Skip
-    requires { (at ≤ length text.now) × (j < 3) }
-    ensures { result ≡ after_key text.now at (get_or connection_keys j []) }
+// The key of a list's count.
+fn count_key(section: Section) -> &'static [u8]
+    ensures { result.now ≡ count_key section }
 {
-    match j {
-        0 => skip_key(text, at, b"source"),
-        1 => skip_key(text, at, b"sink"),
-        _ => skip_key(text, at, b"kind"),
-    }
-}
-
-// The key of field j of a frontier.
-fn skip_frontier(text: &[u8], at: usize, j: usize) -> Skip
-    requires { (at ≤ length text.now) × (j < 3) }
-    ensures { result ≡ after_key text.now at (get_or frontier_keys j []) }
-{
-    match j {
-        0 => skip_key(text, at, b"x"),
-        1 => skip_key(text, at, b"y"),
-        _ => skip_key(text, at, b"z"),
+    match section {
+        Section::Components => b"components",
+        Section::Connections => b"connections",
+        Section::Frontiers => b"frontiers",
     }
 }
 
 // The key of line k of a list's fields.
-fn skip_field(text: &[u8], at: usize, list: u64, k: usize) -> Skip
-    requires { at ≤ length text.now }
-    ensures { result ≡ after_key text.now at (field_key (keys_of list) k) }
+fn field_key(section: Section, k: usize) -> &'static [u8]
+    ensures { result.now ≡ field_key (keys_of section) k }
 {
-    if list == 0 {
-        return skip_component(text, at, k % COMPONENT);
+    match section {
+        Section::Components => COMPONENT_KEYS[k % COMPONENT],
+        Section::Connections => CONNECTION_KEYS[k % CONNECTION],
+        Section::Frontiers => FRONTIER_KEYS[k % FRONTIER],
     }
-    if list == 1 {
-        return skip_connection(text, at, k % CONNECTION);
-    }
-    skip_frontier(text, at, k % FRONTIER)
+}
+
+// The line of a list's count.
+pub fn read_count(text: &[u8], at: usize, section: Section) -> Option<(u64, usize)>
+    ensures { result ≡ taken_in (length text.now) (natural (read_line (count_key section) (drop at text.now))) }
+{
+    lines::read::read_count(text, at, count_key(section))
 }
 
 // Line k of a list's fields.
-pub fn read_field(text: &[u8], at: usize, list: u64, k: usize) -> Line
+#[tactic(auto, using(lines::proofs::Placed::key_after, lines::proofs::Placed::key_missing))]
+pub fn read_field(text: &[u8], at: usize, section: Section, k: usize) -> Option<(i64, usize)>
     requires { at ≤ length text.now }
-    ensures { result ≡ line_in (length text.now) (read_line (field_key (keys_of list) k) (drop at text.now)) }
+    ensures { result ≡ taken_in (length text.now) (read_line (field_key (keys_of section) k) (drop at text.now)) }
 {
-    let s = skip_field(text, at, list, k);
-    match s {
-        Skip::To(p) => read_number(text, p),
-        Skip::No => Line::Bad,
-    }
-}
-
-// ---- lines that were accepted before
-
-// How many bytes the key of each field has.
-const COMPONENT_KEYS: [usize; 8] = [2, 1, 1, 1, 4, 6, 7, 8];
-
-const CONNECTION_KEYS: [usize; 3] = [6, 4, 4];
-
-const FRONTIER_KEYS: [usize; 3] = [1, 1, 1];
-
-// How many bytes the key of line k of a list's fields has.
-fn key_length(list: u64, k: usize) -> usize
-    ensures { result ≡ length (field_key (keys_of list) k) }
-{
-    if list == 0 {
-        return COMPONENT_KEYS[k % COMPONENT];
-    }
-    if list == 1 {
-        return CONNECTION_KEYS[k % CONNECTION];
-    }
-    FRONTIER_KEYS[k % FRONTIER]
+    let start = skip_key(text, at, field_key(section, k))?;
+    read_number(text, start)
 }
 
 // Line k of a list's fields, which was accepted: its key is passed over.
-pub fn known_field(text: &[u8], at: usize, list: u64, k: usize) -> Line
+#[tactic(auto, using(lines::proofs::Again::known_key))]
+pub fn known_field(text: &[u8], at: usize, section: Section, k: usize) -> (i64, usize)
     requires at_in_bounds { at ≤ length text.now }
-    requires accepted { Accepted (read_line (field_key (keys_of list) k) (drop at text.now)) }
-    ensures { result ≡ line_in (length text.now) (read_line (field_key (keys_of list) k) (drop at text.now)) }
+    requires accepted { Accepted (read_line (field_key (keys_of section) k) (drop at text.now)) }
+    ensures { Some result ≡ taken_in (length text.now) (read_line (field_key (keys_of section) k) (drop at text.now)) }
 {
-    known_number(text, at + key_length(list, k) + 1)
+    known_number(text, at + field_key(section, k).len() + 1)
 }

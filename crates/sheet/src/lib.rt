@@ -10,8 +10,8 @@ ghost use Rattle.sheet.specs.Sheet.{parse};
 ghost use Rattle.sheet.specs.Entry.{SheetRead};
 
 use checks::refusals::room_for;
-use first_pass::{Outline, check_sheet};
-use lists::{COMPONENT, CONNECTION, FRONTIER, Refusal};
+use first_pass::check_sheet;
+use lists::{COMPONENT, CONNECTION, FRONTIER, Fault, Refusal};
 use second_pass::store_sheet;
 
 // How many records a list has, and where its fields start and end in the text.
@@ -47,29 +47,24 @@ pub fn read_sheet(
 ) -> Result<Counts, Refusal>
     ensures { SheetRead (parse limits.components limits.connections limits.frontiers text.now) components.old components.new connections.old connections.new frontiers.old frontiers.new result }
 {
-    let outline = check_sheet(text, limits);
-    match outline {
-        Outline::Refused(refusal) => Err(refusal),
-        Outline::Good(places) => {
-            let c = places.components;
-            let p = places.connections;
-            let f = places.frontiers;
-            let enough = room_for(c.count, COMPONENT, components.len())
-                & room_for(p.count, CONNECTION, connections.len())
-                & room_for(f.count, FRONTIER, frontiers.len());
-            if !enough {
-                return Err(Refusal {
-                    fault: Fault::ShortSlice,
-                    list: None,
-                    item: 0,
-                });
-            }
-            store_sheet(text, places, components, connections, frontiers);
-            Ok(Counts {
-                components: c.count,
-                connections: p.count,
-                frontiers: f.count,
-            })
-        }
+    let places = check_sheet(text, limits)?;
+    let c = places.components;
+    let p = places.connections;
+    let f = places.frontiers;
+    let enough = room_for(c.count, COMPONENT, components.len())
+        & room_for(p.count, CONNECTION, connections.len())
+        & room_for(f.count, FRONTIER, frontiers.len());
+    if !enough {
+        return Err(Refusal {
+            fault: Fault::ShortSlice,
+            list: None,
+            item: 0,
+        });
     }
+    store_sheet(text, places, components, connections, frontiers);
+    Ok(Counts {
+        components: c.count,
+        connections: p.count,
+        frontiers: f.count,
+    })
 }

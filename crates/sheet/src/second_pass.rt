@@ -6,30 +6,20 @@ ghost use Rattle.sheet.specs.Places.{AllRead, stored, SomeStand, Lent, Stored};
 
 use super::Places;
 use super::keys::known_field;
-use lines::read::Line;
-use lists::{COMPONENT, CONNECTION, FRONTIER};
+use lists::{COMPONENT, CONNECTION, FRONTIER, Section};
 
 // Stores the values of n lines of a list's fields.
-fn store_fields(text: &[u8], at: usize, list: u64, n: usize, out: &mut [i64])
+fn store_fields(text: &[u8], at: usize, section: Section, n: usize, out: &mut [i64])
     requires n_in_bounds { n ≤ length out.old }
     requires at_in_bounds { at ≤ length text.now }
-    requires all_read { AllRead (read_fields (keys_of list) n 0 (drop at text.now)) }
-    ensures { out.new ≡ stored (read_fields (keys_of list) n 0 (drop at text.now)) out.old }
+    requires all_read { AllRead (read_fields (keys_of section) n 0 (drop at text.now)) }
+    ensures { out.new ≡ stored (read_fields (keys_of section) n 0 (drop at text.now)) out.old }
 {
-    let mut p = at;
-    let mut k = 0;
-    while k < n {
-        let l = known_field(text, p, list, k);
-        match l {
-            Line::Value(v, q) => {
-                out[k] = v;
-                p = q;
-            }
-            Line::Bad => {
-                return;
-            }
-        }
-        k += 1;
+    let mut position = at;
+    for k in 0..n {
+        let (value, end) = known_field(text, position, section, k);
+        out[k] = value;
+        position = end;
     }
 }
 
@@ -46,9 +36,27 @@ pub fn store_sheet(
     ensures { Stored text.now places components.old components.new connections.old connections.new frontiers.old frontiers.new }
 {
     let c = places.components;
-    store_fields(text, c.start, 0, c.count * COMPONENT, components);
+    store_fields(
+        text,
+        c.start,
+        Section::Components,
+        c.count * COMPONENT,
+        components,
+    );
     let p = places.connections;
-    store_fields(text, p.start, 1, p.count * CONNECTION, connections);
+    store_fields(
+        text,
+        p.start,
+        Section::Connections,
+        p.count * CONNECTION,
+        connections,
+    );
     let f = places.frontiers;
-    store_fields(text, f.start, 2, f.count * FRONTIER, frontiers);
+    store_fields(
+        text,
+        f.start,
+        Section::Frontiers,
+        f.count * FRONTIER,
+        frontiers,
+    );
 }

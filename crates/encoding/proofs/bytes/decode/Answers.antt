@@ -12,15 +12,14 @@ use Rattle.encoding.proofs.bytes.decode.Goals as goal
 
 pub loop-k-init : goal.loop-k-init
 unfolding first_numbers
-loop-k-init c = (omega arith, refl, refl)
+loop-k-init c = (refl, refl)
 
 pub loop-k-preserved : goal.loop-k-preserved
 loop-k-preserved c =
     let l = c.loop-k in
     let args = c.args in
-    let (within, sized, done) = l.invariant in
+    let (sized, done) = l.invariant in
     let number = to_z-of_z {w = w64} (record { sfits = c.signed_of-number.type_inv }) ∙ c.signed_of-number.ensures ∙ ap signed c.word_at.ensures in (
-      omega arith,
       simp length-set sized,
       rw (done, number, numbers_more) (laid_more (first_numbers args.bytes.now l.k) args.out.now l.k (length_numbers args.bytes.now l.k) _ (omega arith)),
     )
@@ -28,6 +27,6 @@ loop-k-preserved c =
 pub returns : goal.returns
 returns c =
     let l = c.loop-k in
-    let (within, sized, done) = l.invariant in
+    let (sized, done) = l.invariant in
     let all : l.k ≡ length c.args.bytes.now / number_bytes = omega arith in
     rw all at done

@@ -11,18 +11,18 @@ use Rattle.encoding.proofs.bytes.encode.Goals as goal
 
 pub loop-k-init : goal.loop-k-init
 unfolding bytes_of
-loop-k-init c = (omega arith, refl, refl)
+loop-k-init c = (refl, refl)
 
 pub loop-k-preserved : goal.loop-k-preserved
 loop-k-preserved c =
     let l = c.loop-k in
     let args = c.args in
-    let (within, sized, done) = l.invariant in
-    (omega arith, same_len_mid (l.k * number_bytes) (length l.out - l.k * number_bytes) l.out c.put_number.new.out c.put_number.auto.out ∙ sized, encode_more args.values.now l.out args.out.now _ l.k (omega arith) done c.put_number.ensures)
+    let (sized, done) = l.invariant in
+    (same_len_mid (l.k * number_bytes) (length l.out - l.k * number_bytes) l.out c.put_number.new.out c.put_number.auto.out ∙ sized, encode_more args.values.now l.out args.out.now _ l.k (omega arith) done c.put_number.ensures)
 
 pub returns : goal.returns
 returns c =
     let l = c.loop-k in
     let values = c.args.values.now in
-    let (within, sized, done) = l.invariant in
+    let (sized, done) = l.invariant in
     rw (take_all l.k values (omega arith)) at done

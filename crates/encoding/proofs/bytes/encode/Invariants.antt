@@ -1,6 +1,5 @@
 -- `encoding::bytes::encode` meets its contract. The loop's invariant: the bytes of the numbers that were passed stand at the front of the slice.
--- The measure is what is left of the numbers. Assumes nothing.
-use Prim.Native.Nat.{◌-◌, ◌≤◌}
+--
 use mathlib.Core.Path.{◌≡◌}
 use lib.ListN.{length, take}
 use Rattle.lists.specs.Slices.{laid}
@@ -8,7 +7,4 @@ use Rattle.encoding.specs.Bytes.{bytes_of}
 use Rattle.encoding.proofs.bytes.encode.Given as goal
 
 abbrev pub invariant-loop-k : goal.invariant-loop-k
-invariant-loop-k l = (l.k ≤ length l.values) × (length l.out ≡ length l.initial.out) × (l.out ≡ laid (bytes_of (take l.k l.values)) l.initial.out)
-
-abbrev pub decreases-loop-k : goal.decreases-loop-k
-decreases-loop-k l = length l.values - l.k
+invariant-loop-k l = (length l.out ≡ length l.initial.out) × (l.out ≡ laid (bytes_of (take l.k l.values)) l.initial.out)

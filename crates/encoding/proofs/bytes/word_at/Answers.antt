@@ -24,30 +24,30 @@ module _ (bytes : List ℕ) (i k value : ℕ) (some : 0 < k) (few : k ≤ number
 
 pub loop-k-init : goal.loop-k-init
 unfolding little_endian
-loop-k-init c = (omega arith, refl)
+loop-k-init c = refl
 
 pub overflow_cast-value : goal.overflow_cast-value
 overflow_cast-value c =
     let l = c.loop-k in
-    omega (arith, turn-fits c.args.bytes.now c.args.i l.k l.value (omega arith) l.invariant.0 c.requires l.invariant.1 c.type_inv.bytes)
+    omega (arith, turn-fits c.args.bytes.now c.args.i l.k l.value (omega arith) (omega (arith, l.auto)) c.requires l.invariant c.type_inv.bytes)
 
 pub overflow_mul-value : goal.overflow_mul-value
 overflow_mul-value c =
     let l = c.loop-k in
-    omega (arith, turn-fits c.args.bytes.now c.args.i l.k l.value (omega arith) l.invariant.0 c.requires l.invariant.1 c.type_inv.bytes)
+    omega (arith, turn-fits c.args.bytes.now c.args.i l.k l.value (omega arith) (omega (arith, l.auto)) c.requires l.invariant c.type_inv.bytes)
 
 pub overflow_add-value-in-loop-k : goal.overflow_add-value-in-loop-k
 overflow_add-value-in-loop-k c =
     let l = c.loop-k in
-    record { fits = turn-fits c.args.bytes.now c.args.i l.k l.value (omega arith) l.invariant.0 c.requires l.invariant.1 c.type_inv.bytes }
+    record { fits = turn-fits c.args.bytes.now c.args.i l.k l.value (omega arith) (omega (arith, l.auto)) c.requires l.invariant c.type_inv.bytes }
 
 pub loop-k-preserved : goal.loop-k-preserved
 loop-k-preserved c =
     let l = c.loop-k in
-    (omega arith, turn c.args.bytes.now c.args.i l.k l.value (omega arith) l.invariant.0 c.requires l.invariant.1)
+    turn c.args.bytes.now c.args.i l.k l.value (omega arith) (omega (arith, l.auto)) c.requires l.invariant
 
 pub returns : goal.returns
 returns c =
     let l = c.loop-k in
     let none : l.k ≡ 0 = omega arith in
-    rw (none, add-zero) at l.invariant.1
+    rw (none, add-zero) at l.invariant

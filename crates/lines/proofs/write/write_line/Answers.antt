@@ -13,14 +13,6 @@ use Rattle.lines.proofs.write.write_line.Goals as goal
 room : (key : List ℕ) (z : ℤ) (out : List ℕ) → length (line_of key z) ≤ length out → length key + 1 + length (number z []) + 1 ≤ length out
 room key z out h = omega (arith, line_size key z)
 
-pub put_bytes-a-requires : goal.put_bytes-a-requires
-put_bytes-a-requires c = omega (arith, room c.args.key.now c.args.value c.args.out.now c.requires)
-
-pub put_byte-requires : goal.put_byte-requires
-put_byte-requires c =
-    room_then c.put_bytes-a.ensures (61 ∷ [])
-    (simp length-append (omega (arith, room c.args.key.now c.args.value c.args.out.now c.requires)))
-
 pub put_number-requires : goal.put_number-requires
 put_number-requires c =
     rw (to_z-of_z c.ranges.value) (

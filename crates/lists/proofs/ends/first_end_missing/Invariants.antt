@@ -1,5 +1,6 @@
 -- `lists::ends::first_end_missing` meets its contract: what is left to search has the answer.
 -- Assumes nothing.
+use Rattle.lists.specs.Records.{port_count}
 use mathlib.Core.Path.{◌≡◌}
 use mathlib.Core.List.{List}
 use Prim.Native.Nat.{◌-◌}
@@ -10,7 +11,4 @@ use Rattle.lists.specs.Ends.{SettledEnds}
 use Rattle.lists.proofs.ends.first_end_missing.Given as goal
 
 abbrev pub invariant-loop-k : goal.invariant-loop-k
-invariant-loop-k l = (cs : List ℤ) → IdTable cs l.keys → SettledEnds cs l.ports l.sources l.sinks → first_from (end_missing cs l.ports) l.k (l.count - l.k) ≡ first_end_missing cs l.ports
-
-abbrev pub decreases-loop-k : goal.decreases-loop-k
-decreases-loop-k l = l.count - l.k
+invariant-loop-k l = (cs : List ℤ) → IdTable cs l.keys → SettledEnds cs l.ports l.sources l.sinks → first_from (end_missing cs l.ports) l.k (port_count l.ports - l.k) ≡ first_end_missing cs l.ports

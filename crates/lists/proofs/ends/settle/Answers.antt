@@ -33,7 +33,7 @@ member_near-requires c =
 
 -- there is room for the member of a turn
 room : (c : In-loop-k) → c.loop-k.k < length c.loop-k.members
-room c = omega (arith, c.loop-k-test.true, c.loop-k.invariant.1, c.requires.fact.1)
+room c = omega (arith, c.loop-k-test.true, c.loop-k.invariant.0, c.requires.fact.1)
 
 pub offset_bounds-members-k : goal.offset_bounds-members-k
 offset_bounds-members-k c = omega (arith, c.loop-k-test.true, c.requires.port_connections.few)
@@ -45,22 +45,21 @@ pub loop-k-preserved : goal.loop-k-preserved
 loop-k-preserved c =
     let l = c.loop-k in
     let here = room (goal.at.loop-k-preserved c).In-loop-k in (
-      omega (arith, c.loop-k-test.true),
-      simp length-set l.invariant.1,
+      simp length-set l.invariant.0,
       λ cs t j h. ⊎_elim
           (λ (same : j ≡ l.k). rw same (get_or-set_same l.members l.k _ 0 here ∙ c.member_near.ensures cs t ∙ ap (smaller_ids cs) c.natural_at.ensures))
-          (λ (less : j < l.k). get_or-set_other l.members l.k j _ 0 (λ e. omega arith) ∙ l.invariant.2 cs t j less)
+          (λ (less : j < l.k). get_or-set_other l.members l.k j _ 0 (λ e. omega arith) ∙ l.invariant.1 cs t j less)
           (eq-or-lt_of_le (let m : j ≤ l.k = omega arith in m)),
     )
 
 pub shape_of-members : goal.shape_of-members
-shape_of-members c = c.loop-k.invariant.1
+shape_of-members c = c.loop-k.invariant.0
 
 pub returns : goal.returns
-returns c cs t = record { at = λ k h. c.loop-k.invariant.2 cs t k (omega (arith, c.loop-k-test.false)) }
+returns c cs t = record { at = λ k h. c.loop-k.invariant.1 cs t k (omega (arith, c.loop-k-test.false)) }
 
 pub loop-k-init : goal.loop-k-init
-loop-k-init c = (omega arith, refl, λ cs t j h. absurd (omega arith))
+loop-k-init c = (refl, λ cs t j h. absurd (omega arith))
 
 pub overflow_mul-k : goal.overflow_mul-k
 overflow_mul-k c = omega (arith, within c)

@@ -2,7 +2,7 @@
 -- Assumes nothing.
 use mathlib.Core.Path.{◌≡◌}
 use mathlib.Core.List.{List}
-use Prim.Native.Nat.{ℕ, ◌+◌, ◌*◌, ◌-◌, ◌≤◌, ◌<◌}
+use Prim.Native.Nat.{ℕ, ◌+◌, ◌*◌, ◌<◌}
 use lib.ListN.{length, get_or}
 use lib.IntN.{ℤ}
 use Rattle.lists.specs.Limits.{port_width}
@@ -12,8 +12,5 @@ use Rattle.lists.proofs.ends.settle.Given as goal
 
 abbrev pub invariant-loop-k : goal.invariant-loop-k
 invariant-loop-k l =
-    (l.k ≤ l.count) × (length l.members ≡ length l.initial.members)
+    (length l.members ≡ length l.initial.members)
     × ((cs : List ℤ) → IdTable cs l.keys → (j : ℕ) → j < l.k → get_or l.members j 0 ≡ smaller_ids cs (natural_at l.ports (j * port_width + l.f)))
-
-abbrev pub decreases-loop-k : goal.decreases-loop-k
-decreases-loop-k l = l.count - l.k

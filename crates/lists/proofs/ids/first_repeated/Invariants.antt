@@ -1,5 +1,6 @@
 -- `lists::ids::first_repeated` meets its contract: what is left to search has the answer.
 -- Assumes nothing.
+use Rattle.lists.specs.Records.{component_count}
 use mathlib.Core.Path.{◌≡◌}
 use Prim.Native.Nat.{◌-◌}
 use Rattle.lists.specs.First.{first_from}
@@ -7,7 +8,4 @@ use Rattle.lists.specs.Ids.{used_earlier, first_repeated}
 use Rattle.lists.proofs.ids.first_repeated.Given as goal
 
 abbrev pub invariant-loop-k : goal.invariant-loop-k
-invariant-loop-k l = first_from (used_earlier l.components) l.k (l.count - l.k) ≡ first_repeated l.components
-
-abbrev pub decreases-loop-k : goal.decreases-loop-k
-decreases-loop-k l = l.count - l.k
+invariant-loop-k l = first_from (used_earlier l.components) l.k (component_count l.components - l.k) ≡ first_repeated l.components

@@ -1,11 +1,8 @@
 -- `lists::ids::has_component` meets its contract.
 -- Assumes nothing.
-use mathlib.Core.Path.{sym, ap, ◌∙◌}
+use mathlib.Core.Path.{ap, ◌∙◌}
 use Rattle.lists.specs.First.{is_found}
 use Rattle.lists.proofs.ids.has_component.Goals as goal
 
-pub returns-in-Some : goal.returns-in-Some
-returns-in-Some c cs t = sym (ap is_found (sym (c.place_of-place.ensures cs t) ∙ c.in-Some.is))
-
-pub returns-in-None : goal.returns-in-None
-returns-in-None c cs t = sym (ap is_found (sym (c.place_of-place.ensures cs t) ∙ c.in-None.is))
+pub returns : goal.returns
+returns c cs t = c.is_some.ensures ∙ ap is_found (c.place_of.ensures cs t)

@@ -12,27 +12,23 @@ use Rattle.lists.proofs.Table.{keys_rise, keys_small, table_of}
 use Rattle.lists.proofs.ids.id_table.Goals as goal
 
 pub loop-k-init : goal.loop-k-init
-loop-k-init c = (omega arith, refl, λ j h. absurd (omega arith))
+loop-k-init c = (refl, λ j h. absurd (omega arith))
 
 pub id_key-requires : goal.id_key-requires
 id_key-requires c =
     record {
       components = c.requires.components;
-      k_bound = omega (arith, c.loop-k-test.true, c.loop-k.invariant.1, c.requires.keys_len.0);
+      k_bound = omega (arith, c.loop-k-test.true, c.loop-k.invariant.0, c.requires.keys_len.0);
     }
-
-pub loop-k-smaller : goal.loop-k-smaller
-loop-k-smaller c = simp length-set (omega arith)
 
 pub loop-k-preserved : goal.loop-k-preserved
 loop-k-preserved c =
     let l = c.loop-k in
-    let here : l.k < length l.keys = c.loop-k-test.true in (
-      simp length-set (omega arith),
-      simp length-set l.invariant.1,
+    let here : l.k < length l.keys = omega (arith, c.loop-k-test.true, l.invariant.0) in (
+      simp length-set l.invariant.0,
       λ j h. ⊎_elim
           (λ (same : j ≡ l.k). rw same (get_or-set_same l.keys l.k _ 0 here ∙ c.id_key.ensures))
-          (λ (less : j < l.k). get_or-set_other l.keys l.k j _ 0 (λ e. omega arith) ∙ l.invariant.2 j less)
+          (λ (less : j < l.k). get_or-set_other l.keys l.k j _ 0 (λ e. omega arith) ∙ l.invariant.1 j less)
           (eq-or-lt_of_le (let m : j ≤ l.k = omega arith in m)),
     )
 
@@ -41,17 +37,17 @@ pub sort_pairs-requires : goal.sort_pairs-requires
 sort_pairs-requires c =
     let cs = c.args.components.now in
     let keys = c.loop-k.keys in
-    let long : length keys ≡ component_count cs = c.loop-k.invariant.1 ∙ c.requires.keys_len.0 in
+    let long : length keys ≡ component_count cs = c.loop-k.invariant.0 ∙ c.requires.keys_len.0 in
     let each : ((k : ℕ) → k < component_count cs → get_or keys k 0 ≡ id_key cs k) =
-    λ k h. c.loop-k.invariant.2 k (omega (arith, c.loop-k-test.false, c.loop-k.invariant.0, long)) in
+    λ k h. c.loop-k.invariant.1 k (omega (arith, c.loop-k-test.false, c.loop-k.invariant.0, long)) in
     record {
-      keys_in_bounds = omega (arith, c.loop-k.invariant.1, c.requires.keys_len.1);
+      keys_in_bounds = omega (arith, c.loop-k.invariant.0, c.requires.keys_len.1);
       rising_by = (keys_rise cs keys c.requires.components long each, keys_small cs keys c.requires.components long each);
     }
 
 pub shape_of-keys : goal.shape_of-keys
 shape_of-keys c =
-    c.sort_pairs.auto.keys ∙ c.loop-k.invariant.1
+    c.sort_pairs.auto.keys ∙ c.loop-k.invariant.0
 
 pub shape_of-spare : goal.shape_of-spare
 shape_of-spare c = c.sort_pairs.auto.spare
@@ -60,7 +56,7 @@ pub returns : goal.returns
 returns c =
     let cs = c.args.components.now in
     let keys = c.loop-k.keys in
-    let long : length keys ≡ component_count cs = c.loop-k.invariant.1 ∙ c.requires.keys_len.0 in
+    let long : length keys ≡ component_count cs = c.loop-k.invariant.0 ∙ c.requires.keys_len.0 in
     let each : ((k : ℕ) → k < component_count cs → get_or keys k 0 ≡ id_key cs k) =
-    λ k h. c.loop-k.invariant.2 k (omega (arith, c.loop-k-test.false, c.loop-k.invariant.0, long)) in
+    λ k h. c.loop-k.invariant.1 k (omega (arith, c.loop-k-test.false, c.loop-k.invariant.0, long)) in
     table_of cs (omega (arith, c.requires.components.few)) long each c.sort_pairs.ensures

@@ -1,7 +1,7 @@
 -- `lists::ids::id_table` meets its contract: the keys of all components, sorted.
 -- Assumes nothing.
 use mathlib.Core.Path.{◌≡◌}
-use Prim.Native.Nat.{ℕ, ◌-◌, ◌≤◌, ◌<◌}
+use Prim.Native.Nat.{ℕ, ◌<◌}
 use lib.ListN.{length, get_or}
 use Rattle.tables.specs.Pairs.{pair}
 use Rattle.lists.specs.Records.{component}
@@ -9,7 +9,4 @@ use Rattle.lists.proofs.ids.id_table.Given as goal
 
 abbrev pub invariant-loop-k : goal.invariant-loop-k
 invariant-loop-k l =
-    (l.k ≤ length l.keys) × (length l.keys ≡ length l.initial.keys) × ((j : ℕ) → j < l.k → get_or l.keys j 0 ≡ pair (component l.components j).id j)
-
-abbrev pub decreases-loop-k : goal.decreases-loop-k
-decreases-loop-k l = length l.keys - l.k
+    (length l.keys ≡ length l.initial.keys) × ((j : ℕ) → j < l.k → get_or l.keys j 0 ≡ pair (component l.components j).id j)

@@ -9,21 +9,19 @@ use Rattle.lists.proofs.ids.none_repeated.Goals as goal
 
 pub loop-k-preserved : goal.loop-k-preserved
 loop-k-preserved c =
-    let l = c.loop-k in (
-      omega arith,
-      λ i h e. ⊎_elim
-          (λ (same : i + 1 ≡ l.k).
-          let here : l.k - 1 ≡ i = omega arith in
-          c.if-keys-k.false (rw (here, ← same) e))
-          (λ (less : i + 1 < l.k). l.invariant.1 i less e)
-          (eq-or-lt_of_le (let m : i + 1 ≤ l.k = omega arith in m)),
-    )
+    let l = c.loop-k in
+    λ i h e. ⊎_elim
+    (λ (same : i + 1 ≡ l.k).
+    let here : l.k - 1 ≡ i = omega arith in
+    c.if-keys-k.false (rw (here, ← same) e))
+    (λ (less : i + 1 < l.k). l.invariant i less e)
+    (eq-or-lt_of_le (let m : i + 1 ≤ l.k = omega arith in m))
 
 pub loop-k-init : goal.loop-k-init
-loop-k-init c = (omega arith, λ i h. absurd (omega arith))
+loop-k-init c = λ i h. absurd (omega arith)
 
 pub returns-then-keys-k : goal.returns-then-keys-k
 returns-then-keys-k c e = absurd (false≢true e)
 
 pub returns : goal.returns
-returns c e = record { at = λ i h. c.loop-k.invariant.1 i (omega arith) }
+returns c e = record { at = λ i h. c.loop-k.invariant i (omega arith) }

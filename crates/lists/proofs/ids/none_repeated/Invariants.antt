@@ -1,13 +1,10 @@
 -- `lists::ids::none_repeated` meets its contract: no two neighbours passed have one id.
 -- Assumes nothing.
 use mathlib.Core.Path.{◌≡◌}
-use Prim.Native.Nat.{ℕ, ◌+◌, ◌-◌, ◌/◌, ◌≤◌, ◌<◌}
-use lib.ListN.{length, get_or}
+use Prim.Native.Nat.{ℕ, ◌+◌, ◌/◌, ◌<◌}
+use lib.ListN.{get_or}
 use Rattle.tables.specs.Pairs.{span}
 use Rattle.lists.proofs.ids.none_repeated.Given as goal
 
 abbrev pub invariant-loop-k : goal.invariant-loop-k
-invariant-loop-k l = (1 ≤ l.k) × ((i : ℕ) → i + 1 < l.k → get_or l.keys i 0 / span ≡ get_or l.keys (i + 1) 0 / span → ⊥)
-
-abbrev pub decreases-loop-k : goal.decreases-loop-k
-decreases-loop-k l = length l.keys - l.k
+invariant-loop-k l = ((i : ℕ) → i + 1 < l.k → get_or l.keys i 0 / span ≡ get_or l.keys (i + 1) 0 / span → ⊥)

@@ -9,7 +9,4 @@ use Rattle.lists.proofs.order.all_ascending.Given as goal
 
 abbrev pub invariant-loop-k : goal.invariant-loop-k
 invariant-loop-k l =
-    (1 ≤ l.k) × (l.all ≡ true → (j : ℕ) → 1 ≤ j → j < l.k → record_before connection_order l.list ((j - 1) * connection_width) (j * connection_width) ≡ true)
-
-abbrev pub decreases-loop-k : goal.decreases-loop-k
-decreases-loop-k l = l.count - l.k
+    (l.all ≡ true → (j : ℕ) → 1 ≤ j → j < l.k → record_before connection_order l.list ((j - 1) * connection_width) (j * connection_width) ≡ true)

@@ -2,7 +2,7 @@
 use mathlib.Core.Path.{sym, ap, ◌∙◌}
 use mathlib.Core.Bool.{not}
 use Prim.Native.Nat.{◌+◌, ◌*◌, ◌≤◌}
-use native.Mathlib.Nat.{sub-zero, div-le_self}
+use native.Mathlib.Nat.{sub-zero}
 use native.Mathlib.Omega.{arith}
 use lib.ListN.{length}
 use Rattle.lists.specs.Ranges.{first_out_of_range}
@@ -28,11 +28,6 @@ pub returns-then-not-record_in_range : goal.returns-then-not-record_in_range
 returns-then-not-record_in_range c =
     sym (first_here _ _ _ c.loop-k-test.true (ap not (sym c.record_in_range.ensures ∙ c.if-not-record_in_range.true)))
     ∙ c.loop-k.invariant
-
-pub overflow_add-k : goal.overflow_add-k
-overflow_add-k c =
-    let s = c.args in
-    omega (arith, div-le_self (length s.list.now) (length s.low.now))
 
 pub loop-k-preserved : goal.loop-k-preserved
 loop-k-preserved c =

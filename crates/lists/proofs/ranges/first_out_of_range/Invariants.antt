@@ -11,6 +11,3 @@ use Rattle.lists.proofs.ranges.first_out_of_range.Given as goal
 abbrev pub invariant-loop-k : goal.invariant-loop-k
 invariant-loop-k l =
     first_from (λ j. not (record_in_range l.low l.high l.list (j * length l.low))) l.k (length l.list / length l.low - l.k) ≡ first_out_of_range l.low l.high l.list
-
-abbrev pub decreases-loop-k : goal.decreases-loop-k
-decreases-loop-k l = length l.list / length l.low - l.k

@@ -12,6 +12,3 @@ abbrev pub invariant-loop-f : goal.invariant-loop-f
 invariant-loop-f l =
     (l.f ≤ length l.low)
     × (all_from (λ g. in_range (at l.low g) (at l.high g) (at l.list (l.i + g))) l.f (length l.low - l.f) ≡ record_in_range l.low l.high l.list l.i)
-
-abbrev pub decreases-loop-f : goal.decreases-loop-f
-decreases-loop-f l = length l.low - l.f
