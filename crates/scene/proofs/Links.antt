@@ -30,20 +30,22 @@ module _ (source sink : Component) (kind : ℕ) where
   unfolding ports_between
   between_none e = rw e
 
-  pub between_some : (face : ℕ) → face ≡ step_face source sink → (face ≡ NoFace → ⊥)
-      → ports_between source sink kind ≡ both_ports (select_port (ports_of source) face true kind) (select_port (ports_of sink) (opposite face) false kind)
+  pub between_some : (face facing : ℕ) → face ≡ step_face source sink → (face ≡ NoFace → ⊥) → facing ≡ opposite face
+      → ports_between source sink kind ≡ both_ports (select_port (ports_of source) face true kind) (select_port (ports_of sink) facing false kind)
   unfolding ports_between
-  between_some face e h = rw (← e, ne_eqb face NoFace h)
+  between_some face facing e h d = rw (d, ← e, ne_eqb face NoFace h)
 
 pub record Chosen (source sink : Component) (kind i j : ℕ) : Type 0 where
   pub out : select_port (ports_of source) (step_face source sink) true kind ≡ Some i
   pub into : select_port (ports_of sink) (opposite (step_face source sink)) false kind ≡ Some j
 
 both_chosen : (t : Bool) (f g : Option ℕ) (i j : ℕ) → cond t None (both_ports f g) ≡ Some (i, j) → (f ≡ Some i) × (g ≡ Some j)
-both_chosen true f g i j e = let z : ◌≡◌ {A = ℕ} 0 1 = cc in absurd (omega arith)
-both_chosen false None g i j e = let z : ◌≡◌ {A = ℕ} 0 1 = cc in absurd (omega arith)
-both_chosen false (Some a) None i j e = let z : ◌≡◌ {A = ℕ} 0 1 = cc in absurd (omega arith)
-both_chosen false (Some a) (Some b) i j e = (cc, cc)
+both_chosen true f g i j e = cc
+both_chosen false None g i j e = cc
+both_chosen false (Some a) None i j e = cc
+both_chosen false (Some a) (Some b) i j e =
+    let p : ◌≡◌ {A = ℕ × ℕ} (a, b) (i, j) = cc in
+    (ap (λ (q : ℕ × ℕ). Some q.0) p, ap (λ (q : ℕ × ℕ). Some q.1) p)
 
 chosen : (source sink : Component) (kind i j : ℕ) → ports_between source sink kind ≡ Some (i, j) → Chosen source sink kind i j
 unfolding ports_between
@@ -105,8 +107,8 @@ pub linked : (cs : List ℤ) (p : Connection) (i j : ℕ) → link_of cs p ≡ S
 linked cs p i j e = go (place_of cs p.source) (place_of cs p.sink) refl refl e
   where
     go : (f g : Option ℕ) → place_of cs p.source ≡ f → place_of cs p.sink ≡ g → link_between cs p.kind f g ≡ Some (i, j) → Linked cs p i j
-    go None g a b h = let z : ◌≡◌ {A = ℕ} 0 1 = cc in absurd (omega arith)
-    go (Some x) None a b h = let z : ◌≡◌ {A = ℕ} 0 1 = cc in absurd (omega arith)
+    go None g a b h = cc
+    go (Some x) None a b h = cc
     go (Some x) (Some y) a b h =
         let from = component cs x in
         let to = component cs y in

@@ -1,22 +1,23 @@
 -- Rows written one after the other into a slice.
 --     small_read, natural_read     numbers read back from their bits
---     five_puts                    a row of five, stored number by number
+--     part_put                     a row written over a part of its length
 --     put_nothing                  no row changes nothing
 --     put_more                     one more row after those that are laid
 --     Laid                         the rows kept of the connections below k, none at first, one connection more, and all
 -- Assumes nothing.
 use Rattle.std.specs.Prelude.{Option, Some, None}
 use mathlib.Core.Path.{◌≡◌, refl, sym, ◌∙◌}
-use mathlib.Core.List.{List, [], ◌∷◌, ◌++◌, map, append-nil, map-append}
+use mathlib.Core.List.{List, [], ◌++◌, map, append-nil, append_assoc, map-append}
 use Prim.Native.Nat.{ℕ, ◌+◌, ◌*◌, ◌≤◌, ◌<◌}
 use native.Mathlib.Nat.{add-zero}
-use native.Mathlib.Numerals.{add-one, add-two, add-three, add-four}
+use native.Mathlib.Numerals.{add-one}
 use native.Mathlib.Omega.{arith}
-use lib.ListN.{length, set, length-append, length-map, take-append-drop}
-use lib.Seq.{sets-eq, take-append_seam, drop-append-add, drop-drop}
+use lib.ListN.{length, length-append, length-map, take-append-drop}
+use lib.Seq.{take-append_seam, drop-append-add, drop-drop}
 use lib.IntN.{ℤ, pos, nat_abs}
 use lib.Dec.{T}
 use lib.Signed.{non_neg, pos-nat_abs}
+use borrow.Rule.Slice.PartMut.{put_mid}
 use mir.Syntax.{w64}
 use mir.Val.{to_z, of_z, SFits}
 use mir.Facts.{to_z-of_z}
@@ -26,11 +27,9 @@ use Rattle.lists.specs.Slices.{laid}
 use Rattle.scene.specs.Kept.{link_of, row_by, kept_row, rows_below}
 use Rattle.scene.specs.Answer.{Put, Filled, AllKept}
 
--- each number is the one that is meant
-pub five_puts : {a b c d e a₁ b₁ c₁ d₁ e₁ : ℤ} (l : List ℤ) (i : ℕ) → i + 5 ≤ length l → a₁ ≡ a → b₁ ≡ b → c₁ ≡ c → d₁ ≡ d → e₁ ≡ e
-    → Put (a ∷ b ∷ c ∷ d ∷ e ∷ []) i l (set (set (set (set (set l i a₁) (i + 1) b₁) (i + 2) c₁) (i + 3) d₁) (i + 4) e₁)
-five_puts {a} {b} {c} {d} {e} l i h p q r s t =
-    record { wrote = rw (p, q, r, s, t, add-one i, add-two i, add-three i, add-four i) (sets-eq (a ∷ b ∷ c ∷ d ∷ e ∷ []) l i h) }
+-- a row written over a part of its length
+pub part_put : {part row : List ℤ} (l : List ℤ) (a k : ℕ) → part ≡ row → length row ≡ k → Put row a l (put_mid a k l part)
+part_put {part} {row} l a k e n = record { wrote = rw (e, n, drop-drop, append_assoc) }
 
 -- a number that is not negative, read back from its bits
 pub small_read : (n : ℕ) → n < 9223372036854775808 → to_z w64 n ≡ pos n
@@ -54,14 +53,12 @@ pub record Laid (cs ps old out : List ℤ) (count k : ℕ) : Type 0 where
   pub rows : out ≡ laid (map pos (rows_below cs ps k)) old
   pub full : count * port_width ≡ length (map pos (rows_below cs ps k))
   pub few : count ≤ k
-  pub long : length out ≡ length old
-  pub within : k ≤ connection_count ps
 
 pub none_laid : (cs ps old : List ℤ) → Laid cs ps old old 0 0
 unfolding rows_below
-none_laid cs ps old = record { rows = refl; full = refl; few = omega arith; long = refl; within = omega arith }
+none_laid cs ps old = record { rows = refl; full = refl; few = omega arith }
 
-row_few : (p : Connection) (l : Option (ℕ × ℕ)) → length (map pos (row_by p l)) ≤ port_width
+pub row_few : (p : Connection) (l : Option (ℕ × ℕ)) → length (row_by p l) ≤ port_width
 row_few p (Some (i, j)) = omega arith
 row_few p None = omega arith
 
@@ -69,22 +66,17 @@ rows_more : (cs ps : List ℤ) (k : ℕ) → map pos (rows_below cs ps (k + 1)) 
 unfolding rows_below
 rows_more cs ps k = rw (add-one k) (map-append pos (rows_below cs ps k) (kept_row cs ps k))
 
-pub one_laid : (cs ps old out out' : List ℤ) (count k r : ℕ) → k < connection_count ps → length out' ≡ length out → Laid cs ps old out count k
+pub one_laid : (cs ps old out out' : List ℤ) (count k r : ℕ) → Laid cs ps old out count k
     → Filled (map pos (kept_row cs ps k)) count out out' r → Laid cs ps old out' r (k + 1)
-one_laid cs ps old out out' count k r h same i f =
+one_laid cs ps old out out' count k r i f =
     let put = rw i.full at f.put in
+    let few = row_few (connection ps k) (link_of cs (connection ps k)) in
     record {
       rows = rw (rows_more cs ps k) (put_more (map pos (rows_below cs ps k)) (map pos (kept_row cs ps k)) old out out' i.rows put);
       full = rw (rows_more cs ps k, length-append) (omega (arith, f.count, i.full));
-      few = omega (arith, f.count, i.few, row_few (connection ps k) (link_of cs (connection ps k)));
-      long = omega (arith, same, i.long);
-      within = omega arith;
+      few = omega (arith, f.count, i.few, few, length-map (kept_row cs ps k) pos);
     }
 
-pub all_laid : (cs ps old out : List ℤ) (count k : ℕ) → connection_count ps ≤ k → Laid cs ps old out count k → AllKept cs ps old out count
-all_laid cs ps old out count k h i =
-    let e : connection_count ps ≡ k = omega (arith, i.within) in
-    record {
-      rows = rw e i.rows;
-      count = rw e (omega (arith, i.full, length-map (rows_below cs ps k) pos));
-    }
+pub all_laid : (cs ps old out : List ℤ) (count k : ℕ) → connection_count ps ≡ k → Laid cs ps old out count k → AllKept cs ps old out count
+all_laid cs ps old out count k e i =
+    record { rows = rw e i.rows; count = rw e (omega (arith, i.full, length-map (rows_below cs ps k) pos)) }

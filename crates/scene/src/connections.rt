@@ -19,125 +19,113 @@ use lists::hints::{HINTS, hint_ids, place_near};
 use lists::numbers::natural_at;
 use lists::{COMPONENT, COMPONENTS, CONNECTION, PORT, Refusal};
 
-// The port that component k has for a connection at a face.
-fn port_at(components: &[i64], k: usize, face: u64, outgoing: bool, kind: u64) -> Option<usize>
-    requires components { Components components.now }
-    requires k_bound { k < component_count components.now }
-    ensures { result ≡ select_port (ports_of (component components.now k)) face outgoing kind }
-{
-    let at = k * COMPONENT;
-    let block = natural_at(components, at + 4);
-    let facing = natural_at(components, at + 5);
-    let support = natural_at(components, at + 6);
-    let conducts = natural_at(components, at + 7);
-    select_port(
-        ports_for(block, facing, support, conducts),
-        port_count(block, facing, support, conducts),
-        face,
-        outgoing,
-        kind,
-    )
+// The lists of an accepted scene, with the table of the components' ids and hints into it.
+#[derive(Drop)]
+struct Scene<'a> {
+    components: &'a [i64],
+    connections: &'a [i64],
+    keys: &'a [u64],
+    hints: &'a [u16; HINTS],
+    ghost components_within: { Components components.now },
+    ghost connections_within: { Connections connections.now },
+    ghost id_table: { IdTable components.now keys.now },
 }
 
-// The face of the step from component a to component b.
-fn step_face(components: &[i64], a: usize, b: usize) -> u64
-    requires { (a < component_count components.now) × (b < component_count components.now) }
-    ensures { result ≡ step_face (component components.now a) (component components.now b) }
-{
-    let source = a * COMPONENT;
-    let sink = b * COMPONENT;
-    facing_between(
-        components[source + 1],
-        components[source + 2],
-        components[source + 3],
-        components[sink + 1],
-        components[sink + 2],
-        components[sink + 3],
-    )
-}
-
-// The ports that a connection from component a to component b takes at its ends.
-fn ports_between(components: &[i64], a: usize, b: usize, kind: u64) -> Option<(usize, usize)>
-    requires components { Components components.now }
-    requires a_bound { (a < component_count components.now) × (b < component_count components.now) }
-    ensures { result ≡ ports_between (component components.now a) (component components.now b) kind }
-{
-    let face = step_face(components, a, b);
-    if face == 0 {
-        return None;
+impl Scene<'_> {
+    // The port that component k has for a connection at a face.
+    fn port_at(&self, k: usize, face: u64, outgoing: bool, kind: u64) -> Option<usize>
+        requires { k < component_count self.now.components.now }
+        ensures { result ≡ select_port (ports_of (component self.now.components.now k)) face outgoing kind }
+    {
+        let at = k * COMPONENT;
+        let block = natural_at(self.components, at + 4);
+        let facing = natural_at(self.components, at + 5);
+        let support = natural_at(self.components, at + 6);
+        let conducts = natural_at(self.components, at + 7);
+        select_port(
+            ports_for(block, facing, support, conducts),
+            port_count(block, facing, support, conducts),
+            face,
+            outgoing,
+            kind,
+        )
     }
-    let source = port_at(components, a, face, true, kind)?;
-    let sink = port_at(components, b, opposite_face(face), false, kind)?;
-    Some((source, sink))
-}
 
-// The ports of connection k. `keys` is the table of ids.
-fn link_of(
-    components: &[i64],
-    keys: &[u64],
-    connections: &[i64],
-    k: usize,
-    hints: &[u16; HINTS],
-) -> Option<(usize, usize)>
-    requires components { Components components.now }
-    requires id_table { IdTable components.now keys.now }
-    requires connections { Connections connections.now }
-    requires k_bound { k < connection_count connections.now }
-    ensures { result ≡ link_of components.now (connection connections.now k) }
-{
-    let at = k * CONNECTION;
-    let a = place_near(keys, hints, natural_at(connections, at))?;
-    let b = place_near(keys, hints, natural_at(connections, at + 1))?;
-    ports_between(components, a, b, natural_at(connections, at + 2))
-}
+    // The face of the step from component a to component b.
+    fn step_face(&self, a: usize, b: usize) -> u64
+        requires { (a < component_count self.now.components.now) × (b < component_count self.now.components.now) }
+        ensures { result ≡ step_face (component self.now.components.now a) (component self.now.components.now b) }
+    {
+        let source = a * COMPONENT;
+        let sink = b * COMPONENT;
+        facing_between(
+            self.components[source + 1],
+            self.components[source + 2],
+            self.components[source + 3],
+            self.components[sink + 1],
+            self.components[sink + 2],
+            self.components[sink + 3],
+        )
+    }
 
-// Writes the row of connection k with its ports at place `at` of `out`.
-fn put_row(
-    connections: &[i64],
-    k: usize,
-    source_port: usize,
-    sink_port: usize,
-    out: &mut [i64],
-    at: usize,
-)
-    requires connections { Connections connections.now }
-    requires k_bound { k < connection_count connections.now }
-    requires source_port_lt_port_places { (source_port < port_places) × (sink_port < port_places) }
-    requires port_width_in_bounds { at + port_width ≤ length out.old }
-    ensures { Put (map pos (row_by (connection connections.now k) (Some (source_port, sink_port)))) at out.old out.new }
-{
-    let p = k * CONNECTION;
-    let transfer = transfer_of(natural_at(connections, p + 2));
-    out[at] = connections[p];
-    out[at + 1] = source_port as i64;
-    out[at + 2] = connections[p + 1];
-    out[at + 3] = sink_port as i64;
-    out[at + 4] = transfer as i64;
-}
+    // The ports that a connection from component a to component b takes at its ends.
+    fn ports_between(&self, a: usize, b: usize, kind: u64) -> Option<(usize, usize)>
+        requires { (a < component_count self.now.components.now) × (b < component_count self.now.components.now) }
+        ensures { result ≡ ports_between (component self.now.components.now a) (component self.now.components.now b) kind }
+    {
+        let face = self.step_face(a, b);
+        if face == 0 {
+            return None;
+        }
+        let source = self.port_at(a, face, true, kind)?;
+        let sink = self.port_at(b, opposite_face(face), false, kind)?;
+        Some((source, sink))
+    }
 
-// Writes what is kept of connection k after `count` rows, and answers how many there are then.
-fn keep(
-    components: &[i64],
-    keys: &[u64],
-    connections: &[i64],
-    k: usize,
-    out: &mut [i64],
-    count: usize,
-    hints: &[u16; HINTS],
-) -> usize
-    requires components { Components components.now }
-    requires id_table { IdTable components.now keys.now }
-    requires connections { Connections connections.now }
-    requires k_bound { k < connection_count connections.now }
-    requires port_width_in_bounds { count * port_width + port_width ≤ length out.old }
-    ensures { Filled (map pos (kept_row components.now connections.now k)) count out.old out.new result }
-{
-    let link = link_of(components, keys, connections, k, hints);
-    let Some((source, sink)) = link else {
-        return count;
-    };
-    put_row(connections, k, source, sink, out, count * PORT);
-    count + 1
+    // The ports of connection k.
+    fn link_of(&self, k: usize) -> Option<(usize, usize)>
+        requires { k < connection_count self.now.connections.now }
+        ensures { result ≡ link_of self.now.components.now (connection self.now.connections.now k) }
+    {
+        let at = k * CONNECTION;
+        let source = natural_at(self.connections, at);
+        let sink = natural_at(self.connections, at + 1);
+        let a = place_near(self.keys, self.hints, source)?;
+        let b = place_near(self.keys, self.hints, sink)?;
+        self.ports_between(a, b, natural_at(self.connections, at + 2))
+    }
+
+    // The row of connection k with its ports.
+    fn row(&self, k: usize, ports: (usize, usize)) -> [i64; PORT]
+        requires k_bound { k < connection_count self.now.connections.now }
+        requires port_bounds { (ports.0 < port_places) × (ports.1 < port_places) }
+        ensures { result ≡ map pos (row_by (connection self.now.connections.now k) (Some ports)) }
+    {
+        let (source_port, sink_port) = ports;
+        let at = k * CONNECTION;
+        let transfer = transfer_of(natural_at(self.connections, at + 2));
+        [
+            self.connections[at],
+            source_port as i64,
+            self.connections[at + 1],
+            sink_port as i64,
+            transfer as i64,
+        ]
+    }
+
+    // Writes what is kept of connection k after `count` rows, and answers how many there are then.
+    fn keep(&self, k: usize, out: &mut [i64], count: usize) -> usize
+        requires k_bound { k < connection_count self.now.connections.now }
+        requires port_width_in_bounds { count * port_width + port_width ≤ length out.old }
+        ensures { Filled (map pos (kept_row self.now.components.now self.now.connections.now k)) count out.old out.new result }
+    {
+        let Some(ports) = self.link_of(k) else {
+            return count;
+        };
+        let at = count * PORT;
+        out[at..at + PORT].copy_from_slice(&self.row(k, ports));
+        count + 1
+    }
 }
 
 // Writes all rows that are kept, in order.
@@ -150,18 +138,25 @@ pub fn keep_all(components: &[i64], keys: &[u64], connections: &[i64], out: &mut
 {
     let mut hints = [0u16; HINTS];
     hint_ids(keys, &mut hints);
-    let connection_count = connections.len() / CONNECTION;
+    let scene = Scene {
+        components,
+        connections,
+        keys,
+        hints: &hints,
+    };
     let mut count: usize = 0;
-    let mut k: usize = 0;
-    while k < connection_count {
-        count = keep(components, keys, connections, k, out, count, &hints);
-        k += 1;
+    for k in 0..connections.len() / CONNECTION {
+        count = scene.keep(k, out, count);
     }
     count
 }
 
 // The port connections of a scene, in the order of its grouping connections, as rows at the front of `out`.
-pub fn port_connections(components: &[i64], connections: &[i64], out: &mut [i64]) -> Result<usize, Refusal>
+pub fn port_connections(
+    components: &[i64],
+    connections: &[i64],
+    out: &mut [i64],
+) -> Result<usize, Refusal>
     ensures { Answered components.now connections.now out.old out.new result }
 {
     let enough = room_for(connections.len() / CONNECTION, PORT, out.len());

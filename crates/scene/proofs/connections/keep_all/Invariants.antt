@@ -1,11 +1,7 @@
 -- `scene::connections::keep_all` meets its contract: at connection k the rows kept of those before it are laid.
 -- Assumes nothing.
-use Prim.Native.Nat.{◌-◌}
 use Rattle.scene.proofs.Writes.{Laid}
 use Rattle.scene.proofs.connections.keep_all.Given as goal
 
 abbrev pub invariant-loop-k : goal.invariant-loop-k
 invariant-loop-k l = Laid l.components l.connections l.initial.out l.out l.count l.k
-
-abbrev pub decreases-loop-k : goal.decreases-loop-k
-decreases-loop-k l = l.connection_count - l.k

@@ -1,0 +1,23 @@
+-- `scene::connections::Scene::keep` meets its contract: what is kept of the connection is written after the rows before it, or nothing.
+-- Assumes nothing.
+use mathlib.Core.Path.{sym, ◌∙◌}
+use Prim.Native.Nat.{◌+◌, ◌-◌, ◌*◌}
+use native.Mathlib.Omega.{arith}
+use Rattle.lists.specs.Records.{connection}
+use Rattle.scene.proofs.Links.{linked}
+use Rattle.scene.proofs.Writes.{part_put}
+use Rattle.scene.proofs.connections.Scene.keep.Goals as goal
+
+pub row-requires : goal.row-requires
+row-requires c =
+    let ends = linked c.args.self.now.components.now (connection c.args.self.now.connections.now c.args.k) _ _
+    (sym c.link_of.ensures ∙ c.in-Some.is) in record {
+      k_bound = c.requires.k_bound;
+      port_bounds = (ends.source_port_of, ends.sink_port_of);
+    }
+
+pub returns : goal.returns
+returns c =
+    let place = c.args.count * 5 in
+    rw (sym c.link_of.ensures ∙ c.in-Some.is)
+    (record { put = part_put c.args.out.now place (place + 5 - place) (c.copy_from_slice.ensures.after ∙ c.row.ensures) (omega arith); count = omega arith })
