@@ -6,11 +6,11 @@ use borrow.Author.Rules.{rules}
 use lib.ListN.{length}
 use Rattle.sets.specs.Members.{word_count}
 use Rattle.sets.proofs.Words.{inserted}
-use Rattle.sets.proofs.insert.Goals as goal
+use Rattle.sets.proofs.ComponentSet.insert.Goals as goal
 
 pub returns : goal.returns
 returns c =
-    let ws = c.args.s.words in
+    let ws = c.args.self.words in
     let k = c.args.k in
     let len : length ws ≡ word_count = search rules in
     inserted ws (k / 64) (k % 64) k (omega arith) (omega arith) (omega arith)
