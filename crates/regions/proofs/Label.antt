@@ -8,7 +8,7 @@ use Prim.Native.Nat.{ℕ, zero, suc, ◌+◌, ◌-◌, ◌≤◌, ◌<◌}
 use native.Mathlib.Numerals.{add-one}
 use native.Mathlib.Omega.{arith}
 use lib.ListN.{length, get_or, set, take, drop, replicate, length-replicate, drop_of_length-le}
-use lib.Seq.{take-suc, get_or-take, length-take-le}
+use lib.Seq.{take-suc, get_or-take}
 use Rattle.regions.specs.Graph.{at, each, Edges, Within, flip, next}
 use Rattle.regions.specs.Kosaraju as Kosaraju
 use Rattle.regions.specs.Kosaraju.{Walk, visit, mark, push, paint, Labels, new_region, label, unlabelled}
@@ -33,9 +33,6 @@ module _ (r : ℕ) (members l : List ℕ) where
   paint_more i h =
       sym (ap (λ m. paint r m l) (ap (λ (k : ℕ). take k members) (add-one i) ∙ take-suc members i 0 h)
       ∙ each_append (λ x m. set m x r) (take i members) (get_or members i 0 ∷ []) l)
-
-  pub paint_all : {i size : ℕ} → i ≤ size → size ≤ i → paint r (take i members) l ≡ paint r (take size members) l
-  paint_all {i} {size} le ge = let e : i ≡ size = omega arith in ap (λ (k : ℕ). paint r (take k members) l) e
 
 -- ---- a walk adds nodes below n to the order
 
@@ -67,6 +64,12 @@ fresh_le (false ∷ l) = let h = fresh_le l in omega (arith, h)
 pub fresh_room : {n : ℕ} {keys : List ℕ} {visited : List Bool} {order stack : List ℕ} → Room n keys visited order stack → fresh visited ≤ n
 fresh_room {visited = visited} r = let f = fresh_le visited in omega arith
 
+-- and no more are added
+pub members_few : {n : ℕ} {edge : Edges} {x : ℕ} {keys : List ℕ} {visited₀ visited : List Bool} {members₀ members stack₀ stack : List ℕ} {size : ℕ}
+    → Room n keys visited₀ members₀ stack₀ → Searched n edge x visited₀ members₀ 0 visited members size stack → length members ≡ length members₀
+    → size ≤ length members
+members_few r s long = let f = fresh_room r in let room = r.order_room in let a = s.adds in omega arith
+
 module _ (n : ℕ) (edge : Edges) (x : ℕ) (s : Labels) where
   label_old : get_or s.visited x false ≡ true → label n edge x s ≡ s
   unfolding label
@@ -84,11 +87,10 @@ labelled_old n edge x visited region_of count stack z old = record { labels = sy
 module _ {n : ℕ} {edge : Edges} {x : ℕ} {visited₀ visited : List Bool} {members₀ members stack : List ℕ} {size : ℕ}
     (lt : x < n) (s : Searched n edge x visited₀ members₀ 0 visited members size stack) where
   -- the members are nodes
-  pub members_low : size ≤ length members → (i : ℕ) → i < size → get_or members i 0 < n
-  members_low le i h =
-      visit_low n edge n x (walk_of visited₀ members₀ 0) lt (λ y m. absurd m) (get_or members i 0)
-      (subst (λ w. get_or members i 0 ∈ w.order) s.visits
-      (subst (λ (y : ℕ). y ∈ take size members) (get_or-take size members i 0 h) (get_or-∈ (take size members) i 0 (let e = length-take-le size members le in omega arith))))
+  pub members_low : (i : ℕ) → i < length (take size members) → get_or (take size members) i 0 < n
+  members_low i h =
+      visit_low n edge n x (walk_of visited₀ members₀ 0) lt (λ y m. absurd m) (get_or (take size members) i 0)
+      (subst (λ w. get_or (take size members) i 0 ∈ w.order) s.visits (get_or-∈ (take size members) i 0 h))
 
   pub labelled_new : (region_of : List ℕ) (count : ℕ) → get_or visited₀ x false ≡ false
       → Labelled n (flip edge) x visited₀ region_of count visited (paint count (take size members) region_of) (count + 1) stack

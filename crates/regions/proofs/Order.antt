@@ -7,7 +7,7 @@ use Prim.Native.Nat.{ℕ, zero, suc, ◌+◌, ◌-◌, ◌≤◌}
 use native.Mathlib.Nat.{zero-add}
 use native.Mathlib.Numerals.{add-one}
 use native.Mathlib.Omega.{arith}
-use lib.ListN.{length, take, drop, replicate}
+use lib.ListN.{length, take, drop, replicate, length-replicate}
 use lib.Seq.{length-take-le, drop-drop}
 use Rattle.tables.specs.Order.{Ascending}
 use Rattle.regions.specs.Graph.{marked, range, filter, each}
@@ -74,15 +74,16 @@ pub record Walked (n : ℕ) (keys order₀ : List ℕ) (visited : List Bool) (or
   pub adds : count + fresh visited ≡ n
   pub room : Room n keys visited order stack
 
-module _ {n : ℕ} (keys : List ℕ) {order₀ stack : List ℕ} {visited : List Bool} (e : visited ≡ replicate n false) (r : Room n keys visited order₀ stack) where
+module _ {n : ℕ} {keys order₀ stack : List ℕ} {visited₀ visited : List Bool} (r : Room n keys visited₀ order₀ stack) (cleared : visited ≡ replicate (length visited₀) false) where
   begin : Walked n keys order₀ visited order₀ 0 stack []
   unfolding each
   begin =
+      let e : visited ≡ replicate n false = cleared ∙ ap (λ (k : ℕ). replicate k false) r.visited_length in
       record {
         walks = ap (λ v. walk_of v order₀ 0) e;
         rest = refl;
         adds = let f = ap fresh e in let g = fresh_none n in omega arith;
-        room = r;
+        room = room_kept r r.keys_rise (ap length cleared ∙ length-replicate (length visited₀) false) r.order_room refl r.stack_zeros;
       }
 
   pub order_begin : Walked n keys order₀ visited order₀ 0 stack (range zero 0)

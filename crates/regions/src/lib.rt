@@ -22,22 +22,14 @@ pub const HINTED: usize = (1 << 10) + 1;
 pub fn clear_flags(flags: &mut [bool])
     ensures { flags.new ≡ replicate (length flags.old) false }
 {
-    let mut i = 0;
-    while i < flags.len() {
-        flags[i] = false;
-        i += 1;
-    }
+    flags.fill(false);
 }
 
 // Sets every number to 0.
 pub fn clear(numbers: &mut [usize])
     ensures { numbers.new ≡ replicate (length numbers.old) 0 }
 {
-    let mut i = 0;
-    while i < numbers.len() {
-        numbers[i] = 0;
-        i += 1;
-    }
+    numbers.fill(0);
 }
 
 // Marks the node and puts its call on the stack: the node, and the place of its first key.
@@ -150,24 +142,20 @@ fn finish_order(
 {
     clear_flags(visited);
     let mut count = 0;
-    let mut start = 0;
-    while start < n {
+    for start in 0..n {
         if !visited[start] {
             count = visit_from(keys, n, start, visited, order, count, stack, rows);
         }
-        start += 1;
     }
 }
 
-// Stores r at each of the first `size` members.
-fn paint(labels: &mut [usize], members: &[usize], size: usize, r: usize)
-    requires { (size ≤ length members.now) × ((i : ℕ) → i < size → get_or members.now i 0 < length labels.old) }
-    ensures { labels.new ≡ Kosaraju.paint r (take size members.now) labels.old }
+// Stores r at each of the members.
+fn paint(labels: &mut [usize], members: &[usize], r: usize)
+    requires { (i : ℕ) → i < length members.now → get_or members.now i 0 < length labels.old }
+    ensures { labels.new ≡ Kosaraju.paint r members.now labels.old }
 {
-    let mut i = 0;
-    while i < size {
-        labels[members[i]] = r;
-        i += 1;
+    for member in members {
+        labels[*member] = r;
     }
 }
 
@@ -192,7 +180,7 @@ fn label_from(
         return count;
     }
     let size = visit_from(backward, n, node, visited, members, 0, stack, rows);
-    paint(labels, members, size, count);
+    paint(labels, &members[..size], count);
     count + 1
 }
 
@@ -262,11 +250,9 @@ pub fn reach_from(
     let mut rows = [0usize; HINTED];
     hint_rows(keys, SECOND_BITS, &mut rows);
     let mut count = 0;
-    let mut start = 0;
-    while start < n {
+    for start in 0..n {
         if starts[start] {
             count = visit_from(keys, n, start, visited, order, count, stack, &rows);
         }
-        start += 1;
     }
 }

@@ -1,15 +1,9 @@
 -- `regions::finish_order` meets its contract. The loop's invariant: the arrays hold what the first walk has after the nodes before `start`.
 -- Assumes nothing.
-use Prim.Native.Nat.{zero, ◌≤◌, ◌-◌}
-use mathlib.Core.Path.{◌≡◌}
-use lib.ListN.{length}
+use Prim.Native.Nat.{zero}
 use Rattle.regions.specs.Graph.{range}
 use Rattle.regions.proofs.Order.{Walked}
 use Rattle.regions.proofs.finish_order.Given as goal
 
 abbrev pub invariant-loop-start : goal.invariant-loop-start
-invariant-loop-start l =
-    (l.start ≤ l.n) × (length l.order ≡ length l.initial.order) × (length l.stack ≡ length l.initial.stack) × Walked l.n l.keys l.initial.order l.visited l.order l.count l.stack (range zero l.start)
-
-abbrev pub decreases-loop-start : goal.decreases-loop-start
-decreases-loop-start l = l.n - l.start
+invariant-loop-start l = Walked l.n l.keys l.initial.order l.visited l.order l.count l.stack (range zero l.start)

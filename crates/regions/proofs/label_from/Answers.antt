@@ -1,8 +1,8 @@
 -- `regions::label_from` meets its contract: the order of the search is the members of the new region. Assumes nothing.
-use Prim.Native.Nat.{◌≤◌}
+use mathlib.Core.Path.{sym}
 use native.Mathlib.Omega.{arith}
-use lib.ListN.{length}
-use Rattle.regions.proofs.Label.{fresh_room, labelled_old, members_low, labelled_new}
+use lib.Seq.{length-take-le}
+use Rattle.regions.proofs.Label.{fresh_room, labelled_old, members_few, members_low, labelled_new}
 use Rattle.regions.proofs.label_from.Goals as goal
 
 pub returns-then-visited-node : goal.returns-then-visited-node
@@ -14,16 +14,14 @@ visit_from-size-requires c =
     let few = fresh_room room in
     (lt, omega arith, room)
 
+pub slice_bounds-paint-end : goal.slice_bounds-paint-end
+slice_bounds-paint-end c = members_few c.requires.3 c.visit_from-size.ensures c.visit_from-size.auto.order
+
+pub slice_bounds-paint-end-2 : goal.slice_bounds-paint-end-2
+slice_bounds-paint-end-2 c = sym (length-take-le _ _ (members_few c.requires.3 c.visit_from-size.ensures c.visit_from-size.auto.order))
+
 pub paint-requires : goal.paint-requires
-paint-requires c =
-    let (lt, count_lt, labels_length, room) = c.requires in
-    let call = c.visit_from-size in
-    let few = fresh_room room in
-    let le : call.result ≤ length call.new.order = omega (arith, call.ensures.adds, call.auto.order) in
-    (le, λ i h. let low = members_low lt call.ensures le i h in omega arith)
+paint-requires c = λ i h. let low = members_low c.requires.0 c.visit_from-size.ensures i h in let long = c.requires.2 in omega arith
 
 pub returns : goal.returns
-returns c =
-    let (lt, count_lt, labels_length, room) = c.requires in
-    let call = c.visit_from-size in
-    rw c.paint.ensures (labelled_new lt call.ensures _ _ c.if-visited-node.false)
+returns c = rw c.paint.ensures (labelled_new c.requires.0 c.visit_from-size.ensures _ _ c.if-visited-node.false)
