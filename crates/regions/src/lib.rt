@@ -4,13 +4,13 @@
 
 pub mod carry;
 
-ghost use Rattle.std.specs.Prelude.{◌≡◌, false, ℕ, ◌+◌, ◌*◌, ◌<◌, ◌≤◌, length, get_or, take, replicate};
+ghost use Rattle.std.specs.Prelude.{◌≡◌, false, ℕ, ◌+◌, ◌*◌, ◌<◌, ◌≤◌, length, get_or, take, replicate, MatchOption};
 ghost use Rattle.tables.specs.Order.{Ascending};
 ghost use Rattle.tables.specs.Pairs.{span};
 ghost use Rattle.regions.specs.Graph.{flip};
 ghost use Rattle.regions.specs.Kosaraju as Kosaraju;
 ghost use Rattle.regions.specs.Keys.{edges, Reversed};
-ghost use Rattle.regions.specs.Search.{fresh, Room, Entered, Skipped, Searched, Ordered, Labelled, Regions, Reached};
+ghost use Rattle.regions.specs.Search.{fresh, Room, Entered, Found, Spent, Searched, Ordered, Labelled, Regions, Reached};
 
 use tables::SECOND_BITS;
 use tables::rows::{hint_rows, lower_bound_in};
@@ -49,7 +49,7 @@ fn enter(
     stack[at + 1] = lower_bound_in(keys, node as u64 * tables::SPAN, rows, node);
 }
 
-// A neighbour, and the place of its key; or n, and a place from which on the node has no keys.
+// A neighbour, and the place of its key.
 #[derive(Clone, Copy)]
 struct Neighbour {
     place: usize,
@@ -57,40 +57,29 @@ struct Neighbour {
 }
 
 // The first neighbour of `node` from the place on that is not visited.
-fn skip_visited(keys: &[u64], n: usize, node: usize, from: usize, visited: &[bool]) -> Neighbour
-    requires { (n ≤ span) × (node < n) × (length visited.now ≡ n)
+fn next_unvisited(keys: &[u64], node: usize, from: usize, visited: &[bool]) -> Option<Neighbour>
+    requires { let n = length visited.now in (n ≤ span) × (node < n)
         × ((i : ℕ) → from ≤ i → i < length keys.now → node * span ≤ get_or keys.now i 0) }
-    ensures { Skipped n keys.now visited.now node from result.place result.node }
+    ensures { let n = length visited.now in MatchOption result (Spent n keys.now visited.now node from)
+        (λ next. Found n keys.now visited.now node from next.place next.node) }
 {
     let base = node as u64 * tables::SPAN;
-    let mut place = from;
-    while place < keys.len() {
+    for place in from..keys.len() {
         let k = (keys[place] - base) as usize;
-        if n <= k {
-            return Neighbour {
-                place: place,
-                node: n,
-            };
+        if visited.len() <= k {
+            return None;
         }
         if !visited[k] {
-            return Neighbour {
-                place: place,
-                node: k,
-            };
+            return Some(Neighbour { place, node: k });
         }
-        place += 1;
     }
-    Neighbour {
-        place: place,
-        node: n,
-    }
+    None
 }
 
 // Visits the nodes that `start` reaches over nodes that are not visited, and adds them to the order as they finish.
 // Answers the new length of the order. The stack holds, for each open call, its node and the place of the key to look at next.
 fn visit_from(
     keys: &[u64],
-    n: usize,
     start: usize,
     visited: &mut [bool],
     order: &mut [usize],
@@ -98,9 +87,10 @@ fn visit_from(
     stack: &mut [usize],
     rows: &[usize; HINTED],
 ) -> usize
-    requires { (start < n) × (count + fresh visited.old ≤ n) × Room n keys.now visited.old order.old stack.old }
-    ensures { Searched n (edges n keys.now) start visited.old order.old count
-        visited.new order.new result stack.new }
+    requires { let n = length visited.old in
+        (start < n) × (count + fresh visited.old ≤ n) × Room n keys.now visited.old order.old stack.old }
+    ensures { let n = length visited.old in
+        Searched n (edges n keys.now) start visited.old order.old count visited.new order.new result stack.new }
 {
     if visited[start] {
         return count;
@@ -108,21 +98,23 @@ fn visit_from(
     enter(keys, start, visited, stack, 0, rows);
     let mut depth = 1;
     let mut done = count;
+    // By hand: the stack grows and shrinks as the walk goes, no range says how.
     while 0 < depth {
         let at = 2 * (depth - 1);
         let node = stack[at];
-        let found = skip_visited(keys, n, node, stack[at + 1], visited);
-        let k = found.node;
-        if k == n {
-            order[done] = node;
-            done += 1;
-            stack[at] = 0;
-            stack[at + 1] = 0;
-            depth -= 1;
-        } else {
-            stack[at + 1] = found.place + 1;
-            enter(keys, k, visited, stack, at + 2, rows);
-            depth += 1;
+        match next_unvisited(keys, node, stack[at + 1], visited) {
+            None => {
+                order[done] = node;
+                done += 1;
+                stack[at] = 0;
+                stack[at + 1] = 0;
+                depth -= 1;
+            }
+            Some(next) => {
+                stack[at + 1] = next.place + 1;
+                enter(keys, next.node, visited, stack, at + 2, rows);
+                depth += 1;
+            }
         }
     }
     done
@@ -131,20 +123,19 @@ fn visit_from(
 // The walk forward: the nodes, in the order in which they finish. The rows are hints.
 fn finish_order(
     keys: &[u64],
-    n: usize,
     visited: &mut [bool],
     order: &mut [usize],
     stack: &mut [usize],
     rows: &[usize; HINTED],
 )
-    requires { Room n keys.now visited.old order.old stack.old }
-    ensures { Ordered n (edges n keys.now) order.old order.new stack.new }
+    requires { Room (length visited.old) keys.now visited.old order.old stack.old }
+    ensures { let n = length visited.old in Ordered n (edges n keys.now) order.old order.new stack.new }
 {
-    clear_flags(visited);
+    visited.fill(false);
     let mut count = 0;
-    for start in 0..n {
+    for start in 0..visited.len() {
         if !visited[start] {
-            count = visit_from(keys, n, start, visited, order, count, stack, rows);
+            count = visit_from(keys, start, visited, order, count, stack, rows);
         }
     }
 }
@@ -163,7 +154,6 @@ fn paint(labels: &mut [usize], members: &[usize], r: usize)
 // Answers the new number of regions.
 fn label_from(
     backward: &[u64],
-    n: usize,
     node: usize,
     visited: &mut [bool],
     labels: &mut [usize],
@@ -172,14 +162,15 @@ fn label_from(
     stack: &mut [usize],
     rows: &[usize; HINTED],
 ) -> usize
-    requires { (node < n) × (count < n) × (length labels.old ≡ n) × Room n backward.now visited.old members.old stack.old }
-    ensures { Labelled n (flip (edges n backward.now)) node visited.old labels.old count
-        visited.new labels.new result stack.new }
+    requires { let n = length visited.old in
+        (node < n) × (count < n) × (length labels.old ≡ n) × Room n backward.now visited.old members.old stack.old }
+    ensures { let n = length visited.old in
+        Labelled n (flip (edges n backward.now)) node visited.old labels.old count visited.new labels.new result stack.new }
 {
     if visited[node] {
         return count;
     }
-    let size = visit_from(backward, n, node, visited, members, 0, stack, rows);
+    let size = visit_from(backward, node, visited, members, 0, stack, rows);
     paint(labels, &members[..size], count);
     count + 1
 }
@@ -187,7 +178,6 @@ fn label_from(
 // The walk back: the regions of the nodes of the order, last finished first. The rows are hints.
 fn label_all(
     backward: &[u64],
-    n: usize,
     order: &[usize],
     visited: &mut [bool],
     labels: &mut [usize],
@@ -195,18 +185,16 @@ fn label_all(
     stack: &mut [usize],
     rows: &[usize; HINTED],
 ) -> usize
-    requires { (n ≤ length order.now) × (take n order.now ≡ Kosaraju.order n (flip (edges n backward.now)))
+    requires { let n = length visited.old in (order.now ≡ Kosaraju.order n (flip (edges n backward.now)))
         × (length labels.old ≡ n) × Room n backward.now visited.old members.old stack.old }
-    ensures { Regions n (flip (edges n backward.now)) labels.new result stack.new }
+    ensures { let n = length visited.old in Regions n (flip (edges n backward.now)) labels.new result stack.new }
 {
-    clear_flags(visited);
-    clear(labels);
+    visited.fill(false);
+    labels.fill(0);
     let mut count = 0;
-    let mut i = n;
-    while 0 < i {
-        i -= 1;
+    for node in order.iter().rev() {
         count = label_from(
-            backward, n, order[i], visited, labels, count, members, stack, rows,
+            backward, *node, visited, labels, count, members, stack, rows,
         );
     }
     count
@@ -217,7 +205,6 @@ fn label_all(
 pub fn regions(
     forward: &[u64],
     backward: &[u64],
-    n: usize,
     labels: &mut [usize],
     visited: &mut [bool],
     order: &mut [usize],
@@ -226,33 +213,33 @@ pub fn regions(
     rows: &[usize; HINTED],
     turned: &[usize; HINTED],
 ) -> usize
-    requires { Reversed n forward.now backward.now × Ascending backward.now × (length labels.old ≡ n) × (n ≤ length members.old)
+    requires { let n = length labels.old in Reversed n forward.now backward.now × Ascending backward.now × (n ≤ length members.old)
         × Room n forward.now visited.old order.old stack.old }
-    ensures { Regions n (edges n forward.now) labels.new result stack.new }
+    ensures { let n = length labels.old in Regions n (edges n forward.now) labels.new result stack.new }
 {
-    finish_order(forward, n, visited, order, stack, rows);
-    label_all(backward, n, order, visited, labels, members, stack, turned)
+    finish_order(forward, visited, order, stack, rows);
+    let finished = &order[..labels.len()];
+    label_all(backward, finished, visited, labels, members, stack, turned)
 }
 
 // Marks in `visited` what the marked starts reach, the starts among it. The order is scratch.
 pub fn reach_from(
     keys: &[u64],
-    n: usize,
     starts: &[bool],
     visited: &mut [bool],
     order: &mut [usize],
     stack: &mut [usize],
 )
-    requires { (length starts.now ≡ n) × Room n keys.now visited.old order.old stack.old }
-    ensures { Reached n (edges n keys.now) starts.now visited.new stack.new }
+    requires { Room (length starts.now) keys.now visited.old order.old stack.old }
+    ensures { let n = length starts.now in Reached n (edges n keys.now) starts.now visited.new stack.new }
 {
-    clear_flags(visited);
+    visited.fill(false);
     let mut rows = [0usize; HINTED];
     hint_rows(keys, SECOND_BITS, &mut rows);
     let mut count = 0;
-    for start in 0..n {
-        if starts[start] {
-            count = visit_from(keys, n, start, visited, order, count, stack, &rows);
+    for (start, is_start) in starts.iter().enumerate() {
+        if *is_start {
+            count = visit_from(keys, start, visited, order, count, stack, &rows);
         }
     }
 }

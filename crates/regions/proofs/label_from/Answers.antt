@@ -9,10 +9,7 @@ pub returns-then-visited-node : goal.returns-then-visited-node
 returns-then-visited-node c = labelled_old _ _ _ _ _ _ _ c.requires.3.stack_zeros c.if-visited-node.true
 
 pub visit_from-size-requires : goal.visit_from-size-requires
-visit_from-size-requires c =
-    let (lt, count_lt, labels_length, room) = c.requires in
-    let few = fresh_room room in
-    (lt, omega arith, room)
+visit_from-size-requires c = let few = fresh_room c.requires.3 in (c.requires.0, omega arith, c.requires.3)
 
 pub slice_bounds-paint-end : goal.slice_bounds-paint-end
 slice_bounds-paint-end c = members_few c.requires.3 c.visit_from-size.ensures c.visit_from-size.auto.order

@@ -10,7 +10,7 @@ use Rattle.regions.proofs.visit_from.Given as goal
 
 abbrev pub invariant-loop-depth : goal.invariant-loop-depth
 invariant-loop-depth l =
-    Open l.n l.keys (finish l.n l.keys (l.n - l.initial.depth) (frames l.initial.depth l.initial.stack) (walk_of l.initial.visited l.initial.order l.initial.done))
+    Open (length l.fn.visited) l.keys (finish (length l.fn.visited) l.keys (length l.fn.visited - l.initial.depth) (frames l.initial.depth l.initial.stack) (walk_of l.initial.visited l.initial.order l.initial.done))
     (l.initial.depth + (l.initial.done + fresh l.initial.visited)) l.initial.done l.initial.order l.initial.stack l.visited l.order l.done l.stack l.depth
 
 abbrev pub decreases-loop-depth : goal.decreases-loop-depth
