@@ -5,7 +5,7 @@
 pub mod carry;
 
 ghost use Rattle.std.specs.Prelude.{◌≡◌, false, ℕ, ◌+◌, ◌*◌, ◌<◌, ◌≤◌, length, get_or, take, replicate, MatchOption};
-ghost use Rattle.tables.specs.Order.{Ascending};
+ghost use Rattle.tables.specs.Order.{Ascending, LowerBound};
 ghost use Rattle.tables.specs.Pairs.{span};
 ghost use Rattle.regions.specs.Graph.{flip};
 ghost use Rattle.regions.specs.Kosaraju as Kosaraju;
@@ -32,21 +32,12 @@ pub fn clear(numbers: &mut [usize])
     numbers.fill(0);
 }
 
-// Marks the node and puts its call on the stack: the node, and the place of its first key.
-fn enter(
-    keys: &[u64],
-    node: usize,
-    visited: &mut [bool],
-    stack: &mut [usize],
-    at: usize,
-    rows: &[usize; HINTED],
-)
-    requires { (node < span) × (node < length visited.old) × (at + 1 < length stack.old) }
-    ensures { Entered keys.now node at visited.old stack.old visited.new stack.new }
-{
-    visited[node] = true;
-    stack[at] = node;
-    stack[at + 1] = lower_bound_in(keys, node as u64 * tables::SPAN, rows, node);
+// A graph: its edges as a table of keys, and hints of where the rows of the table end. The arrays that a walk writes are no fields: each
+// method would owe that its struct still holds the same references.
+#[derive(Clone, Copy)]
+struct Graph<'a> {
+    keys: &'a [u64],
+    rows: &'a [usize; HINTED],
 }
 
 // A neighbour, and the place of its key.
@@ -56,87 +47,148 @@ struct Neighbour {
     node: usize,
 }
 
-// The first neighbour of `node` from the place on that is not visited.
-fn next_unvisited(keys: &[u64], node: usize, from: usize, visited: &[bool]) -> Option<Neighbour>
-    requires { let n = length visited.now in (n ≤ span) × (node < n)
-        × ((i : ℕ) → from ≤ i → i < length keys.now → node * span ≤ get_or keys.now i 0) }
-    ensures { let n = length visited.now in MatchOption result (Spent n keys.now visited.now node from)
-        (λ next. Found n keys.now visited.now node from next.place next.node) }
-{
-    let base = node as u64 * tables::SPAN;
-    for place in from..keys.len() {
-        let k = (keys[place] - base) as usize;
-        if visited.len() <= k {
-            return None;
-        }
-        if !visited[k] {
-            return Some(Neighbour { place, node: k });
-        }
+impl Graph<'_> {
+    // The place of the first key of the node.
+    fn first_key(self, node: usize) -> usize
+        requires { node < span }
+        ensures { LowerBound self.entry.keys.now (node * span) result }
+    {
+        let Graph { keys, rows } = self;
+        lower_bound_in(keys, node as u64 * tables::SPAN, rows, node)
     }
-    None
-}
 
-// Visits the nodes that `start` reaches over nodes that are not visited, and adds them to the order as they finish.
-// Answers the new length of the order. The stack holds, for each open call, its node and the place of the key to look at next.
-fn visit_from(
-    keys: &[u64],
-    start: usize,
-    visited: &mut [bool],
-    order: &mut [usize],
-    count: usize,
-    stack: &mut [usize],
-    rows: &[usize; HINTED],
-) -> usize
-    requires { let n = length visited.old in
-        (start < n) × (count + fresh visited.old ≤ n) × Room n keys.now visited.old order.old stack.old }
-    ensures { let n = length visited.old in
-        Searched n (edges n keys.now) start visited.old order.old count visited.new order.new result stack.new }
-{
-    if visited[start] {
-        return count;
-    }
-    enter(keys, start, visited, stack, 0, rows);
-    let mut depth = 1;
-    let mut done = count;
-    // By hand: the stack grows and shrinks as the walk goes, no range says how.
-    while 0 < depth {
-        let at = 2 * (depth - 1);
-        let node = stack[at];
-        match next_unvisited(keys, node, stack[at + 1], visited) {
-            None => {
-                order[done] = node;
-                done += 1;
-                stack[at] = 0;
-                stack[at + 1] = 0;
-                depth -= 1;
+    // The first neighbour of `node` from the place on that is not visited.
+    fn next_unvisited(self, node: usize, from: usize, visited: &[bool]) -> Option<Neighbour>
+        requires { let n = length visited.now in (n ≤ span) × (node < n)
+            × ((i : ℕ) → from ≤ i → i < length self.keys.now → node * span ≤ get_or self.keys.now i 0) }
+        ensures { let n = length visited.now in MatchOption result (Spent n self.entry.keys.now visited.now node from)
+            (λ next. Found n self.entry.keys.now visited.now node from next.place next.node) }
+    {
+        let keys = self.keys;
+        let base = node as u64 * tables::SPAN;
+        for place in from..keys.len() {
+            let k = (keys[place] - base) as usize;
+            if visited.len() <= k {
+                return None;
             }
-            Some(next) => {
-                stack[at + 1] = next.place + 1;
-                enter(keys, next.node, visited, stack, at + 2, rows);
-                depth += 1;
+            if !visited[k] {
+                return Some(Neighbour { place, node: k });
             }
         }
+        None
     }
-    done
-}
 
-// The walk forward: the nodes, in the order in which they finish. The rows are hints.
-fn finish_order(
-    keys: &[u64],
-    visited: &mut [bool],
-    order: &mut [usize],
-    stack: &mut [usize],
-    rows: &[usize; HINTED],
-)
-    requires { Room (length visited.old) keys.now visited.old order.old stack.old }
-    ensures { let n = length visited.old in Ordered n (edges n keys.now) order.old order.new stack.new }
-{
-    visited.fill(false);
-    let mut count = 0;
-    for start in 0..visited.len() {
-        if !visited[start] {
-            count = visit_from(keys, start, visited, order, count, stack, rows);
+    // Marks the node and puts its call on the stack: the node, and the place of its first key.
+    fn enter(self, node: usize, visited: &mut [bool], stack: &mut [usize], at: usize)
+        requires { (node < span) × (node < length visited.old) × (at + 1 < length stack.old) }
+        ensures { Entered self.entry.keys.now node at visited.old stack.old visited.new stack.new }
+    {
+        visited[node] = true;
+        stack[at] = node;
+        stack[at + 1] = self.first_key(node);
+    }
+
+    // Visits the nodes that `start` reaches over nodes that are not visited, and adds them to the order as they finish.
+    // Answers the new length of the order. The stack holds, for each open call, its node and the place of the key to look at next.
+    fn visit_from(
+        self,
+        start: usize,
+        visited: &mut [bool],
+        order: &mut [usize],
+        count: usize,
+        stack: &mut [usize],
+    ) -> usize
+        requires { let n = length visited.old in
+            (start < n) × (count + fresh visited.old ≤ n) × Room n self.keys.now visited.old order.old stack.old }
+        ensures { let n = length visited.old in
+            Searched n (edges n self.entry.keys.now) start visited.old order.old count visited.new order.new result stack.new }
+    {
+        if visited[start] {
+            return count;
         }
+        self.enter(start, visited, stack, 0);
+        let mut depth = 1;
+        let mut done = count;
+        // By hand: the stack grows and shrinks as the walk goes, no range says how.
+        while 0 < depth {
+            let at = 2 * (depth - 1);
+            let node = stack[at];
+            match self.next_unvisited(node, stack[at + 1], visited) {
+                None => {
+                    order[done] = node;
+                    done += 1;
+                    stack[at] = 0;
+                    stack[at + 1] = 0;
+                    depth -= 1;
+                }
+                Some(next) => {
+                    stack[at + 1] = next.place + 1;
+                    self.enter(next.node, visited, stack, at + 2);
+                    depth += 1;
+                }
+            }
+        }
+        done
+    }
+
+    // The walk forward: the nodes, in the order in which they finish.
+    fn finish_order(self, visited: &mut [bool], order: &mut [usize], stack: &mut [usize])
+        requires { Room (length visited.old) self.keys.now visited.old order.old stack.old }
+        ensures { let n = length visited.old in Ordered n (edges n self.entry.keys.now) order.old order.new stack.new }
+    {
+        visited.fill(false);
+        let mut count = 0;
+        for start in 0..visited.len() {
+            if !visited[start] {
+                count = self.visit_from(start, visited, order, count, stack);
+            }
+        }
+    }
+
+    // The region of `node`, if it has none yet: the nodes without a region that reach it get the number `count`.
+    // Answers the new number of regions.
+    fn label_from(
+        self,
+        node: usize,
+        visited: &mut [bool],
+        labels: &mut [usize],
+        count: usize,
+        members: &mut [usize],
+        stack: &mut [usize],
+    ) -> usize
+        requires { let n = length visited.old in
+            (node < n) × (count < n) × (length labels.old ≡ n) × Room n self.keys.now visited.old members.old stack.old }
+        ensures { let n = length visited.old in
+            Labelled n (flip (edges n self.entry.keys.now)) node visited.old labels.old count visited.new labels.new result stack.new }
+    {
+        if visited[node] {
+            return count;
+        }
+        let size = self.visit_from(node, visited, members, 0, stack);
+        paint(labels, &members[..size], count);
+        count + 1
+    }
+
+    // The walk back: the regions of the nodes of the order, last finished first.
+    fn label_all(
+        self,
+        order: &[usize],
+        visited: &mut [bool],
+        labels: &mut [usize],
+        members: &mut [usize],
+        stack: &mut [usize],
+    ) -> usize
+        requires { let n = length visited.old in (order.now ≡ Kosaraju.order n (flip (edges n self.keys.now)))
+            × (length labels.old ≡ n) × Room n self.keys.now visited.old members.old stack.old }
+        ensures { let n = length visited.old in Regions n (flip (edges n self.entry.keys.now)) labels.new result stack.new }
+    {
+        visited.fill(false);
+        labels.fill(0);
+        let mut count = 0;
+        for node in order.iter().rev() {
+            count = self.label_from(*node, visited, labels, count, members, stack);
+        }
+        count
     }
 }
 
@@ -148,56 +200,6 @@ fn paint(labels: &mut [usize], members: &[usize], r: usize)
     for member in members {
         labels[*member] = r;
     }
-}
-
-// The region of `node`, if it has none yet: the nodes without a region that reach it get the number `count`.
-// Answers the new number of regions.
-fn label_from(
-    backward: &[u64],
-    node: usize,
-    visited: &mut [bool],
-    labels: &mut [usize],
-    count: usize,
-    members: &mut [usize],
-    stack: &mut [usize],
-    rows: &[usize; HINTED],
-) -> usize
-    requires { let n = length visited.old in
-        (node < n) × (count < n) × (length labels.old ≡ n) × Room n backward.now visited.old members.old stack.old }
-    ensures { let n = length visited.old in
-        Labelled n (flip (edges n backward.now)) node visited.old labels.old count visited.new labels.new result stack.new }
-{
-    if visited[node] {
-        return count;
-    }
-    let size = visit_from(backward, node, visited, members, 0, stack, rows);
-    paint(labels, &members[..size], count);
-    count + 1
-}
-
-// The walk back: the regions of the nodes of the order, last finished first. The rows are hints.
-fn label_all(
-    backward: &[u64],
-    order: &[usize],
-    visited: &mut [bool],
-    labels: &mut [usize],
-    members: &mut [usize],
-    stack: &mut [usize],
-    rows: &[usize; HINTED],
-) -> usize
-    requires { let n = length visited.old in (order.now ≡ Kosaraju.order n (flip (edges n backward.now)))
-        × (length labels.old ≡ n) × Room n backward.now visited.old members.old stack.old }
-    ensures { let n = length visited.old in Regions n (flip (edges n backward.now)) labels.new result stack.new }
-{
-    visited.fill(false);
-    labels.fill(0);
-    let mut count = 0;
-    for node in order.iter().rev() {
-        count = label_from(
-            backward, *node, visited, labels, count, members, stack, rows,
-        );
-    }
-    count
 }
 
 // The number of regions; `labels` gets the number of each node's. The two tables hold the edges and the edges turned
@@ -217,9 +219,17 @@ pub fn regions(
         × Room n forward.now visited.old order.old stack.old }
     ensures { let n = length labels.old in Regions n (edges n forward.now) labels.new result stack.new }
 {
-    finish_order(forward, visited, order, stack, rows);
+    let onward = Graph {
+        keys: forward,
+        rows,
+    };
+    onward.finish_order(visited, order, stack);
     let finished = &order[..labels.len()];
-    label_all(backward, finished, visited, labels, members, stack, turned)
+    let back = Graph {
+        keys: backward,
+        rows: turned,
+    };
+    back.label_all(finished, visited, labels, members, stack)
 }
 
 // Marks in `visited` what the marked starts reach, the starts among it. The order is scratch.
@@ -236,10 +246,11 @@ pub fn reach_from(
     visited.fill(false);
     let mut rows = [0usize; HINTED];
     hint_rows(keys, SECOND_BITS, &mut rows);
+    let graph = Graph { keys, rows: &rows };
     let mut count = 0;
     for (start, is_start) in starts.iter().enumerate() {
         if *is_start {
-            count = visit_from(keys, start, visited, order, count, stack, &rows);
+            count = graph.visit_from(start, visited, order, count, stack);
         }
     }
 }

@@ -1,9 +1,9 @@
--- `regions::label_from` meets its contract: the order of the search is the members of the new region. Assumes nothing.
+-- `regions::Graph::label_from` meets its contract: the order of the search is the members of the new region. Assumes nothing.
 use mathlib.Core.Path.{sym}
 use native.Mathlib.Omega.{arith}
 use lib.Seq.{length-take-le}
 use Rattle.regions.proofs.Label.{fresh_room, labelled_old, members_few, members_low, labelled_new}
-use Rattle.regions.proofs.label_from.Goals as goal
+use Rattle.regions.proofs.Graph.label_from.Goals as goal
 
 pub returns-then-visited-node : goal.returns-then-visited-node
 returns-then-visited-node c = labelled_old _ _ _ _ _ _ _ c.requires.3.stack_zeros c.if-visited-node.true

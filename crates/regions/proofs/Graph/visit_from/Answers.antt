@@ -2,11 +2,11 @@
 use native.Mathlib.Omega.{arith}
 use lib.ListN.{length-set}
 use Rattle.regions.proofs.Stack.{search_room, leave, leave_less, call_room, enter, enter_less, searched_old, begin, searched}
-use Rattle.regions.proofs.visit_from.Goals as goal
+use Rattle.regions.proofs.Graph.visit_from.Goals as goal
 
 pub returns-then-visited-start : goal.returns-then-visited-start
 returns-then-visited-start c =
-    searched_old _ c.args.keys.now _ _ _ _ _ c.requires.2.stack_zeros c.if-visited-start.true
+    searched_old _ c.args.self.keys.now _ _ _ _ _ c.requires.2.stack_zeros c.if-visited-start.true
 
 pub loop-depth-init : goal.loop-depth-init
 loop-depth-init c =

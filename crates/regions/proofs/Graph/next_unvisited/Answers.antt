@@ -2,7 +2,7 @@
 use native.Mathlib.Omega.{arith}
 use borrow.Author.Count.{below_more}
 use Rattle.regions.proofs.Rows.{next_end, next_past, next_here}
-use Rattle.regions.proofs.next_unvisited.Goals as goal
+use Rattle.regions.proofs.Graph.next_unvisited.Goals as goal
 
 pub returns-then-visited-k : goal.returns-then-visited-k
 returns-then-visited-k c =

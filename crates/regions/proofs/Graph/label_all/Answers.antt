@@ -1,7 +1,7 @@
 -- Answers for the goals that the search leaves.
 use mathlib.Core.Path.{◌∙◌}
 use Rattle.regions.proofs.Label.{label_begin, label_room, label_more, label_end}
-use Rattle.regions.proofs.label_all.Goals as goal
+use Rattle.regions.proofs.Graph.label_all.Goals as goal
 
 pub loop-node-init : goal.loop-node-init
 loop-node-init c =

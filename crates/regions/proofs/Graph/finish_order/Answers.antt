@@ -1,8 +1,8 @@
 -- Answers for the goals that the search leaves.
 use native.Mathlib.Omega.{arith}
 use Rattle.regions.proofs.Order.{order_begin, order_more, order_skip, order_end, walk_room}
-use Rattle.regions.proofs.finish_order.Goals as goal
-use Rattle.regions.proofs.finish_order.Goals.{then-not-visited-start, else-not-visited-start}
+use Rattle.regions.proofs.Graph.finish_order.Goals as goal
+use Rattle.regions.proofs.Graph.finish_order.Goals.{then-not-visited-start, else-not-visited-start}
 
 pub loop-start-init : goal.loop-start-init
 loop-start-init c = order_begin c.requires (c.fill.ensures.after (λ y e. e))
