@@ -24,16 +24,13 @@ use Rattle.regions.proofs.Order.{room_kept, room_here}
 
 -- ---- paint
 
-module _ (r : ℕ) (members l : List ℕ) where
-  pub paint_none : l ≡ paint r (take 0 members) l
-  unfolding paint each
-  paint_none = refl
-
-  pub paint_more : (i : ℕ) → i < length members → set (paint r (take i members) l) (get_or members i 0) r ≡ paint r (take (i + 1) members) l
-  unfolding paint each
-  paint_more i h =
-      sym (ap (λ m. paint r m l) (ap (λ (k : ℕ). take k members) (add-one i) ∙ take-suc members i 0 h)
-      ∙ each_append (λ x m. set m x r) (take i members) (get_or members i 0 ∷ []) l)
+pub paint_more : (r : ℕ) (members l l' : List ℕ) (i : ℕ) → i < length members → l' ≡ paint r (take i members) l
+    → set l' (get_or members i 0) r ≡ paint r (take (i + 1) members) l
+unfolding paint each
+paint_more r members l l' i h is =
+    ap (λ m. set m (get_or members i 0) r) is
+    ∙ sym (ap (λ m. paint r m l) (ap (λ (k : ℕ). take k members) (add-one i) ∙ take-suc members i 0 h)
+    ∙ each_append (λ x m. set m x r) (take i members) (get_or members i 0 ∷ []) l)
 
 -- ---- a walk adds nodes below n to the order
 

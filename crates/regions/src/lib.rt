@@ -58,6 +58,7 @@ impl Graph<'_> {
     }
 
     // The first neighbour of `node` from the place on that is not visited.
+    #[tactic(auto, using(crate::proofs::Rows::next_end, crate::proofs::Rows::next_past, crate::proofs::Rows::next_here))]
     fn next_unvisited(self, node: usize, from: usize, visited: &[bool]) -> Option<Neighbour>
         requires { let n = length visited.now in (n ≤ span) × (node < n)
             × ((i : ℕ) → from ≤ i → i < length self.keys.now → node * span ≤ get_or self.keys.now i 0) }
@@ -193,6 +194,7 @@ impl Graph<'_> {
 }
 
 // Stores r at each of the members.
+#[tactic(auto, using(crate::proofs::Label::paint_more), unfolding(crate::specs::Kosaraju::paint, crate::specs::Graph::each))]
 fn paint(labels: &mut [usize], members: &[usize], r: usize)
     requires { (i : ℕ) → i < length members.now → get_or members.now i 0 < length labels.old }
     ensures { labels.new ≡ Kosaraju.paint r members.now labels.old }
@@ -204,6 +206,7 @@ fn paint(labels: &mut [usize], members: &[usize], r: usize)
 
 // The number of regions; `labels` gets the number of each node's. The two tables hold the edges and the edges turned
 // around; `rows` and `turned` are hints of their rows.
+#[tactic(auto, using(crate::proofs::Label::back_room, crate::proofs::Label::regions_forward))]
 pub fn regions(
     forward: &[u64],
     backward: &[u64],

@@ -1,14 +1,11 @@
 -- Answers for the goals that the search leaves.
 use native.Mathlib.Omega.{arith}
-use Rattle.regions.proofs.Order.{reach_begin, reach_more, reach_skip, reach_end, walk_room}
+use Rattle.regions.proofs.Order.{reach_begin, reach_more, reach_skip, reach_end}
 use Rattle.regions.proofs.reach_from.Goals as goal
 use Rattle.regions.proofs.reach_from.Goals.{then-is_start, else-is_start}
 
 pub loop-start-init : goal.loop-start-init
 loop-start-init c = reach_begin c.requires (c.fill.ensures.after (λ y e. e)) c.args.starts.now
-
-pub visit_from-count-requires : goal.visit_from-count-requires
-visit_from-count-requires c = walk_room c.loop-start.invariant c.loop-start.start (omega arith)
 
 pub loop-start-preserved : goal.loop-start-preserved
 loop-start-preserved c =

@@ -1,14 +1,11 @@
 -- Answers for the goals that the search leaves.
 use native.Mathlib.Omega.{arith}
-use Rattle.regions.proofs.Order.{order_begin, order_more, order_skip, order_end, walk_room}
+use Rattle.regions.proofs.Order.{order_begin, order_more, order_skip, order_end}
 use Rattle.regions.proofs.Graph.finish_order.Goals as goal
 use Rattle.regions.proofs.Graph.finish_order.Goals.{then-not-visited-start, else-not-visited-start}
 
 pub loop-start-init : goal.loop-start-init
 loop-start-init c = order_begin c.requires (c.fill.ensures.after (λ y e. e))
-
-pub visit_from-count-requires : goal.visit_from-count-requires
-visit_from-count-requires c = walk_room c.loop-start.invariant c.loop-start.start (omega arith)
 
 pub loop-start-preserved : goal.loop-start-preserved
 loop-start-preserved c =

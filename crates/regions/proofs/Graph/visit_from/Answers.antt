@@ -1,6 +1,4 @@
 -- Answers for the goals that the search leaves.
-use native.Mathlib.Omega.{arith}
-use lib.ListN.{length-set}
 use Rattle.regions.proofs.Stack.{search_room, leave, leave_less, call_room, enter, enter_less, searched_old, begin, searched}
 use Rattle.regions.proofs.Graph.visit_from.Goals as goal
 
@@ -15,9 +13,6 @@ loop-depth-init c =
 
 pub next_unvisited-requires : goal.next_unvisited-requires
 next_unvisited-requires c = search_room c.loop-depth-test.true c.loop-depth.invariant
-
-pub bounds-stack-at-in-None-2 : goal.bounds-stack-at-in-None-2
-bounds-stack-at-in-None-2 c = simp length-set (omega arith)
 
 pub loop-depth-smaller-in-None : goal.loop-depth-smaller-in-None
 loop-depth-smaller-in-None c = leave_less c.loop-depth-test.true c.loop-depth.invariant c.in-None.ensures
