@@ -149,6 +149,6 @@ pub fn find_cyclic(forward: &[u64], labels: &[usize], flags: &mut [bool])
     let count = flags.len();
     let mut sizes = [0usize; COMPONENTS];
     flag_selves(forward, labels, flags);
-    count_into(labels.len(), labels, &mut sizes[..count]);
+    count_into(labels, &mut sizes[..count]);
     flag_large(&sizes[..count], flags);
 }
