@@ -1,6 +1,5 @@
 // The pairs of regions that signal edges lead from and to, and marks carried along them.
 ghost use Rattle.std.specs.Prelude.{◌≡◌, ◌≤◌, length, get_or, take};
-ghost use Rattle.tables.specs.Order.{one};
 ghost use Rattle.tables.specs.Pairs.{KeysBelow};
 ghost use Rattle.lists.specs.Limits.{component_limit, connection_limit};
 ghost use Rattle.regions.specs.Graph.{marked};
@@ -9,17 +8,10 @@ ghost use Rattle.signals.specs.Flags.{Flags, Indices};
 ghost use Rattle.signals.specs.Seen.{Rows};
 ghost use Rattle.signals.specs.Crossings.{CrossingKeys, FoundCrossings};
 
-use super::edges::edge_count;
+use super::edges::edges_of;
 use super::flags::spread;
 use lists::{COMPONENTS, CONNECTIONS};
 use tables::SPAN;
-
-// 1 where the test holds, else 0.
-fn one_if(test: bool) -> usize
-    ensures { result ≡ one test }
-{
-    if test { 1 } else { 0 }
-}
 
 // Lists the pairs of two regions that edges lead from and to; answers how many there are. Each pair is stored, and only those of two
 // regions are kept: whether they differ comes in no order that a processor could foresee.
@@ -28,16 +20,12 @@ fn list_crossings(forward: &[u64], labels: &[usize], keys: &mut [u64]) -> usize
     requires indices { Indices (length labels.now) component_limit labels.now }
     ensures { (result ≤ length forward.now) × CrossingKeys forward.now labels.now (take result keys.new) }
 {
-    let count = edge_count(forward, labels.len());
     let mut at: usize = 0;
-    let mut i: usize = 0;
-    while i < count {
-        let key = forward[i];
+    for key in edges_of(forward, labels.len()) {
         let from = labels[(key / SPAN) as usize];
         let to = labels[(key % SPAN) as usize];
         keys[at] = from as u64 * SPAN + to as u64;
-        at += one_if(from != to);
-        i += 1;
+        at += usize::from(from != to);
     }
     at
 }

@@ -9,7 +9,7 @@ ghost use Rattle.signals.specs.Regions.{wire, is_passive};
 ghost use Rattle.signals.specs.Flags.{Flags, Indices};
 ghost use Rattle.signals.specs.Seen.{SeenOf, Rows, outside_key};
 
-use super::edges::edge_count;
+use super::edges::flag_sinks;
 use lists::COMPONENT;
 use lists::numbers::natural_at;
 use tables::SPAN;
@@ -40,10 +40,9 @@ fn see_row(keys: &[u64], labels: &[usize], m: usize, seen: Seen, rows: &[usize])
     ensures { (test : ℕ → Bool) → SeenOf (length labels.now) test seen →
         SeenOf (length labels.now) (λ j. test j || (eqb (get_or labels.now j 0) (get_or labels.now m 0) && edges (length labels.now) keys.now m j)) result }
 {
-    let mut at = lower_bound_in(keys, m as u64 * SPAN, rows, m);
+    let at = lower_bound_in(keys, m as u64 * SPAN, rows, m);
     let mut found = seen;
-    while at < keys.len() {
-        let key = keys[at];
+    for key in &keys[at..] {
         if key / SPAN != m as u64 {
             return found;
         }
@@ -51,7 +50,6 @@ fn see_row(keys: &[u64], labels: &[usize], m: usize, seen: Seen, rows: &[usize])
         if labels[j] == labels[m] {
             found = see(found, j);
         }
-        at += 1;
     }
     found
 }
@@ -83,31 +81,20 @@ pub fn passive_flags(components: &[i64], flags: &mut [bool])
     requires { Components components.now × (component_count components.now ≤ length flags.old) }
     ensures { Flags (component_count components.now) (λ p. is_passive (component components.now p).kind) flags.new }
 {
-    let count = components.len() / COMPONENT;
-    let mut p: usize = 0;
-    while p < count {
+    for p in 0..components.len() / COMPONENT {
         let kind = natural_at(components, p * COMPONENT + 4);
         flags[p] = (kind == 9) | (kind == 10);
-        p += 1;
     }
 }
 
-// Flags the regions with an edge from another region's node that is not passive. There is no branch on a test.
+// Flags the regions with an edge from another region's node that is not passive.
 pub fn flag_outside(forward: &[u64], labels: &[usize], passive: &[bool], fed: &mut [bool])
     requires rows { Rows (length labels.now) forward.now }
     requires labels_in_bounds { (length labels.now ≤ length passive.now) × Indices (length labels.now) (length fed.old) labels.now }
     ensures { Flags (length fed.old) (λ r. some (λ i. outside_key labels.now passive.now r (get_or forward.now i 0)) (length forward.now)) fed.new }
 {
-    regions::clear_flags(fed);
-    let count = edge_count(forward, labels.len());
-    let mut i: usize = 0;
-    while i < count {
-        let key = forward[i];
-        let from = (key / SPAN) as usize;
-        let r = labels[(key % SPAN) as usize];
-        fed[r] = fed[r] | (!(labels[from] == r) & !passive[from]);
-        i += 1;
-    }
+    let is_outside = |from: usize, to: usize| (labels[from] != labels[to]) & !passive[from];
+    flag_sinks(forward, labels, is_outside, fed);
 }
 
 // Whether component p, member m, is an inferred input, given whether its region has a drive source or is fed from outside.

@@ -15,7 +15,7 @@ ghost use Rattle.signals.specs.Flags.{Flags, Numbers, Indices};
 ghost use Rattle.signals.specs.Seen.{Rows};
 ghost use Rattle.signals.specs.Stages.{Tables, FedTable, self_key, cyclic_at};
 
-use super::edges::{PORTS, edge_count, list_keys, settle_slots, signal_keys, turned_keys};
+use super::edges::{PORTS, flag_sinks, list_keys, settle_slots, signal_keys, turned_keys};
 use super::flags::count_into;
 use lists::ids::place_at;
 use lists::{COMPONENTS, CONNECTIONS};
@@ -91,22 +91,18 @@ pub fn place_members(keys: &[u64], members: &mut [usize])
     requires { IsIdTable keys.now × (length keys.now ≤ length members.old) }
     ensures { (cs : List ℤ) → IdTable cs keys.now → first_repeated cs ≡ Nothing → Numbers (component_count cs) (member_of cs) members.new }
 {
-    let mut m: usize = 0;
-    while m < keys.len() {
+    for m in 0..keys.len() {
         members[place_at(keys, m)] = m;
-        m += 1;
     }
 }
 
 // The label of each component, by list place.
-pub fn place_labels(n: usize, members: &[usize], labels: &[usize], out: &mut [usize])
-    requires { Indices n (length labels.now) members.now × (n ≤ length out.old) }
-    ensures { Numbers n (λ p. get_or labels.now (get_or members.now p 0) 0) out.new }
+pub fn place_labels(members: &[usize], labels: &[usize], out: &mut [usize])
+    requires { Indices (length members.now) (length labels.now) members.now × (length members.now ≤ length out.old) }
+    ensures { Numbers (length members.now) (λ p. get_or labels.now (get_or members.now p 0) 0) out.new }
 {
-    let mut p: usize = 0;
-    while p < n {
-        out[p] = labels[members[p]];
-        p += 1;
+    for (p, m) in members.iter().enumerate() {
+        out[p] = labels[*m];
     }
 }
 
@@ -115,28 +111,8 @@ fn flag_large(sizes: &[usize], flags: &mut [bool])
     requires { length sizes.now ≤ length flags.old }
     ensures { Flags (length sizes.now) (λ r. leb 2 (get_or sizes.now r 0) || marked flags.old r) flags.new }
 {
-    let mut r: usize = 0;
-    while r < sizes.len() {
-        if 2 <= sizes[r] {
-            flags[r] = true;
-        }
-        r += 1;
-    }
-}
-
-// Flags the regions with an edge from a node to itself. There is no branch on a test.
-fn flag_selves(forward: &[u64], labels: &[usize], flags: &mut [bool])
-    requires { Rows (length labels.now) forward.now × Indices (length labels.now) (length flags.old) labels.now }
-    ensures { Flags (length flags.old) (λ r. some (λ i. self_key labels.now r (get_or forward.now i 0)) (length forward.now)) flags.new }
-{
-    regions::clear_flags(flags);
-    let count = edge_count(forward, labels.len());
-    let mut i: usize = 0;
-    while i < count {
-        let key = forward[i];
-        let r = labels[(key % SPAN) as usize];
-        flags[r] = flags[r] | (key / SPAN == key % SPAN);
-        i += 1;
+    for (r, size) in sizes.iter().enumerate() {
+        flags[r] |= 2 <= *size;
     }
 }
 
@@ -148,7 +124,7 @@ pub fn find_cyclic(forward: &[u64], labels: &[usize], flags: &mut [bool])
 {
     let count = flags.len();
     let mut sizes = [0usize; COMPONENTS];
-    flag_selves(forward, labels, flags);
+    flag_sinks(forward, labels, |from, to| from == to, flags);
     count_into(labels, &mut sizes[..count]);
     flag_large(&sizes[..count], flags);
 }

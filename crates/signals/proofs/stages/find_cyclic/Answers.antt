@@ -52,7 +52,7 @@ pub slice_bounds-flag_large-end : goal.slice_bounds-flag_large-end
 slice_bounds-flag_large-end c = sym (front_length (goal.at.slice_bounds-flag_large-end c).After-count_into)
 
 pub flag_large-requires : goal.flag_large-requires
-flag_large-requires c = omega (arith, front_length (goal.at.flag_large-requires c).After-count_into, c.flag_selves.auto.flags)
+flag_large-requires c = omega (arith, front_length (goal.at.flag_large-requires c).After-count_into, c.flag_sinks.auto.flags)
 
 -- large, or with an edge from a node to itself
 joined : (forward labels : List ℕ) {sizes : List ℕ} {flags₀ flags : List Bool} {n : ℕ} → length sizes ≡ n → Counted (length labels) labels sizes
@@ -66,4 +66,4 @@ joined forward labels e counts itself f = record {
 pub returns : goal.returns
 returns c =
     let a = c.args in
-    joined a.forward.now a.labels.now (long (goal.at.returns c).After-count_into) c.count_into.ensures c.flag_selves.ensures (rw (front_is (goal.at.returns c).After-count_into) at c.flag_large.ensures)
+    joined a.forward.now a.labels.now (long (goal.at.returns c).After-count_into) c.count_into.ensures c.flag_sinks.ensures (rw (front_is (goal.at.returns c).After-count_into) at c.flag_large.ensures)
