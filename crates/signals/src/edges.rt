@@ -80,8 +80,8 @@ pub fn signal_keys(
 
 // Writes each pair turned round.
 fn turn(keys: &[u64], out: &mut [u64])
-    requires { length keys.now ≤ length out.old }
-    ensures { take (length keys.now) out.new ≡ map turned keys.now }
+    requires { length out.old ≡ length keys.now }
+    ensures { out.new ≡ map turned keys.now }
 {
     for (i, key) in keys.iter().enumerate() {
         out[i] = key % SPAN * SPAN + key / SPAN;
@@ -95,9 +95,9 @@ pub fn turned_keys(keys: &[u64], out: &mut [u64], spare: &mut [u64], counts: &mu
     requires ascending { Ascending keys.now × ((length counts.old ≤ span) × KeysBelow (length counts.old) keys.now) }
     ensures { Sorted (map turned keys.now) out.new }
 {
-    let n = keys.len();
-    turn(keys, spare);
-    tables::lay_by_first(&spare[..n], out, counts);
+    let turned = &mut spare[..keys.len()];
+    turn(keys, turned);
+    tables::lay_by_first(turned, out, counts);
 }
 
 // The keys of a sorted table that are edges of the nodes below n. They come first: the keys of supports are past them.

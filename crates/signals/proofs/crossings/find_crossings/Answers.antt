@@ -1,6 +1,6 @@
 -- `signals::crossings::find_crossings` meets its contract: the keys that were listed, laid out by their first numbers.
 -- Assumes nothing.
-use mathlib.Core.Path.{◌≡◌, refl, sym, subst}
+use mathlib.Core.Path.{◌≡◌, refl, subst}
 use mathlib.Core.List.{List}
 use Prim.Native.Nat.{ℕ, ◌/◌, ◌≤◌, ◌<◌}
 use native.Mathlib.Omega.{arith}
@@ -14,25 +14,17 @@ use Rattle.lists.specs.Limits.{component_limit}
 use Rattle.signals.proofs.Crossed.{laid_below, laid_crossings}
 use Rattle.signals.proofs.crossings.find_crossings.Goals as goal
 
--- what is lent to the layout, the keys that were listed, are as many as was answered
-lent : (r n m : ℕ) (xs : List ℕ) → r ≤ n → n ≤ m → length xs ≡ m → length (take r xs) ≡ r
-lent r n m xs a b e = length-take-le r xs (omega arith)
-
-pub lay_by_first-requires : goal.lay_by_first-requires
-lay_by_first-requires c =
+pub lay_by_first-requires-clause-counts_len_bound : goal.lay_by_first-requires-clause-counts_len_bound
+lay_by_first-requires-clause-counts_len_bound c =
     let count = c.list_crossings-count in
     let listed = take count.result count.new.keys in
     let still : Rearranged listed listed = record { same = λ v. refl } in
     let below = laid_below c.requires.rows.0 c.requires.indices count.ensures.1 still in
-    record {
-      keys_in_bounds = omega (
-        arith,
-        lent _ _ _ count.new.keys count.ensures.0 c.requires.rows.1.1 count.auto.keys,
-        count.ensures.0,
-        c.requires.rows.1.0,
-      );
-      counts_len_bound = (omega arith, at_all (λ x. x / span < component_limit) listed below.first);
-    }
+    (omega arith, at_all (λ x. x / span < component_limit) listed below.first)
+
+-- what is lent to the layout, the keys that were listed, are as many as was answered
+lent : (r n m : ℕ) (xs : List ℕ) → r ≤ n → n ≤ m → length xs ≡ m → length (take r xs) ≡ r
+lent r n m xs a b e = length-take-le r xs (omega arith)
 
 pub returns : goal.returns
 returns c =
@@ -46,8 +38,3 @@ returns c =
       below = laid_below c.requires.rows.0 c.requires.indices count.ensures.1 laid.rearranged;
       pairs = laid_crossings c.requires.rows.0 c.requires.indices count.ensures.1 laid.rearranged laid.firsts;
     }
-
-pub slice_bounds-lay_by_first-end : goal.slice_bounds-lay_by_first-end
-slice_bounds-lay_by_first-end c =
-    let count = c.list_crossings-count in
-    sym (lent _ _ _ count.new.keys count.ensures.0 c.requires.rows.1.1 count.auto.keys)
