@@ -29,22 +29,23 @@ pub fn count_into(index: &[usize], counts: &mut [usize])
 
 // Each flag joined with the other at its place.
 pub fn combine_flags<F: Fn(bool, bool) -> bool>(flags: &mut [bool], others: &[bool], join: F)
-    requires callable { F.IsAlwaysCallable join }
+    ghost joined: { Bool → Bool → Bool }
     requires others_in_bounds { length flags.old ≤ length others.now }
-    ensures len { length flags.new ≡ length flags.old }
-    ensures joined { (p : ℕ) → p < length flags.old → F.post join (marked flags.old p) (marked others.now p) (marked flags.new p) }
+    requires callable { F.IsAlwaysCallable join }
+    requires answer { (a b r : Bool) → F.post join a b r → r ≡ joined a b }
+    ensures { Flags (length flags.old) (λ p. joined (marked flags.old p) (marked others.now p)) flags.new }
 {
     for (p, flag) in flags.iter_mut().enumerate() {
         *flag = join(*flag, others[p]);
     }
 }
 
-// The flag of each index.
-pub fn spread(index: &[usize], flags: &[bool], out: &mut [bool])
-    requires { Indices (length index.now) (length flags.now) index.now × (length index.now ≤ length out.old) }
-    ensures { Flags (length index.now) (λ p. marked flags.now (get_or index.now p 0)) out.new }
+// The value of each index.
+pub fn spread<T: Copy>(index: &[usize], values: &[T], out: &mut [T])
+    requires { Indices (length index.now) (length values.now) index.now × (length index.now ≤ length out.old) }
+    ensures { (p : ℕ) (d : T) → p < length index.now → get_or out.new p d ≡ get_or values.now (get_or index.now p 0) d }
 {
     for (p, j) in index.iter().enumerate() {
-        out[p] = flags[*j];
+        out[p] = values[*j];
     }
 }

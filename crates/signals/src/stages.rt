@@ -96,16 +96,6 @@ pub fn place_members(keys: &[u64], members: &mut [usize])
     }
 }
 
-// The label of each component, by list place.
-pub fn place_labels(members: &[usize], labels: &[usize], out: &mut [usize])
-    requires { Indices (length members.now) (length labels.now) members.now × (length members.now ≤ length out.old) }
-    ensures { Numbers (length members.now) (λ p. get_or labels.now (get_or members.now p 0) 0) out.new }
-{
-    for (p, m) in members.iter().enumerate() {
-        out[p] = labels[*m];
-    }
-}
-
 // Flags the regions of two nodes or more.
 fn flag_large(sizes: &[usize], flags: &mut [bool])
     requires { length sizes.now ≤ length flags.old }

@@ -1,10 +1,8 @@
 -- `signals::edges::turned_keys` meets its contract: the turned pairs' second numbers rise, so one pass sorts them.
 -- Assumes nothing.
-use Rattle.std.proofs.Common.{◌≡◌, map, ◌/◌, ◌<◌, length, take, ap, arith}
+use Rattle.std.proofs.Common.{◌≡◌, map, length, take, ap, arith}
 use lib.ListN.{length-map}
 use lib.Seq.{take_all}
-use Rattle.tables.specs.Order.{All}
-use Rattle.tables.specs.Pairs.{span}
 use Rattle.tables.specs.Radix.{LaidByFirst}
 use Rattle.signals.specs.Keys.{turned}
 use Rattle.signals.proofs.Turned.{turned_low, turned_rising}
