@@ -1,11 +1,12 @@
 -- What the search for inferred inputs keeps: the neighbours seen so far; and tests of the edges of a table.
 -- Assumes nothing: these are definitions.
-use Rattle.std.specs.Prelude.{ℕ, ◌/◌, ◌%◌, ◌≤◌, ◌<◌, ◌≡◌, Bool, true, false, not, ◌&&◌, List, eqb, ltb, length, get_or, ℤ}
+use Rattle.std.specs.Prelude.{ℕ, ◌/◌, ◌%◌, ◌≤◌, ◌<◌, ◌≡◌, Bool, true, false, not, ◌&&◌, ◌||◌, List, eqb, ltb, length, get_or, ℤ}
 use Rattle.tables.specs.Order.{Ascending}
 use Rattle.tables.specs.Pairs.{span}
 use Rattle.lists.specs.Records.{port_count}
 use Rattle.lists.specs.First.{some}
 use Rattle.regions.specs.Graph.{marked}
+use Rattle.regions.specs.Keys.{edges}
 use Rattle.signals.specs.Signals.{is_signal}
 use Rattle.signals.specs.declared.inferred.Seen.{Seen}
 use Rattle.signals.specs.declared.inferred.Seen.TheVariants.{None, One, Many}
@@ -38,6 +39,11 @@ of_edge n test key = ltb (key / span) n && test (key / span) (key % span)
 abbrev pub some_edge_into : List ℕ → List ℕ → (ℕ → ℕ → Bool) → ℕ → Bool
 some_edge_into forward labels passes r =
     some (λ i. of_edge (length labels) (λ a b. passes a b && eqb (get_or labels b 0) r) (get_or forward i 0)) (length forward)
+
+-- two nodes have the same label, and an edge leads from the one to the other in a table forward or in one backward
+abbrev pub near : List ℕ → List ℕ → List ℕ → ℕ → ℕ → Bool
+near forward backward labels m j =
+    eqb (get_or labels j 0) (get_or labels m 0) && (edges (length labels) forward m j || edges (length labels) backward m j)
 
 -- the ends of a signal connection are nodes below n
 pub record SignalEnds (n : ℕ) (ps : List ℤ) (members : List ℕ) : Type 0 where

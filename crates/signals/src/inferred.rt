@@ -7,9 +7,10 @@ ghost use Rattle.lists.specs.First.{some};
 ghost use Rattle.regions.specs.Keys.{edges};
 ghost use Rattle.signals.specs.Regions.{wire, is_passive};
 ghost use Rattle.signals.specs.Flags.{Flags, Indices};
-ghost use Rattle.signals.specs.Seen.{SeenOf, Rows, outside_key};
+ghost use Rattle.signals.specs.Seen.{SeenOf, Rows, near, outside_key};
 
 use super::edges::flag_sinks;
+use super::network::{Network, Table};
 use lists::COMPONENT;
 use lists::numbers::natural_at;
 use tables::SPAN;
@@ -34,15 +35,15 @@ fn see(seen: Seen, j: usize) -> Seen
     }
 }
 
-// With the neighbours of m in a table seen too, those of its own region. The rows are hints.
-fn see_row(keys: &[u64], labels: &[usize], m: usize, seen: Seen, rows: &[usize]) -> Seen
-    requires { Rows (length labels.now) keys.now × (m < length labels.now) }
+// With the neighbours of m in a table seen too, those of its own region.
+fn see_row(table: &Table, labels: &[usize], m: usize, seen: Seen) -> Seen
+    requires { Rows (length labels.now) table.now.keys.now × (m < length labels.now) }
     ensures { (test : ℕ → Bool) → SeenOf (length labels.now) test seen →
-        SeenOf (length labels.now) (λ j. test j || (eqb (get_or labels.now j 0) (get_or labels.now m 0) && edges (length labels.now) keys.now m j)) result }
+        SeenOf (length labels.now) (λ j. test j || (eqb (get_or labels.now j 0) (get_or labels.now m 0) && edges (length labels.now) table.now.keys.now m j)) result }
 {
-    let at = lower_bound_in(keys, m as u64 * SPAN, rows, m);
+    let at = lower_bound_in(table.keys, m as u64 * SPAN, table.rows, m);
     let mut found = seen;
-    for key in &keys[at..] {
+    for key in &table.keys[at..] {
         if key / SPAN != m as u64 {
             return found;
         }
@@ -55,21 +56,12 @@ fn see_row(keys: &[u64], labels: &[usize], m: usize, seen: Seen, rows: &[usize])
 }
 
 // Whether m has at most one distinct neighbour in its region, either way along the edges.
-fn few_neighbours(
-    forward: &[u64],
-    backward: &[u64],
-    labels: &[usize],
-    m: usize,
-    forward_rows: &[usize],
-    backward_rows: &[usize],
-) -> bool
-    requires { Rows (length labels.now) forward.now × (Rows (length labels.now) backward.now × (m < length labels.now)) }
-    ensures { result ≡ leb (count_below (λ j. eqb (get_or labels.now j 0) (get_or labels.now m 0)
-        && (edges (length labels.now) forward.now m j || edges (length labels.now) backward.now m j)) (length labels.now)) 1 }
+fn few_neighbours(network: &Network, m: usize) -> bool
+    requires { m < length network.now.labels.now }
+    ensures { result ≡ leb (count_below (near network.now.forward.keys.now network.now.backward.keys.now network.now.labels.now m) (length network.now.labels.now)) 1 }
 {
-    let first = see_row(forward, labels, m, Seen::None, forward_rows);
-    let both = see_row(backward, labels, m, first, backward_rows);
-    match both {
+    let first = see_row(&network.forward, network.labels, m, Seen::None);
+    match see_row(&network.backward, network.labels, m, first) {
         Seen::None => true,
         Seen::One(_) => true,
         Seen::Many => false,
@@ -98,26 +90,15 @@ pub fn flag_outside(forward: &[u64], labels: &[usize], passive: &[bool], fed: &m
 }
 
 // Whether component p, member m, is an inferred input, given whether its region has a drive source or is fed from outside.
-// The rows are hints.
-pub fn is_inferred(
-    components: &[i64],
-    p: usize,
-    quiet: bool,
-    forward: &[u64],
-    backward: &[u64],
-    labels: &[usize],
-    m: usize,
-    forward_rows: &[usize],
-    backward_rows: &[usize],
-) -> bool
+pub fn is_inferred(components: &[i64], p: usize, quiet: bool, network: &Network, m: usize) -> bool
     requires components { Components components.now × (p < component_count components.now) }
-    requires rows { Rows (length labels.now) forward.now × (Rows (length labels.now) backward.now × (m < length labels.now)) }
-    ensures { result ≡ (eqb (component components.now p).kind wire && (quiet && leb (count_below (λ j. eqb (get_or labels.now j 0) (get_or labels.now m 0)
-        && (edges (length labels.now) forward.now m j || edges (length labels.now) backward.now m j)) (length labels.now)) 1)) }
+    requires node { m < length network.now.labels.now }
+    ensures { result ≡ (eqb (component components.now p).kind wire && (quiet
+        && leb (count_below (near network.now.forward.keys.now network.now.backward.keys.now network.now.labels.now m) (length network.now.labels.now)) 1)) }
 {
     let kind = natural_at(components, p * COMPONENT + 4);
     if (kind == 0) & quiet {
-        return few_neighbours(forward, backward, labels, m, forward_rows, backward_rows);
+        return few_neighbours(network, m);
     }
     false
 }

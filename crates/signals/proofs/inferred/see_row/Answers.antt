@@ -16,19 +16,19 @@ tail_long : (keys : List ℕ) (at : ℕ) → length (take (length keys - at) (dr
 tail_long keys at = grind (arith, common_steps)
 
 pub loop-key-init : goal.loop-key-init
-loop-key-init c test = rw add-zero (row_none c.args.keys.now c.args.labels.now c.args.m c.requires.0 c.requires.1 c.lower_bound_in-at.ensures test c.args.seen)
+loop-key-init c test = rw add-zero (row_none c.args.table.now.keys.now c.args.labels.now c.args.m c.requires.0 c.requires.1 c.lower_bound_in-at.ensures test c.args.seen)
 
 pub returns-then-key-m : goal.returns-then-key-m
 returns-then-key-m c test seen =
     let at = c.lower_bound_in-at.result in
-    let (inside, is) = key_at c.args.keys.now at c.loop-key.key-index c.loop-key-test.true in
-    row_all c.args.keys.now c.args.labels.now c.args.m c.requires.0 c.requires.1
+    let (inside, is) = key_at c.args.table.now.keys.now at c.loop-key.key-index c.loop-key-test.true in
+    row_all c.args.table.now.keys.now c.args.labels.now c.args.m c.requires.0 c.requires.1
     c.lower_bound_in-at.ensures (at + c.loop-key.key-index) (omega arith) (λ h. rw is at c.if-key-m.true) test c.loop-key.found (c.loop-key.invariant test seen)
 
 pub loop-key-preserved : goal.loop-key-preserved
 loop-key-preserved c test seen =
     let l = c.loop-key in
-    let keys = c.args.keys.now in
+    let keys = c.args.table.now.keys.now in
     let labels = c.args.labels.now in
     let at = c.lower_bound_in-at.result + l.key-index in
     let (inside, is) = key_at keys c.lower_bound_in-at.result l.key-index c.loop-key-test.true in
@@ -47,5 +47,5 @@ pub returns : goal.returns
 returns c test seen =
     let l = c.loop-key in
     let at = c.lower_bound_in-at.result in
-    row_all c.args.keys.now c.args.labels.now c.args.m c.requires.0 c.requires.1
-    c.lower_bound_in-at.ensures (at + l.key-index) (omega arith) (λ h. absurd (omega (arith, tail_long c.args.keys.now at))) test l.found (l.invariant test seen)
+    row_all c.args.table.now.keys.now c.args.labels.now c.args.m c.requires.0 c.requires.1
+    c.lower_bound_in-at.ensures (at + l.key-index) (omega arith) (λ h. absurd (omega (arith, tail_long c.args.table.now.keys.now at))) test l.found (l.invariant test seen)
