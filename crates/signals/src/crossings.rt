@@ -13,12 +13,14 @@ use super::flags::spread;
 use lists::{COMPONENTS, CONNECTIONS};
 use tables::SPAN;
 
-// Lists the pairs of two regions that edges lead from and to; answers how many there are. Each pair is stored, and only those of two
-// regions are kept: whether they differ comes in no order that a processor could foresee.
-fn list_crossings(forward: &[u64], labels: &[usize], keys: &mut [u64]) -> usize
-    requires rows { Rows (length labels.now) forward.now × (length forward.now ≤ length keys.old) }
+// Lists the pairs of two regions that edges lead from and to, and answers the part of `keys` that they fill. Each pair is stored, and only
+// those of two regions are kept: whether they differ comes in no order that a processor could foresee.
+fn list_crossings<'a>(forward: &[u64], labels: &[usize], keys: &'a mut [u64]) -> &'a [u64]
+    requires rows { Rows (length labels.now) forward.now }
+    requires keys_len { length forward.now ≤ length keys.old }
     requires indices { Indices (length labels.now) component_limit labels.now }
-    ensures { (result ≤ length forward.now) × CrossingKeys forward.now labels.now (take result keys.new) }
+    ensures few { length result.now ≤ length forward.now }
+    ensures pairs { CrossingKeys forward.now labels.now result.now }
 {
     let mut at: usize = 0;
     for key in edges_of(forward, labels.len()) {
@@ -27,21 +29,21 @@ fn list_crossings(forward: &[u64], labels: &[usize], keys: &mut [u64]) -> usize
         keys[at] = from as u64 * SPAN + to as u64;
         at += usize::from(from != to);
     }
-    at
+    &keys[..at]
 }
 
-// The pairs of the regions that each edge leads from and to, where they differ, by rising first number at the front of `keys`; answers how
-// many there are.
-pub fn find_crossings(forward: &[u64], labels: &[usize], keys: &mut [u64]) -> usize
+// The pairs of the regions that each edge leads from and to, where they differ, by rising first number: the part of `keys` that they fill.
+pub fn find_crossings<'a>(forward: &[u64], labels: &[usize], keys: &'a mut [u64]) -> &'a [u64]
     requires rows { Rows (length labels.now) forward.now × ((length forward.now ≤ length keys.old) × (length forward.now ≤ connection_limit)) }
     requires indices { Indices (length labels.now) component_limit labels.now }
-    ensures { FoundCrossings forward.now labels.now result keys.new }
+    ensures { FoundCrossings forward.now labels.now result.now }
 {
     let mut listed = [0u64; CONNECTIONS];
     let mut ends = [0usize; COMPONENTS];
-    let count = list_crossings(forward, labels, &mut listed);
-    tables::lay_by_first(&listed[..count], keys, &mut ends);
-    count
+    let pairs = list_crossings(forward, labels, &mut listed);
+    let found = &mut keys[..pairs.len()];
+    tables::lay_by_first(pairs, found, &mut ends);
+    found
 }
 
 // Carries two lists of marks of regions along the pairs of regions, and gives each node the marks of its region.

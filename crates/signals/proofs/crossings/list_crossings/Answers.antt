@@ -33,13 +33,13 @@ loop-key-preserved c =
     record {
       few = omega (arith, more, most_one (differs edges labels l.key-index));
       kept = kept_more (differs edges labels) (pair_of edges labels) l.key-index l.at l.keys l.invariant.kept
-          (omega (arith, c.edges_of-key-items.ensures.few, c.requires.rows.1)) _ more;
+          (omega (arith, c.edges_of-key-items.ensures.few, c.requires.keys_len)) _ more;
     }
 
-pub returns : goal.returns
-returns c =
+pub returns-clause-pairs : goal.returns-clause-pairs
+returns-clause-pairs c =
     let l = c.loop-key in
     let front = c.edges_of-key-items in
     let all : l.key-index ≡ length front.result.now = omega arith in
     let kept = rw all at l.invariant.kept in
-    (omega (arith, front.ensures.few), record { has = λ v. kept v ∙ edges_first front.ensures (crosses c.args.labels.now v) })
+    record { has = λ v. kept v ∙ edges_first front.ensures (crosses c.args.labels.now v) }
