@@ -1,6 +1,7 @@
 -- What the search for inferred inputs keeps: the neighbours seen so far; and tests of the edges of a table.
 -- Assumes nothing: these are definitions.
-use Rattle.std.specs.Prelude.{ℕ, ◌/◌, ◌%◌, ◌≤◌, ◌<◌, ◌≡◌, Bool, true, false, not, ◌&&◌, ◌||◌, List, eqb, ltb, length, get_or, ℤ}
+use Rattle.std.specs.Prelude.{ℕ, ◌/◌, ◌%◌, ◌≤◌, ◌<◌, ◌≡◌, Bool, true, false, not, ◌&&◌, ◌||◌, List, eqb, ltb, leb, length, get_or, ℤ}
+use Rattle.sets.specs.Members.{count_below}
 use Rattle.tables.specs.Order.{Ascending}
 use Rattle.tables.specs.Pairs.{span}
 use Rattle.lists.specs.Records.{port_count}
@@ -44,6 +45,10 @@ some_edge_into forward labels passes r =
 abbrev pub near : List ℕ → List ℕ → List ℕ → ℕ → ℕ → Bool
 near forward backward labels m j =
     eqb (get_or labels j 0) (get_or labels m 0) && (edges (length labels) forward m j || edges (length labels) backward m j)
+
+-- at most one is near to m
+abbrev pub few_near : List ℕ → List ℕ → List ℕ → ℕ → Bool
+few_near forward backward labels m = leb (count_below (near forward backward labels m) (length labels)) 1
 
 -- the ends of a signal connection are nodes below n
 pub record SignalEnds (n : ℕ) (ps : List ℤ) (members : List ℕ) : Type 0 where

@@ -7,7 +7,7 @@ ghost use Rattle.lists.specs.First.{some};
 ghost use Rattle.regions.specs.Keys.{edges};
 ghost use Rattle.signals.specs.Regions.{wire, is_passive};
 ghost use Rattle.signals.specs.Flags.{Flags, Indices};
-ghost use Rattle.signals.specs.Seen.{SeenOf, Rows, near, outside_key};
+ghost use Rattle.signals.specs.Seen.{SeenOf, Rows, few_near, outside_key};
 
 use super::edges::flag_sinks;
 use super::network::{Network, Table};
@@ -15,6 +15,13 @@ use lists::COMPONENT;
 use lists::numbers::natural_at;
 use tables::SPAN;
 use tables::rows::lower_bound_in;
+
+// Kinds of components, by their numbers in the lists.
+const WIRE: u64 = 0;
+
+const SOLID: u64 = 9;
+
+const TRANSPARENT: u64 = 10;
 
 // The distinct neighbours seen so far.
 #[derive(Clone, Copy)]
@@ -58,7 +65,7 @@ fn see_row(table: &Table, labels: &[usize], m: usize, seen: Seen) -> Seen
 // Whether m has at most one distinct neighbour in its region, either way along the edges.
 fn few_neighbours(network: &Network, m: usize) -> bool
     requires { m < length network.now.labels.now }
-    ensures { result ≡ leb (count_below (near network.now.forward.keys.now network.now.backward.keys.now network.now.labels.now m) (length network.now.labels.now)) 1 }
+    ensures { result ≡ few_near network.now.forward.keys.now network.now.backward.keys.now network.now.labels.now m }
 {
     let first = see_row(&network.forward, network.labels, m, Seen::None);
     match see_row(&network.backward, network.labels, m, first) {
@@ -75,7 +82,7 @@ pub fn passive_flags(components: &[i64], flags: &mut [bool])
 {
     for p in 0..components.len() / COMPONENT {
         let kind = natural_at(components, p * COMPONENT + 4);
-        flags[p] = (kind == 9) | (kind == 10);
+        flags[p] = (kind == SOLID) | (kind == TRANSPARENT);
     }
 }
 
@@ -93,12 +100,9 @@ pub fn flag_outside(forward: &[u64], labels: &[usize], passive: &[bool], fed: &m
 pub fn is_inferred(components: &[i64], p: usize, quiet: bool, network: &Network, m: usize) -> bool
     requires components { Components components.now × (p < component_count components.now) }
     requires node { m < length network.now.labels.now }
-    ensures { result ≡ (eqb (component components.now p).kind wire && (quiet
-        && leb (count_below (near network.now.forward.keys.now network.now.backward.keys.now network.now.labels.now m) (length network.now.labels.now)) 1)) }
+    ensures { result ≡ (eqb (component components.now p).kind wire
+        && (quiet && few_near network.now.forward.keys.now network.now.backward.keys.now network.now.labels.now m)) }
 {
     let kind = natural_at(components, p * COMPONENT + 4);
-    if (kind == 0) & quiet {
-        return few_neighbours(network, m);
-    }
-    false
+    (kind == WIRE) & quiet && few_neighbours(network, m)
 }
