@@ -34,7 +34,8 @@ fn list_crossings<'a>(forward: &[u64], labels: &[usize], keys: &'a mut [u64]) ->
 
 // The pairs of the regions that each edge leads from and to, where they differ, by rising first number: the part of `keys` that they fill.
 pub fn find_crossings<'a>(forward: &[u64], labels: &[usize], keys: &'a mut [u64]) -> &'a [u64]
-    requires rows { Rows (length labels.now) forward.now × ((length forward.now ≤ length keys.old) × (length forward.now ≤ connection_limit)) }
+    requires rows { Rows (length labels.now) forward.now
+        × ((length forward.now ≤ length keys.old) × (length forward.now ≤ connection_limit)) }
     requires indices { Indices (length labels.now) component_limit labels.now }
     ensures { FoundCrossings forward.now labels.now result.now }
 {
@@ -58,7 +59,8 @@ pub fn carry_marks(
     requires keys_below { KeysBelow (length a.old) keys.now × KeysBelow (length b.old) keys.now }
     requires indices { Indices (length labels.now) (length a.old) labels.now × (length labels.now ≤ length out_a.old) }
     requires indices_2 { Indices (length labels.now) (length b.old) labels.now × (length labels.now ≤ length out_b.old) }
-    ensures { Flags (length labels.now) (λ m. carry keys.now (marked a.old) (get_or labels.now m 0)) out_a.new × Flags (length labels.now) (λ m. carry keys.now (marked b.old) (get_or labels.now m 0)) out_b.new }
+    ensures { Flags (length labels.now) (λ m. carry keys.now (marked a.old) (get_or labels.now m 0)) out_a.new
+        × Flags (length labels.now) (λ m. carry keys.now (marked b.old) (get_or labels.now m 0)) out_b.new }
 {
     regions::carry::carry_both(keys, a, b);
     spread(labels, a, out_a);

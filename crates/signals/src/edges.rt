@@ -30,8 +30,8 @@ pub fn settle_slots(ports: &[i64], sinks: &[usize], slots: &mut [usize])
     }
 }
 
-// The key of port connection k: the pair of two numbers, or of `nowhere` and COMPONENTS where it is a support: turned round where `nowhere` is
-// COMPONENTS too, that is itself.
+// The key of port connection k: the pair of two numbers, or of `nowhere` and COMPONENTS where it is a support. Where `nowhere` is COMPONENTS
+// too, the key of a support turned round is itself.
 fn signal_key(ports: &[i64], k: usize, first: usize, second: usize, nowhere: usize) -> u64
     requires port_connections { PortConnections ports.now × (k < port_count ports.now) }
     requires first_bound { (first < 2 ^ 32) × ((second < span) × (nowhere < 2 ^ 32)) }

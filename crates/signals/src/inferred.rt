@@ -46,7 +46,8 @@ fn see(seen: Seen, j: usize) -> Seen
 fn see_row(table: &Table, labels: &[usize], m: usize, seen: Seen) -> Seen
     requires { Rows (length labels.now) table.now.keys.now × (m < length labels.now) }
     ensures { (test : ℕ → Bool) → SeenOf (length labels.now) test seen →
-        SeenOf (length labels.now) (λ j. test j || (eqb (get_or labels.now j 0) (get_or labels.now m 0) && edges (length labels.now) table.now.keys.now m j)) result }
+        SeenOf (length labels.now) (λ j. test j
+        || (eqb (get_or labels.now j 0) (get_or labels.now m 0) && edges (length labels.now) table.now.keys.now m j)) result }
 {
     let at = lower_bound_in(table.keys, m as u64 * SPAN, table.rows, m);
     let mut found = seen;
@@ -90,7 +91,8 @@ pub fn passive_flags(components: &[i64], flags: &mut [bool])
 pub fn flag_outside(forward: &[u64], labels: &[usize], passive: &[bool], fed: &mut [bool])
     requires rows { Rows (length labels.now) forward.now }
     requires labels_in_bounds { (length labels.now ≤ length passive.now) × Indices (length labels.now) (length fed.old) labels.now }
-    ensures { Flags (length fed.old) (λ r. some (λ i. outside_key labels.now passive.now r (get_or forward.now i 0)) (length forward.now)) fed.new }
+    ensures { Flags (length fed.old) (λ r.
+        some (λ i. outside_key labels.now passive.now r (get_or forward.now i 0)) (length forward.now)) fed.new }
 {
     let is_outside = |from: usize, to: usize| (labels[from] != labels[to]) & !passive[from];
     flag_sinks(forward, labels, is_outside, fed);

@@ -33,9 +33,11 @@ pub fn build_tables(
     forward_ends: &mut [usize; HINTED],
     backward_ends: &mut [usize; HINTED],
 )
-    requires port_connections { PortConnections ports.now × ((cs : List ℤ) × ((component_count cs ≤ component_limit) × SettledEnds cs ports.now sources.now sinks.now)) }
+    requires port_connections { PortConnections ports.now
+        × ((cs : List ℤ) × ((component_count cs ≤ component_limit) × SettledEnds cs ports.now sources.now sinks.now)) }
     requires forward_len { (length forward.old ≡ port_count ports.now) × (length backward.old ≡ port_count ports.now) }
-    ensures { (cs : List ℤ) → SettledEnds cs ports.now sources.now sinks.now → Tables cs ports.now sources.now sinks.now forward.new backward.new }
+    ensures { (cs : List ℤ) → SettledEnds cs ports.now sources.now sinks.now →
+        Tables cs ports.now sources.now sinks.now forward.new backward.new }
 {
     let mut spare = [0u64; CONNECTIONS];
     list_keys(ports, sources, sinks, COMPONENTS, forward);
@@ -45,8 +47,11 @@ pub fn build_tables(
 
 // Sorts the signal edges by the port that they feed, given their settled ends.
 pub fn build_fed(ports: &[i64], sources: &[usize], sinks: &[usize], fed: &mut [u64])
-    requires port_connections { PortConnections ports.now × ((cs : List ℤ) × ((component_count cs ≤ component_limit) × (Settled cs ports.now 0 sources.now × Settled cs ports.now 2 sinks.now))) }
-    requires ports_in_bounds { (port_count ports.now ≤ length sources.now) × ((port_count ports.now ≤ length sinks.now) × (length fed.old ≡ port_count ports.now)) }
+    requires port_connections { PortConnections ports.now
+        × ((cs : List ℤ) × ((component_count cs ≤ component_limit)
+        × (Settled cs ports.now 0 sources.now × Settled cs ports.now 2 sinks.now))) }
+    requires ports_in_bounds { (port_count ports.now ≤ length sources.now)
+        × ((port_count ports.now ≤ length sinks.now) × (length fed.old ≡ port_count ports.now)) }
     ensures { FedTable ports.now sources.now sinks.now fed.new }
 {
     let mut slots = [0usize; CONNECTIONS];
