@@ -12,11 +12,9 @@ use lists::COMPONENTS;
 pub(crate) fn own_places() -> [usize; COMPONENTS]
     ensures { result ≡ range component_limit }
 {
-    let mut parents = [0usize; COMPONENTS];
-    let mut i = 0;
-    while i < COMPONENTS {
-        parents[i] = i;
-        i += 1;
+    let mut parents = [0; COMPONENTS];
+    for (place, parent) in parents.iter_mut().enumerate() {
+        *parent = place;
     }
     parents
 }
@@ -91,13 +89,11 @@ fn number_roots(parents: &[usize; COMPONENTS], n: usize, numbers: &mut [u64]) ->
     ensures { RootNumbers parents.now n numbers.new × RootCount parents.now n result }
 {
     let mut count: usize = 0;
-    let mut v = 0;
-    while v < n {
+    for v in 0..n {
         numbers[v] = count as u64;
         if parents[v] == v {
             count += 1;
         }
-        v += 1;
     }
     count
 }
@@ -114,11 +110,9 @@ fn write_numbers(
     ensures { (f : Forest) → Represents parents.old ranks.now f →
         out.new ≡ laid (groups_of f n) out.old }
 {
-    let mut v = 0;
-    while v < n {
+    for v in 0..n {
         let root = root_of(parents, ranks, v);
         out[v] = numbers[root];
-        v += 1;
     }
 }
 

@@ -36,10 +36,8 @@ fn settle(keys: &[u64], hints: &[u16; HINTS], connections: &[i64], f: usize, pla
     ensures { (cs : List ℤ) → IdTable cs keys.now → Settled cs connections.now f places.new }
 {
     let count = connections.len() / CONNECTION;
-    let mut k: usize = 0;
-    while k < count {
+    for k in 0..count {
         places[k] = place_or(place_near(keys, hints, natural_at(connections, k * CONNECTION + f)));
-        k += 1;
     }
 }
 
@@ -85,11 +83,9 @@ fn join_all(
         Represents parents.new ranks.new (unite_all f (settled_joins connections.now sources.now sinks.now top (connection_count connections.now))) }
 {
     let count = connections.len() / CONNECTION;
-    let mut k: usize = 0;
-    while k < count {
+    for k in 0..count {
         let counts = natural_at(connections, k * CONNECTION + 2) <= top;
         join_one(counts, sources[k], sinks[k], parents, ranks);
-        k += 1;
     }
 }
 

@@ -1,10 +1,9 @@
 -- Answers for the goals that the search leaves.
-use mathlib.Core.Path.{◌≡◌, refl, ap, ◌∙◌}
-use mathlib.Core.Logic.{⊎_elim}
-use native.Mathlib.Nat.{eq-or-lt_of_le}
+use mathlib.Core.Path.{ap, ◌∙◌}
 use native.Mathlib.Omega.{arith}
-use Prim.Native.Nat.{◌+◌, ◌*◌, ◌≤◌, ◌<◌}
-use lib.ListN.{length, length-set}
+use Prim.Native.Nat.{◌+◌, ◌*◌, ◌≤◌}
+use lib.ListN.{length}
+use borrow.Author.Count.{below_more}
 use lib.Seq.{get_or-set_same, get_or-set_other}
 use Rattle.lists.specs.Ids.{place_of}
 use Rattle.lists.proofs.Search.{record_within}
@@ -27,36 +26,18 @@ place_near-requires c =
     let range = end_range c.args.f c.requires.f_bound.0 in
     omega (arith, c.natural_at.ensures, field_most c.requires.connections c.loop-k.k c.args.f c.loop-k-test.true (omega (arith, c.requires.f_bound.0)) 4294967295 range.0 range.1)
 
--- there is room for the place of a turn
-room : (c : In-loop-k) → c.loop-k.k < length c.loop-k.places
-room c = omega (arith, c.loop-k-test.true, c.loop-k.invariant.1, c.requires.f_bound.1)
-
 pub offset_bounds-places-k : goal.offset_bounds-places-k
 offset_bounds-places-k c = omega (arith, c.loop-k-test.true, c.requires.connections.few)
 
-pub bounds-places-k : goal.bounds-places-k
-bounds-places-k c = room (goal.at.bounds-places-k c).In-loop-k
-
 pub loop-k-preserved : goal.loop-k-preserved
-loop-k-preserved c =
+loop-k-preserved c = λ cs t.
     let l = c.loop-k in
-    let here = room (goal.at.loop-k-preserved c).In-loop-k in (
-      omega (arith, c.loop-k-test.true),
-      simp length-set l.invariant.1,
-      λ cs t j h. ⊎_elim
-          (λ (same : j ≡ l.k). rw same (get_or-set_same l.places l.k _ 0 here ∙ c.place_or.ensures ∙ ap place_or (c.place_near.ensures cs t ∙ ap (place_of cs) c.natural_at.ensures)))
-          (λ (less : j < l.k). get_or-set_other l.places l.k j _ 0 (λ e. omega arith) ∙ l.invariant.2 cs t j less)
-          (eq-or-lt_of_le (let m : j ≤ l.k = omega arith in m)),
-    )
-
-pub shape_of-places : goal.shape_of-places
-shape_of-places c = c.loop-k.invariant.1
+    below_more _ _
+    (λ j less. get_or-set_other l.places l.k j _ 0 (λ e. omega arith) ∙ l.invariant cs t j less)
+    (get_or-set_same l.places l.k _ 0 (omega (arith, c.requires.f_bound.1)) ∙ c.place_or.ensures ∙ ap place_or (c.place_near.ensures cs t ∙ ap (place_of cs) c.natural_at.ensures))
 
 pub returns : goal.returns
-returns c cs t = record { at = λ k h. c.loop-k.invariant.2 cs t k (omega (arith, c.loop-k-test.false)) }
-
-pub loop-k-init : goal.loop-k-init
-loop-k-init c = (omega arith, refl, λ cs t j h. absurd (omega arith))
+returns c = λ cs t. record { at = λ k h. c.loop-k.invariant cs t k (omega arith) }
 
 pub overflow_mul-k : goal.overflow_mul-k
 overflow_mul-k c = omega (arith, within c)
