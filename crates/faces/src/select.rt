@@ -1,5 +1,5 @@
 // Which port a connection takes at an end.
-ghost use Rattle.std.specs.Prelude.{◌≡◌, min};
+ghost use Rattle.std.specs.Prelude.{◌≡◌};
 ghost use Rattle.faces.specs.Rows.{port_of, ports_in};
 ghost use Rattle.faces.specs.Select.{fits, serves, select_port, transfer_of};
 
@@ -11,18 +11,6 @@ use lists::Found;
 pub const CONTROL_KIND: u64 = 8;
 
 pub const SUPPORT_KIND: u64 = 9;
-
-fn wide(x: u8) -> u64
-    ensures { result ≡ x }
-{
-    x as u64
-}
-
-fn least(a: usize, b: usize) -> usize
-    ensures { result ≡ min a b }
-{
-    if a < b { a } else { b }
-}
 
 // Whether a port fits a connection that goes out from it or comes in.
 fn port_fits(port: [u8; 3], outgoing: bool, kind: u64) -> bool
@@ -44,7 +32,7 @@ fn port_fits(port: [u8; 3], outgoing: bool, kind: u64) -> bool
 fn port_serves(port: [u8; 3], face: u64, outgoing: bool, kind: u64) -> bool
     ensures { result ≡ serves (port_of port) face outgoing kind }
 {
-    (wide(port[1]) == face) & port_fits(port, outgoing, kind)
+    (u64::from(port[1]) == face) & port_fits(port, outgoing, kind)
 }
 
 // The first port below the count that has the face and fits.
@@ -57,13 +45,11 @@ pub fn select_port(
 ) -> Found
     ensures { result ≡ select_port (ports_in ports count) face outgoing kind }
 {
-    let end = least(count, PORTS);
-    let mut i: usize = 0;
-    while i < end {
+    let end = count.min(PORTS);
+    for i in 0..end {
         if port_serves(ports[i], face, outgoing, kind) {
             return Found::At(i);
         }
-        i += 1;
     }
     Found::Nothing
 }

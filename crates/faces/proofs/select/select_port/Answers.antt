@@ -27,15 +27,15 @@ whole ports count face outgoing kind n e = ap (first_from (test ports count face
 pub loop-i-init : goal.loop-i-init
 loop-i-init c =
     let a = c.args in
-    whole a.ports a.count a.face a.outgoing a.kind (c.least-end.result - 0)
-    (omega (arith, ports_long a.ports a.count, long c.before, c.least-end.ensures))
+    whole a.ports a.count a.face a.outgoing a.kind (c.min-end.result - 0)
+    (omega (arith, ports_long a.ports a.count, long c.before, c.min-end.ensures))
 
 -- what the call says of the port at i
 tested : (c : After-port_serves)
     →
     c.port_serves.result ≡ test c.args.ports c.args.count c.args.face c.args.outgoing c.args.kind c.loop-i.i
 tested c =
-    let below : c.loop-i.i < c.args.count = omega (arith, c.least-end.ensures, c.loop-i-test.true) in
+    let below : c.loop-i.i < c.args.count = omega (arith, c.min-end.ensures, c.loop-i-test.true) in
     cc (c.port_serves.ensures, port_at_lem c.args.ports c.args.count c.loop-i.i below)
 
 pub returns-then-port_serves : goal.returns-then-port_serves
@@ -49,4 +49,4 @@ loop-i-preserved c =
     ∙ c.loop-i.invariant
 
 pub returns : goal.returns
-returns c = sym (first_none _ _ _ c.loop-i-test.false) ∙ c.loop-i.invariant
+returns c = sym (first_none _ _ _ (omega arith)) ∙ c.loop-i.invariant

@@ -16,6 +16,3 @@ test ports count face outgoing kind k = serves (port_at (ports_in ports count) k
 abbrev pub invariant-loop-i : goal.invariant-loop-i
 invariant-loop-i l =
     first_from (test l.ports l.count l.face l.outgoing l.kind) l.i (l.end - l.i) ≡ select_port (ports_in l.ports l.count) l.face l.outgoing l.kind
-
-abbrev pub decreases-loop-i : goal.decreases-loop-i
-decreases-loop-i l = l.end - l.i
