@@ -1,5 +1,6 @@
 -- Faces by their numbers.
 --     face_or_named, face_or_zero, face_or_above     which numbers name a face
+--     code_range                                  a face has a number from 1 to 6
 --     named_or                                    the face of a number, or another one
 --     same_code                                   faces are one where their numbers are
 --     each_face                                   what holds at each face that can be named holds of every number
@@ -24,7 +25,7 @@ use Rattle.std.specs.Prelude.{Result, Ok, Err}
 use Rattle.std.specs.Result.{result_unwrap_or}
 
 -- a face has a number from 1 to 6
-code_range : (face : Face) → (0 < face_code face) × (face_code face < 7)
+pub code_range : (face : Face) → (0 < face_code face) × (face_code face < 7)
 code_range North = (omega arith, omega arith)
 code_range East = (omega arith, omega arith)
 code_range South = (omega arith, omega arith)
