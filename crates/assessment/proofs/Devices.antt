@@ -28,23 +28,24 @@ pub record PortsPut (id first : ℕ) (status : ℕ → ℕ) (at : ℕ) (old new 
   pub full : place ≡ at + 3 * k
 
 module _ (id first : ℕ) (status : ℕ → ℕ) (at : ℕ) (old : List ℕ) where
-  pub ports_none : PortsPut id first status at old old at 0
+  pub ports_none : {k : ℕ} → k ≡ 0 → PortsPut id first status at old old at k
   unfolding device_rows
-  ports_none = record { put = put_nothing old at; long = refl; full = omega arith }
+  ports_none e = rw e record { put = put_nothing old at; long = refl; full = omega arith }
 
-  pub ports_more : {new newer : List ℕ} {place r k : ℕ} → at ≤ length old → PortsPut id first status at old new place k → (v : ℕ) → v ≡ status (first + k)
-      → Put (id ∷ (first + k) ∷ v ∷ []) place new newer r → length newer ≡ length new → PortsPut id first status at old newer r (k + 1)
+  pub ports_more : {new newer : List ℕ} {place r k k' port v : ℕ} → at ≤ length old → PortsPut id first status at old new place k
+      → port ≡ first + k → k' ≡ k + 1 → v ≡ status port
+      → Put (id ∷ port ∷ v ∷ []) place new newer r → length newer ≡ length new → PortsPut id first status at old newer r k'
   unfolding device_rows
-  ports_more {new} {newer} {place} {r} {k} h p v e q same =
-      rw (add-one k) record {
-        put = put_more h p.put (rw e at q);
+  ports_more {new} {newer} {place} {r} {k} {k'} {port} {v} h p i n e q same =
+      rw (n, add-one k) record {
+        put = put_more h p.put (rw (e, i) at q);
         long = same ∙ p.long;
         full = omega (arith, p.full, q.place);
       }
 
-  pub ports_all : {new : List ℕ} {place k : ℕ} (first' n : ℕ) → first ≡ first' → k ≡ n → PortsPut id first status at old new place k
-      → Put (device_rows id first' status n) at old new place
-  ports_all first' n e f p = rw (← e, ← f) p.put
+  pub ports_all : {new : List ℕ} {place k : ℕ} (n : ℕ) → k ≡ n → PortsPut id first status at old new place k
+      → Put (device_rows id first status n) at old new place
+  ports_all n e p = rw (← e) p.put
 
 pub device_length : (id first : ℕ) (status : ℕ → ℕ) (k : ℕ) → length (device_rows id first status k) ≡ k * 3
 unfolding device_rows

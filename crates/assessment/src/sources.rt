@@ -91,12 +91,8 @@ fn flag_first(components: &[i64], frontiers: &[i64], j: usize, flags: &mut [bool
     requires j_bound { (j < frontier_count frontiers.now) × (component_count components.now ≤ length flags.old) }
     ensures { FirstFlagged (first_at components.now (frontier frontiers.now j)) flags.old flags.new }
 {
-    let found = first_at(components, frontiers, j);
-    match found {
-        Some(p) => {
-            flags[p] = true;
-        }
-        None => {}
+    if let Some(p) = first_at(components, frontiers, j) {
+        flags[p] = true;
     }
 }
 
@@ -106,12 +102,9 @@ pub fn frontier_flags(components: &[i64], frontiers: &[i64], flags: &mut [bool])
     requires components_in_bounds { component_count components.now ≤ length flags.old }
     ensures { Flags (component_count components.now) (is_on_frontier components.now frontiers.now) flags.new }
 {
-    regions::clear_flags(flags);
-    let count = frontiers.len() / FRONTIER;
-    let mut j: usize = 0;
-    while j < count {
+    flags.fill(false);
+    for j in 0..frontiers.len() / FRONTIER {
         flag_first(components, frontiers, j, flags);
-        j += 1;
     }
 }
 
@@ -120,11 +113,7 @@ fn is_drive(components: &[i64], p: usize, on_frontier: bool) -> bool
     requires { Components components.now × (p < component_count components.now) }
     ensures { result ≡ (is_found (source_kind (component components.now p).kind) || on_frontier) }
 {
-    let kind = source_kind(natural_at(components, p * COMPONENT + 4));
-    match kind {
-        Some(_) => true,
-        None => on_frontier,
-    }
+    source_kind(natural_at(components, p * COMPONENT + 4)).is_some() || on_frontier
 }
 
 // Flags the drive sources, given those on frontiers.
@@ -133,10 +122,7 @@ pub fn drive_flags(components: &[i64], on_frontier: &[bool], flags: &mut [bool])
     requires components_in_bounds { (component_count components.now ≤ length on_frontier.now) × (component_count components.now ≤ length flags.old) }
     ensures { Flags (component_count components.now) (λ p. is_found (source_kind (component components.now p).kind) || marked on_frontier.now p) flags.new }
 {
-    let count = components.len() / COMPONENT;
-    let mut p: usize = 0;
-    while p < count {
+    for p in 0..components.len() / COMPONENT {
         flags[p] = is_drive(components, p, on_frontier[p]);
-        p += 1;
     }
 }

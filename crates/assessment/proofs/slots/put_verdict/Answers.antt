@@ -6,7 +6,7 @@ use Rattle.assessment.proofs.Written.{three_puts}
 use Rattle.assessment.proofs.slots.put_verdict.Goals as goal
 
 pub returns : goal.returns
-returns c = three_puts c.args.device c.args.port c.args.status c.args.out.now c.args.at c.requires
+returns c = rw c.status_number.ensures (three_puts _ _ _ _ _ c.requires)
 
 pub bounds-out-at-2 : goal.bounds-out-at-2
 bounds-out-at-2 c = simp length-set (omega arith)
