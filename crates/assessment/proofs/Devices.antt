@@ -5,6 +5,9 @@
 --     below_none, below_more, below_all      a component more
 -- Assumes nothing.
 use Rattle.std.specs.Prelude.{Option, Some, None}
+use Rattle.std.specs.Option.{option_map}
+use Rattle.std.specs.Bool.{then_some}
+use Rattle.assessment.specs.declared.sources.SourceKind.{SourceKind}
 use mathlib.Core.Path.{◌≡◌, refl, sym, ◌∙◌}
 use mathlib.Core.Bool.{Bool, true, false}
 use mathlib.Core.List.{List, [], ◌∷◌, ◌++◌}
@@ -16,7 +19,7 @@ use lib.ListN.{length, length-append}
 use Rattle.lists.proofs.Search.{never}
 use Rattle.signals.specs.Sources.{source_kind}
 use Rattle.assessment.specs.Verdicts.{row_if, kind_row}
-use Rattle.assessment.specs.Rows.{Put, Scanned, device_rows, first_required, required_count, rows_of, sources_of}
+use Rattle.assessment.specs.Rows.{Put, Scanned, device_rows, first_required, required_count, rows_of, source_number, sources_of}
 use Rattle.assessment.proofs.Written.{put_nothing, put_more}
 
 -- ---- the ports of a device
@@ -98,12 +101,9 @@ pub kind_few : (id : ℕ) (found : Option ℕ) → length (kind_row id found) �
 kind_few id (Some k) = omega arith
 kind_few id None = omega arith
 
-pub row_few : (test : Bool) (id kind : ℕ) → length (row_if test id kind) ≤ 2
-row_few true id kind = omega arith
-row_few false id kind = omega arith
-
-pub row_none : (test : Bool) (id kind : ℕ) → test ≡ false → length (row_if test id kind) ≡ 0
-row_none test id kind e = rw e
+pub row_is : (test : Bool) (id : ℕ) (kind : SourceKind) → kind_row id (option_map source_number (then_some test kind)) ≡ row_if test id (source_number kind)
+row_is true id kind = refl
+row_is false id kind = refl
 
 -- ---- numbers read from the list
 

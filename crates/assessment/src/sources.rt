@@ -9,17 +9,35 @@ ghost use Rattle.signals.specs.Sources.{source_kind, same_position, before_posit
 ghost use Rattle.lists.specs.First.{is_found};
 ghost use Rattle.regions.specs.Graph.{marked};
 ghost use Rattle.signals.specs.Flags.{Flags, FirstFlagged};
+ghost use Rattle.std.specs.Option.{option_map};
+ghost use Rattle.assessment.specs.Rows.{source_number};
 
 use lists::numbers::{natural_at, number_less, number_same};
 use lists::{COMPONENT, FRONTIER};
 
-// The source kind of a block's kind: levers, buttons and plates 0, torches and redstone blocks 1.
-pub fn source_kind(kind: u64) -> Option<usize>
-    ensures { result ≡ source_kind kind }
+// Why a component is a source, in the order of its numbers in source rows.
+#[derive(Clone, Copy)]
+pub enum SourceKind {
+    ControllableInput,
+    IntrinsicSource,
+    ObservationBoundary,
+    InferredPrimaryInput,
+}
+
+// The number of a source kind in source rows.
+pub fn source_number(kind: SourceKind) -> u64
+    ensures { result ≡ source_number kind }
+{
+    kind as u64
+}
+
+// The source kind of a block's kind: levers, buttons and plates are inputs, torches and redstone blocks sources of their own.
+pub fn source_kind(kind: u64) -> Option<SourceKind>
+    ensures { option_map source_number result ≡ source_kind kind }
 {
     match kind {
-        3 | 7 => Some(1),
-        4 | 5 | 6 => Some(0),
+        3 | 7 => Some(SourceKind::IntrinsicSource),
+        4 | 5 | 6 => Some(SourceKind::ControllableInput),
         _ => None,
     }
 }

@@ -4,12 +4,12 @@ ghost use Rattle.tables.specs.Order.{Ascending, LowerBound};
 ghost use Rattle.tables.specs.Pairs.{span};
 ghost use Rattle.lists.specs.Records.{component_count};
 ghost use Rattle.lists.specs.Within.{Components};
-ghost use Rattle.lists.specs.First.{is_found};
+ghost use Rattle.std.specs.Option.{option_map};
 ghost use Rattle.signals.specs.Sources.{source_kind};
-ghost use Rattle.assessment.specs.Verdicts.{row_if, kind_row};
-ghost use Rattle.assessment.specs.Rows.{Put, first_required, required_count, slot_fed, Scanned, sources_of, sources_below, InferredAlone};
+ghost use Rattle.assessment.specs.Verdicts.{kind_row};
+ghost use Rattle.assessment.specs.Rows.{Put, first_required, required_count, slot_fed, Scanned, source_number, sources_of, sources_below, InferredAlone};
 
-use super::sources::source_kind;
+use super::sources::{SourceKind, source_kind, source_number};
 use lists::COMPONENT;
 use lists::numbers::natural_at;
 use std::ops::Range;
@@ -37,28 +37,17 @@ pub fn slot_fed(keys: &[u64], slot: usize, at: usize) -> bool
     at < keys.len() && keys[at] / SPAN == slot as u64
 }
 
-// Writes a source row at a place where the test holds, and answers the place after it.
-fn put_source(out: &mut [u64], at: usize, test: bool, id: u64, kind: u64) -> usize
-    requires { test ≡ true → at + 2 ≤ length out.old }
-    ensures { Put (row_if test id kind) at out.old out.new result }
+// Writes a source row at a place where there is a kind, and answers the place after it.
+fn put_source(out: &mut [u64], at: usize, id: u64, kind: Option<SourceKind>) -> usize
+    requires { at + length (kind_row id (option_map source_number kind)) ≤ length out.old }
+    ensures { Put (kind_row id (option_map source_number kind)) at out.old out.new result }
 {
-    if !test {
+    let Some(kind) = kind else {
         return at;
-    }
+    };
     out[at] = id;
-    out[at + 1] = kind;
+    out[at + 1] = source_number(kind);
     at + 2
-}
-
-// Writes the row of a source kind at a place, and answers the place after it.
-fn put_kind(out: &mut [u64], at: usize, id: u64, kind: u64) -> usize
-    requires { is_found (source_kind kind) ≡ true → at + 2 ≤ length out.old }
-    ensures { Put (kind_row id (source_kind kind)) at out.old out.new result }
-{
-    match source_kind(kind) {
-        Some(source) => put_source(out, at, true, id, source as u64),
-        None => at,
-    }
 }
 
 // Writes the source rows of one component from a place on, and answers the place after them.
@@ -74,9 +63,11 @@ fn put_component(
     requires on_frontier_value { inferred ≡ true → on_frontier ≡ false }
     ensures { Put (sources_of id (source_kind kind) on_frontier inferred) at out.old out.new result }
 {
-    let first = put_kind(out, at, id, kind);
-    let second = put_source(out, first, on_frontier, id, 2);
-    put_source(out, second, inferred, id, 3)
+    let boundary = on_frontier.then_some(SourceKind::ObservationBoundary);
+    let primary = inferred.then_some(SourceKind::InferredPrimaryInput);
+    let first = put_source(out, at, id, source_kind(kind));
+    let second = put_source(out, first, id, boundary);
+    put_source(out, second, id, primary)
 }
 
 // Writes the source rows of all components, in list order, and answers how many there are.
