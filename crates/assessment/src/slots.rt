@@ -101,6 +101,7 @@ impl Slots {
     }
 
     // The status of a slot.
+    #[tactic(auto, unfolding(crate::specs::Places::status_at))]
     fn status(&self, j: usize) -> Status
         requires { j < slot_count }
         ensures { status_number result ≡ status_at self.now.fed self.now.driven self.now.possible j }

@@ -32,6 +32,7 @@ pub fn source_number(kind: SourceKind) -> u64
 }
 
 // The source kind of a block's kind: levers, buttons and plates are inputs, torches and redstone blocks sources of their own.
+#[tactic(auto, unfolding(signals::specs::Sources::source_kind))]
 pub fn source_kind(kind: u64) -> Option<SourceKind>
     ensures { option_map source_number result ≡ source_kind kind }
 {

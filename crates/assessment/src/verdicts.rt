@@ -16,6 +16,7 @@ use std::ops::Range;
 use tables::SPAN;
 
 // The ports of a kind that have a verdict row.
+#[tactic(auto, unfolding(crate::specs::Rows::first_required, crate::specs::Rows::required_count))]
 pub fn required_ports(kind: u64) -> Range<usize>
     ensures range { (result.start ≡ first_required kind) × (result.end ≡ first_required kind + required_count kind) }
     ensures few { (result.end ≤ 8) × (result.end ≤ result.start + 4) }

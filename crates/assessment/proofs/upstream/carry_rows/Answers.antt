@@ -1,15 +1,7 @@
 -- Answers for the goals that the search leaves.
 use native.Mathlib.Omega.{arith}
-use Rattle.assessment.proofs.UpRows.{carrying_none, carrying_more, carried_all}
+use Rattle.assessment.proofs.UpRows.{carrying_more, carried_all}
 use Rattle.assessment.proofs.upstream.carry_rows.Goals as goal
-
-pub loop-key-init : goal.loop-key-init
-loop-key-init c = carrying_none c.args.keys.now c.args.rows.now
-
-pub join_row-requires : goal.join_row-requires
-join_row-requires c =
-    let i = c.loop-key.key-index in
-    (c.requires.first i c.loop-key-test.true, c.requires.second i c.loop-key-test.true)
 
 pub loop-key-preserved : goal.loop-key-preserved
 loop-key-preserved c =
