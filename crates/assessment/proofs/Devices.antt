@@ -1,5 +1,5 @@
 -- The rows of a device's ports, a port at a time, and the rows of a list of components, a component at a time.
---     ports_none, ports_more, ports_all      a port more
+--     ports_none, ports_more                 a port more
 --     device_few, sources_few, kind_few, ..   how many rows a component has
 --     rows_read, sources_read                the same rows by numbers that are equal
 --     below_none, below_more, below_all      a component more
@@ -45,10 +45,6 @@ module _ (id first : ℕ) (status : ℕ → ℕ) (at : ℕ) (old : List ℕ) whe
         long = same ∙ p.long;
         full = omega (arith, p.full, q.place);
       }
-
-  pub ports_all : {new : List ℕ} {place k : ℕ} (n : ℕ) → k ≡ n → PortsPut id first status at old new place k
-      → Put (device_rows id first status n) at old new place
-  ports_all n e p = rw (← e) p.put
 
 pub device_length : (id first : ℕ) (status : ℕ → ℕ) (k : ℕ) → length (device_rows id first status k) ≡ k * 3
 unfolding device_rows
