@@ -121,10 +121,7 @@ fn answer(found: Option<usize>) -> u64
     requires { IsPlace found }
     ensures { result ≡ answer_of found }
 {
-    match found {
-        Some(place) => place as u64 + 1,
-        None => 0,
-    }
+    found.map_or(0, |place| place as u64 + 1)
 }
 
 const GREATEST_ID: u64 = 4294967295;
@@ -135,16 +132,14 @@ fn find(components: &[i64], id: u64) -> Option<usize>
     ensures place { IsPlace result }
 {
     let mut keys = [0u64; COMPONENTS];
-    let checked = grouping_lists(
+    grouping_lists(
         components,
         &components[..0],
         &components[..0],
         true,
         &mut keys,
-    );
-    let Ok(()) = checked else {
-        return None;
-    };
+    )
+    .ok()?;
     if GREATEST_ID < id {
         return None;
     }
@@ -159,24 +154,30 @@ pub extern "C" fn probe_place_of(components: &[i64], id: u64) -> u64
     answer(find(components, id))
 }
 
-#[unsafe(no_mangle)]
-pub extern "C" fn probe_place_of_member(components: &[i64], k: usize) -> u64
-    ensures { MemberAnswer (grouping_lists components.now [] [] true) components.now k result }
+// The list place of the component with the k-th smallest id, where the components are accepted and there are so many.
+fn find_member(components: &[i64], k: usize) -> Option<usize>
+    ensures member { MemberAnswer (grouping_lists components.now [] [] true) components.now k (answer_of result) }
+    ensures place { IsPlace result }
 {
     let mut keys = [0u64; COMPONENTS];
-    let checked = grouping_lists(
+    grouping_lists(
         components,
         &components[..0],
         &components[..0],
         true,
         &mut keys,
-    );
-    let Ok(()) = checked else {
-        return 0;
-    };
+    )
+    .ok()?;
     let count = components.len() / COMPONENT;
     if count <= k {
-        return 0;
+        return None;
     }
-    place_at(&keys[..count], k) as u64 + 1
+    Some(place_at(&keys[..count], k))
+}
+
+#[unsafe(no_mangle)]
+pub extern "C" fn probe_place_of_member(components: &[i64], k: usize) -> u64
+    ensures { MemberAnswer (grouping_lists components.now [] [] true) components.now k result }
+{
+    answer(find_member(components, k))
 }
