@@ -33,13 +33,6 @@ struct SourceWords {
     inferred: u64,
 }
 
-fn word(set: ComponentSet, k: usize) -> u64
-    requires { k < word_count }
-    ensures { result ≡ get_or set.words k 0 }
-{
-    set.words[k]
-}
-
 // Word k of the set of immediate sources and of the set of inferred inputs, 0 past the last.
 fn source_words(
     components: &[i64],
@@ -66,8 +59,8 @@ fn source_words(
     }
     let found = required_input(components, ports, frontiers, id, port, stack);
     SourceWords {
-        immediate: word(found.immediate, k),
-        inferred: word(found.inferred, k),
+        immediate: found.immediate.words[k],
+        inferred: found.inferred.words[k],
     }
 }
 
