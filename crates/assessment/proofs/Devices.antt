@@ -1,10 +1,13 @@
 -- The rows of a device's ports, a port at a time, and the rows of a list of components, a component at a time.
---     ports_none, ports_more, ports_all      a port more
+--     ports_none, ports_more                 a port more
 --     device_few, sources_few, kind_few, ..   how many rows a component has
 --     rows_read, sources_read                the same rows by numbers that are equal
 --     below_none, below_more, below_all      a component more
 -- Assumes nothing.
 use Rattle.std.specs.Prelude.{Option, Some, None}
+use Rattle.std.specs.Option.{option_map}
+use Rattle.std.specs.Bool.{then_some}
+use Rattle.assessment.specs.declared.sources.SourceKind.{SourceKind}
 use mathlib.Core.Path.{◌≡◌, refl, sym, ◌∙◌}
 use mathlib.Core.Bool.{Bool, true, false}
 use mathlib.Core.List.{List, [], ◌∷◌, ◌++◌}
@@ -16,7 +19,7 @@ use lib.ListN.{length, length-append}
 use Rattle.lists.proofs.Search.{never}
 use Rattle.signals.specs.Sources.{source_kind}
 use Rattle.assessment.specs.Verdicts.{row_if, kind_row}
-use Rattle.assessment.specs.Rows.{Put, Scanned, device_rows, first_required, required_count, rows_of, sources_of}
+use Rattle.assessment.specs.Rows.{Put, Scanned, device_rows, first_required, required_count, rows_of, source_number, sources_of}
 use Rattle.assessment.proofs.Written.{put_nothing, put_more}
 
 -- ---- the ports of a device
@@ -28,23 +31,20 @@ pub record PortsPut (id first : ℕ) (status : ℕ → ℕ) (at : ℕ) (old new 
   pub full : place ≡ at + 3 * k
 
 module _ (id first : ℕ) (status : ℕ → ℕ) (at : ℕ) (old : List ℕ) where
-  pub ports_none : PortsPut id first status at old old at 0
+  pub ports_none : {k : ℕ} → k ≡ 0 → PortsPut id first status at old old at k
   unfolding device_rows
-  ports_none = record { put = put_nothing old at; long = refl; full = omega arith }
+  ports_none e = rw e record { put = put_nothing old at; long = refl; full = omega arith }
 
-  pub ports_more : {new newer : List ℕ} {place r k : ℕ} → at ≤ length old → PortsPut id first status at old new place k → (v : ℕ) → v ≡ status (first + k)
-      → Put (id ∷ (first + k) ∷ v ∷ []) place new newer r → length newer ≡ length new → PortsPut id first status at old newer r (k + 1)
+  pub ports_more : {new newer : List ℕ} {place r k k' port v : ℕ} → at ≤ length old → PortsPut id first status at old new place k
+      → port ≡ first + k → k' ≡ k + 1 → v ≡ status port
+      → Put (id ∷ port ∷ v ∷ []) place new newer r → length newer ≡ length new → PortsPut id first status at old newer r k'
   unfolding device_rows
-  ports_more {new} {newer} {place} {r} {k} h p v e q same =
-      rw (add-one k) record {
-        put = put_more h p.put (rw e at q);
+  ports_more {new} {newer} {place} {r} {k} {k'} {port} {v} h p i n e q same =
+      rw (n, add-one k) record {
+        put = put_more h p.put (rw (e, i) at q);
         long = same ∙ p.long;
         full = omega (arith, p.full, q.place);
       }
-
-  pub ports_all : {new : List ℕ} {place k : ℕ} (first' n : ℕ) → first ≡ first' → k ≡ n → PortsPut id first status at old new place k
-      → Put (device_rows id first' status n) at old new place
-  ports_all first' n e f p = rw (← e, ← f) p.put
 
 pub device_length : (id first : ℕ) (status : ℕ → ℕ) (k : ℕ) → length (device_rows id first status k) ≡ k * 3
 unfolding device_rows
@@ -97,12 +97,9 @@ pub kind_few : (id : ℕ) (found : Option ℕ) → length (kind_row id found) �
 kind_few id (Some k) = omega arith
 kind_few id None = omega arith
 
-pub row_few : (test : Bool) (id kind : ℕ) → length (row_if test id kind) ≤ 2
-row_few true id kind = omega arith
-row_few false id kind = omega arith
-
-pub row_none : (test : Bool) (id kind : ℕ) → test ≡ false → length (row_if test id kind) ≡ 0
-row_none test id kind e = rw e
+pub row_is : (test : Bool) (id : ℕ) (kind : SourceKind) → kind_row id (option_map source_number (then_some test kind)) ≡ row_if test id (source_number kind)
+row_is true id kind = refl
+row_is false id kind = refl
 
 -- ---- numbers read from the list
 

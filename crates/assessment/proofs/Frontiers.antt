@@ -1,5 +1,4 @@
--- Source kinds, and the components on frontiers, a frontier at a time.
---     kind_below, kind_within, kind_past       source kinds by ranges
+-- The components on frontiers, a frontier at a time.
 --     first_below                              the first component at a position is one of the list
 --     on_first                                  component p is the first at one of the first n frontiers
 --     frontier_none, frontier_more             its flags: one frontier more
@@ -7,40 +6,18 @@
 use Rattle.std.specs.Prelude.{Option, Some, None}
 use mathlib.Core.Path.{◌≡◌, refl, sym, ap, ◌∙◌}
 use mathlib.Core.Bool.{Bool, false, ◌||◌}
-use mathlib.Core.List.{List, [], ◌∷◌}
-use Prim.Native.Nat.{ℕ, zero, suc, ◌+◌, ◌≤◌, ◌<◌}
+use mathlib.Core.List.{List}
+use Prim.Native.Nat.{ℕ, ◌+◌, ◌≤◌, ◌<◌}
 use native.Mathlib.Omega.{arith}
-use lib.ListN.{length, replicate, length-set, length-replicate, get_or-replicate, get_or-eq_default}
+use lib.ListN.{length, replicate, length-set, length-replicate, get_or-replicate}
 use lib.IntN.{ℤ}
 use Rattle.lists.specs.First.{first_from, some}
 use Rattle.lists.specs.Records.{Position, component, frontier, component_count}
 use Rattle.lists.proofs.Search.{or_false, found_at, some_more}
 use Rattle.regions.specs.Graph.{marked}
 use Rattle.signals.specs.Flags.{Flags, flag_found, FirstFlagged}
-use Rattle.signals.specs.Sources.{source_kind, same_position, first_at, is_at}
+use Rattle.signals.specs.Sources.{same_position, first_at, is_at}
 use Rattle.signals.proofs.Marks.{set_marked}
-
-pub kind_below : (kind : ℕ) → kind < 3 → source_kind kind ≡ None
-unfolding source_kind
-kind_below zero h = refl
-kind_below (suc zero) h = refl
-kind_below (suc (suc zero)) h = refl
-kind_below (suc (suc (suc kind))) h = absurd (omega arith)
-
-pub kind_within : (kind : ℕ) → 3 < kind → kind < 7 → source_kind kind ≡ Some 0
-unfolding source_kind
-kind_within zero h l = absurd (omega arith)
-kind_within (suc zero) h l = absurd (omega arith)
-kind_within (suc (suc zero)) h l = absurd (omega arith)
-kind_within (suc (suc (suc zero))) h l = absurd (omega arith)
-kind_within (suc (suc (suc (suc zero)))) h l = refl
-kind_within (suc (suc (suc (suc (suc zero))))) h l = refl
-kind_within (suc (suc (suc (suc (suc (suc zero)))))) h l = refl
-kind_within (suc (suc (suc (suc (suc (suc (suc kind))))))) h l = absurd (omega arith)
-
-pub kind_past : (kind : ℕ) → 8 ≤ kind → source_kind kind ≡ None
-unfolding source_kind
-kind_past kind h = get_or-eq_default (None ∷ None ∷ None ∷ Some 1 ∷ Some 0 ∷ Some 0 ∷ Some 0 ∷ Some 1 ∷ []) None h
 
 pub first_below : (cs : List ℤ) (position : Position) (p : ℕ) → first_at cs position ≡ Some p → p < component_count cs
 unfolding first_at

@@ -1,10 +1,10 @@
 -- The rows of the table of what is upstream of each region.
 --     row_member                         a row's member as one of all words
---     joining-.., joined_all             a row put into another, word by word
---     adding-.., added_all               a row put into a set
+--     joined_all                         a row put into another, word by word
+--     added_all                          a row put into a set
 --     member_put                         a member put into a row
---     seeded_none, seeded_more, ..       the flagged members, one after the other
---     carrying-.., carried_all           one pair of regions more
+--     seeded_none                        no flagged member yet
+--     carrying_more, carried_all         one pair of regions more
 --     carry_none, upstream_all           a member that is flagged nowhere is carried nowhere
 -- Assumes nothing.
 use mathlib.Core.Path.{◌≡◌, refl, sym, ap, ap₂, ◌∙◌}
@@ -12,20 +12,19 @@ use mathlib.Core.Bool.{Bool, true, false, ◌&&◌, ◌||◌, and-false}
 use mathlib.Core.List.{List, [], ◌∷◌}
 use mathlib.Core.Logic.{⊎_elim}
 use Prim.Native.Nat.{ℕ, ◌+◌, ◌*◌, ◌/◌, ◌%◌, ◌^◌, ◌≤◌, ◌<◌}
-use native.Mathlib.Nat.{eq-or-lt_of_le}
 use native.Mathlib.Decide.{dec_lt}
 use native.Mathlib.Numerals.{add-one}
 use native.Mathlib.Omega.{arith}
 use lib.Bits.{bit_or}
 use lib.Dec.{eqb, ltb}
 use lib.ListN.{length, get_or, set, drop}
-use lib.Seq.{get_or-set_same, get_or-set_other, drop-cons}
+use lib.Seq.{drop-cons}
 use borrow.Author.Tests.{eq-eqb, ne_eqb, lt-ltb, le-ltb}
 use Rattle.tables.specs.Laws.{same?}
 use Rattle.tables.specs.Pairs.{span}
 use Rattle.sets.specs.Members.{test_bit, word_count, member_limit, member_of, Inserted}
 use Rattle.sets.proofs.TestBit.{test_or, test_zero}
-use Rattle.sets.proofs.Words.{inserted, member_past, written_more}
+use Rattle.sets.proofs.Words.{inserted, member_past}
 use Rattle.lists.proofs.Search.{or_true, or_false}
 use Rattle.regions.specs.Graph.{at, marked}
 use Rattle.regions.specs.Search.{Zeros}
@@ -41,33 +40,6 @@ pub record Joining (old : List ℕ) (from to w : ℕ) (new : List ℕ) : Type 0 
   pub rest : (q : ℕ) → (to * word_count ≤ q → q < to * word_count + w → ⊥) → get_or new q 0 ≡ get_or old q 0
 
 module _ (old : List ℕ) (from to : ℕ) where
-  pub joining_none : Joining old from to 0 old
-  joining_none = record { done = λ j h. absurd (omega arith); rest = λ q h. refl }
-
-  module _ {new : List ℕ} (w : ℕ) (h : w < word_count) (inside : to * word_count + w < length new) (g : Joining old from to w new) where
-    -- the words that are read are still those of before
-    from_word : get_or new (from * word_count + w) 0 ≡ get_or old (from * word_count + w) 0
-    from_word = g.rest (from * word_count + w) (λ a b. apart (dec_lt from to) a b)
-      where
-        apart : Dec (from < to) → to * word_count ≤ from * word_count + w → from * word_count + w < to * word_count + w → ⊥
-        apart (yes l) a b = omega arith
-        apart (no l) a b = omega arith
-
-    to_word : get_or new (to * word_count + w) 0 ≡ get_or old (to * word_count + w) 0
-    to_word = g.rest (to * word_count + w) (λ a b. omega arith)
-
-    pub joining_more : Joining old from to (w + 1) (set new (to * word_count + w) (bit_or (get_or new (to * word_count + w) 0) (get_or new (from * word_count + w) 0)))
-    joining_more =
-        let i = to * word_count + w in
-        let v = bit_or (get_or new i 0) (get_or new (from * word_count + w) 0) in
-        record {
-          done = λ j l. ⊎_elim
-              (λ (same : j ≡ w). rw same (get_or-set_same new i v 0 inside ∙ ap₂ bit_or to_word from_word))
-              (λ (less : j < w). get_or-set_other new i (to * word_count + j) v 0 (λ e. omega arith) ∙ g.done j less)
-              (eq-or-lt_of_le (let m : j ≤ w = omega arith in m));
-          rest = λ q f. get_or-set_other new i q v 0 (λ e. f (omega arith) (omega arith)) ∙ g.rest q (λ a b. f a (omega arith));
-        }
-
   pub joined_all : {new : List ℕ} (w : ℕ) → w ≡ word_count → Joining old from to w new → Joined old from to new
   joined_all {new} w e g = record { at = λ r k h. ⊎_elim (same r k h) (other r k h) (same? to r) }
     where
@@ -91,18 +63,6 @@ pub record Adding (set₀ rows : List ℕ) (region i : ℕ) (words : List ℕ) :
   pub rest : (j : ℕ) → i ≤ j → get_or words j 0 ≡ get_or set₀ j 0
 
 module _ (set₀ rows : List ℕ) (region : ℕ) where
-  pub adding_none : Adding set₀ rows region 0 set₀
-  adding_none = record { done = λ j h. absurd (omega arith); rest = λ j h. refl }
-
-  pub adding_more : {words : List ℕ} (i : ℕ) → i < length words → Adding set₀ rows region i words
-      → Adding set₀ rows region (i + 1) (set words i (bit_or (get_or words i 0) (get_or rows (region * word_count + i) 0)))
-  adding_more {words} i h g =
-      rw (g.rest i (omega arith))
-      (record {
-        done = written_more (λ (j : ℕ). bit_or (get_or set₀ j 0) (get_or rows (region * word_count + j) 0)) words i h g.done;
-        rest = λ j l. get_or-set_other words i j (bit_or (get_or set₀ i 0) (get_or rows (region * word_count + i) 0)) 0 (λ e. omega arith) ∙ g.rest j (omega arith);
-      })
-
   pub added_all : {words : List ℕ} (i : ℕ) → i ≡ word_count → length set₀ ≡ word_count → length words ≡ word_count → Adding set₀ rows region i words
       → (k : ℕ) → member_of words k ≡ (member_of set₀ k || (ltb k member_limit && in_row rows region k))
   unfolding member_of
@@ -162,48 +122,6 @@ seeded_none labels flags zeros = record {
       ∙ sym (ap (λ (t : Bool). (t && marked flags k) && eqb (at labels k) r) (le-ltb k 0 (omega arith)));
 }
 
--- a number other than n is below n + 1 where it is below n
-below_next : (n k : ℕ) → (n ≡ k → ⊥) → ltb k n ≡ ltb k (n + 1)
-below_next n k other = go (dec_lt k n)
-  where
-    go : Dec (k < n) → ltb k n ≡ ltb k (n + 1)
-    go (yes l) = lt-ltb k n l ∙ sym (lt-ltb k (n + 1) (omega arith))
-    go (no l) = le-ltb k n (omega arith) ∙ sym (le-ltb k (n + 1) (⊎_elim (λ (e : n ≡ k). absurd (other e)) (λ (m : n < k). omega arith) (eq-or-lt_of_le (let w : n ≤ k = omega arith in w))))
-
-module _ {labels : List ℕ} {flags : List Bool} (n : ℕ) {old : List ℕ} (s : Seeded n labels flags old) where
-  abbrev wanted : ℕ → ℕ → ℕ → Bool
-  wanted m r k = (ltb k m && marked flags k) && eqb (at labels k) r
-
-  -- what another member has is not changed by member n
-  others : (r k : ℕ) → k < member_limit → (n ≡ k → ⊥) → in_row old r k ≡ wanted (n + 1) r k
-  others r k h other = s.at r k h ∙ ap (λ (t : Bool). (t && marked flags k) && eqb (at labels k) r) (below_next n k other)
-
-  -- member n is in no row yet
-  fresh : (r k : ℕ) → k < member_limit → n ≡ k → in_row old r k ≡ false
-  fresh r k h e = s.at r k h ∙ ap (λ (t : Bool). (t && marked flags k) && eqb (at labels k) r) (le-ltb k n (omega arith))
-
-  next : (r k : ℕ) → n ≡ k → (marked flags n && eqb (at labels n) r) ≡ wanted (n + 1) r k
-  next r k e =
-      ap (λ (x : ℕ). marked flags x && eqb (at labels x) r) e
-      ∙ sym (ap (λ (t : Bool). (t && marked flags k) && eqb (at labels k) r) (lt-ltb k (n + 1) (omega arith)))
-
-  pub seeded_more : {new : List ℕ} → marked flags n ≡ true → RowMember old (at labels n) n new → Seeded (n + 1) labels flags new
-  seeded_more {new} f m = record {
-    at = λ r k h. m.at r k h
-        ∙ ⊎_elim
-        (λ (e : n ≡ k). rw (fresh r k h e, eq-eqb n k e) (ap (λ (t : Bool). t && eqb (at labels n) r) (sym f) ∙ next r k e))
-        (λ (o : n ≡ k → ⊥). rw (ne_eqb n k o) (sym (or_false (in_row old r k)) ∙ others r k h o))
-        (same? n k);
-  }
-
-  pub seeded_skip : marked flags n ≡ false → Seeded (n + 1) labels flags old
-  seeded_skip f = record {
-    at = λ r k h. ⊎_elim
-        (λ (e : n ≡ k). fresh r k h e ∙ ap (λ (t : Bool). t && eqb (at labels n) r) (sym f) ∙ next r k e)
-        (others r k h)
-        (same? n k);
-  }
-
 -- ---- one pair of regions more
 
 -- what is left to carry gives all
@@ -211,9 +129,6 @@ pub record Carrying (keys old : List ℕ) (i : ℕ) (new : List ℕ) : Type 0 wh
   pub at : (r k : ℕ) → k < member_limit → carry (drop i keys) (λ s. in_row new s k) r ≡ carry keys (λ s. in_row old s k) r
 
 module _ (keys old : List ℕ) where
-  pub carrying_none : Carrying keys old 0 old
-  carrying_none = record { at = λ r k h. refl }
-
   pub carrying_more : {new new' : List ℕ} (i : ℕ) → i < length keys → Carrying keys old i new
       → Joined new (get_or keys i 0 / span) (get_or keys i 0 % span) new' → Carrying keys old (i + 1) new'
   unfolding carry

@@ -8,7 +8,7 @@ use Prim.Native.Nat.{ℕ, ◌+◌, ◌≤◌}
 use native.Mathlib.Nat.{add-zero}
 use native.Mathlib.Numerals.{add-one, add-two}
 use native.Mathlib.Omega.{arith}
-use lib.ListN.{length, set, take, drop, length-append, length-take, length-drop, take-append-drop}
+use lib.ListN.{length, set, take, drop, length-append, length-take, take-append-drop}
 use lib.Seq.{sets-eq, take_at, drop-append-add, drop-drop}
 use Rattle.assessment.specs.Rows.{Put}
 
@@ -23,10 +23,6 @@ three_puts a b c l i h = record { place = omega arith; is = rw (add-one i, add-t
 
 pub put_nothing : (l : List ℕ) (i : ℕ) → Put [] i l l i
 put_nothing l i = record { place = sym (add-zero i); is = rw add-zero (sym (take-append-drop i l)) }
-
-pub put_length : {rows : List ℕ} {at : ℕ} {old new : List ℕ} {r : ℕ} → Put rows at old new r → at + length rows ≤ length old → length new ≡ length old
-put_length {rows} {at} {old} p h =
-    ap length p.is ∙ simp (length-append, length-take, length-drop) (omega arith)
 
 -- rows put after rows
 pub put_more : {rows more : List ℕ} {at : ℕ} {old new newer : List ℕ} {r s : ℕ} → at ≤ length old → Put rows at old new r → Put more r new newer s

@@ -11,6 +11,7 @@ use Rattle.regions.specs.Graph.{marked}
 use Rattle.signals.specs.Signals.{is_signal}
 use Rattle.signals.specs.Flags.{GatheredBy}
 use Rattle.signals.specs.Drive.{drive, potential}
+use Rattle.assessment.specs.declared.slots.Status.{Status}
 
 -- ---- slots
 
@@ -54,3 +55,10 @@ pub record LiveMarks (cs ps fs : List ℤ) (driven possible : List Bool) : Type 
 -- the status of slot j
 unfoldable pub status_at : List Bool → List Bool → List Bool → ℕ → ℕ
 status_at fed driven possible j = cond (not (marked fed j)) 2 (cond (marked driven j) 0 (cond (marked possible j) 1 3))
+
+-- statuses in the numbers of verdict rows
+abbrev pub status_number : Status → ℕ
+status_number Status.DrivenByKnownSource = 0
+status_number Status.AwaitingExternalInput = 1
+status_number Status.Disconnected = 2
+status_number Status.NoKnownSource = 3

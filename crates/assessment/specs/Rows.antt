@@ -13,6 +13,7 @@ use Rattle.lists.specs.Slices.{laid}
 use Rattle.regions.specs.Graph.{marked}
 use Rattle.signals.specs.Keys.{slot, ports}
 use Rattle.signals.specs.Sources.{source_kind}
+use Rattle.assessment.specs.declared.sources.SourceKind.{SourceKind}
 use Rattle.assessment.specs.Verdicts.{row_if, kind_row}
 
 -- the rows stand from place `at` on, and the rest is as it was; r is the place after them
@@ -65,6 +66,13 @@ rows_below cs status zero = []
 rows_below cs status (suc p) = rows_below cs status p ++ rows_of (component cs p).id (component cs p).kind (status p)
 
 -- ---- source rows
+
+-- source kinds in the numbers of source rows
+abbrev pub source_number : SourceKind → ℕ
+source_number SourceKind.ControllableInput = 0
+source_number SourceKind.IntrinsicSource = 1
+source_number SourceKind.ObservationBoundary = 2
+source_number SourceKind.InferredPrimaryInput = 3
 
 abbrev pub sources_of : ℕ → Option ℕ → Bool → Bool → List ℕ
 sources_of id found frontier inferred = kind_row id found ++ (row_if frontier id 2 ++ row_if inferred id 3)

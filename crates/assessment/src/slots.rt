@@ -12,9 +12,9 @@ ghost use Rattle.signals.specs.Flags.{Numbers, Indices};
 ghost use Rattle.signals.specs.Seen.{SignalEnds};
 ghost use Rattle.assessment.specs.Verdicts.{input_rows};
 ghost use Rattle.assessment.specs.Rows.{Put, Scanned, NoneRequired, rows_of, rows_below};
-ghost use Rattle.assessment.specs.Places.{slot_of, slot_count, slot_at, SlotRoom, SlotFlags, LiveMarks, status_at};
+ghost use Rattle.assessment.specs.Places.{slot_of, slot_count, slot_at, SlotRoom, SlotFlags, LiveMarks, status_at, status_number};
 
-use super::verdicts::{first_required, required_count};
+use super::verdicts::required_ports;
 use lists::ids::SUPPORT;
 use lists::numbers::natural_at;
 use lists::{COMPONENT, COMPONENTS, PORT};
@@ -28,6 +28,30 @@ const NOBODY: usize = PLACES * COMPONENTS;
 const SLOTS: usize = NOBODY + 1;
 
 // ---- flags
+
+// The slots whose port is fed, those fed by a driven member, and those fed by one that may be.
+#[derive(Drop)]
+struct Slots {
+    fed: [bool; SLOTS],
+    driven: [bool; SLOTS],
+    possible: [bool; SLOTS],
+}
+
+// What is known of what feeds a port, in the order of its numbers in verdict rows.
+#[derive(Clone, Copy)]
+pub enum Status {
+    DrivenByKnownSource,
+    AwaitingExternalInput,
+    Disconnected,
+    NoKnownSource,
+}
+
+// The number of a status in verdict rows.
+fn status_number(status: Status) -> u64
+    ensures { result ≡ status_number status }
+{
+    status as u64
+}
 
 // The slot of the port that port connection k feeds: nobody's, where it is a support or feeds a port past the places.
 fn slot_at(ports: &[i64], k: usize, sink: usize) -> usize
@@ -49,119 +73,92 @@ fn slot_at(ports: &[i64], k: usize, sink: usize) -> usize
 fn mark_at(flags: &[bool], i: usize) -> bool
     ensures { result ≡ marked flags.now i }
 {
-    if flags.len() <= i {
-        return false;
-    }
-    flags[i]
+    flags.get(i).is_some_and(|flag| *flag)
 }
 
-// Marks the slots that are fed, and those fed from a marked source.
-fn mark_slots(
-    ports: &[i64],
-    sources: &[usize],
-    sinks: &[usize],
-    drive: &[bool],
-    potential: &[bool],
-    fed: &mut [bool],
-    driven: &mut [bool],
-    possible: &mut [bool],
-)
-    requires port_connections { PortConnections ports.now × ((port_count ports.now ≤ length sources.now) × SignalEnds component_limit ports.now sinks.now) }
-    requires fed_value { (fed.old ≡ replicate slot_count false) × ((driven.old ≡ replicate slot_count false) × (possible.old ≡ replicate slot_count false)) }
-    ensures { SlotFlags (port_count ports.now) ports.now sources.now sinks.now drive.now potential.now fed.new driven.new possible.new }
-{
-    let count = ports.len() / PORT;
-    let mut k: usize = 0;
-    while k < count {
-        let j = slot_at(ports, k, sinks[k]);
-        let a = sources[k];
-        fed[j] = true;
-        driven[j] = driven[j] | mark_at(drive, a);
-        possible[j] = possible[j] | mark_at(potential, a);
-        k += 1;
+impl Slots {
+    // Marks the slots that are fed, and those fed from a marked source; none is marked before.
+    fn mark(
+        &mut self,
+        ports: &[i64],
+        sources: &[usize],
+        sinks: &[usize],
+        drive: &[bool],
+        potential: &[bool],
+    )
+        requires port_connections { PortConnections ports.now × ((port_count ports.now ≤ length sources.now) × SignalEnds component_limit ports.now sinks.now) }
+        requires none_marked { (self.old.fed ≡ replicate slot_count false) × ((self.old.driven ≡ replicate slot_count false) × (self.old.possible ≡ replicate slot_count false)) }
+        ensures room { SlotRoom self.new.fed self.new.driven self.new.possible }
+        ensures marked { SlotFlags (port_count ports.now) ports.now sources.now sinks.now drive.now potential.now self.new.fed self.new.driven self.new.possible }
+    {
+        for k in 0..ports.len() / PORT {
+            let j = slot_at(ports, k, sinks[k]);
+            let source = sources[k];
+            self.fed[j] = true;
+            self.driven[j] |= mark_at(drive, source);
+            self.possible[j] |= mark_at(potential, source);
+        }
     }
-}
 
-// The status of a slot: 2 Disconnected, 0 DrivenByKnownSource, 1 AwaitingExternalInput, 3 NoKnownSource.
-fn status_at(fed: &[bool], driven: &[bool], possible: &[bool], j: usize) -> u64
-    requires { (j < length fed.now) × ((j < length driven.now) × (j < length possible.now)) }
-    ensures { result ≡ status_at fed.now driven.now possible.now j }
-{
-    if !fed[j] {
-        return 2;
+    // The status of a slot.
+    #[tactic(auto, unfolding(crate::specs::Places::status_at))]
+    fn status(&self, j: usize) -> Status
+        requires { j < slot_count }
+        ensures { status_number result ≡ status_at self.now.fed self.now.driven self.now.possible j }
+    {
+        if !self.fed[j] {
+            return Status::Disconnected;
+        }
+        if self.driven[j] {
+            return Status::DrivenByKnownSource;
+        }
+        if self.possible[j] {
+            return Status::AwaitingExternalInput;
+        }
+        Status::NoKnownSource
     }
-    if driven[j] {
-        return 0;
-    }
-    if possible[j] {
-        return 1;
-    }
-    3
 }
 
 // ---- rows
 
 // Writes a verdict row at a place, and answers the place after it.
-fn put_verdict(out: &mut [u64], at: usize, device: u64, port: u64, status: u64) -> usize
+fn put_verdict(out: &mut [u64], at: usize, device: u64, port: u64, status: Status) -> usize
     requires { at + 3 ≤ length out.old }
-    ensures { Put (device ∷ port ∷ status ∷ []) at out.old out.new result }
+    ensures { Put (device ∷ port ∷ status_number status ∷ []) at out.old out.new result }
 {
     out[at] = device;
     out[at + 1] = port;
-    out[at + 2] = status;
+    out[at + 2] = status_number(status);
     at + 3
 }
 
 // Writes the rows of a device's required ports from a place on, and answers the place after them.
-fn put_ports(
-    id: u64,
-    kind: u64,
-    member: usize,
-    fed: &[bool],
-    driven: &[bool],
-    possible: &[bool],
-    out: &mut [u64],
-    at: usize,
-) -> usize
-    requires slot_room { SlotRoom fed.now driven.now possible.now × (member < component_limit) }
+fn put_ports(id: u64, kind: u64, member: usize, slots: &Slots, out: &mut [u64], at: usize) -> usize
+    requires member_bound { member < component_limit }
     requires at_in_bounds { at + 12 ≤ length out.old }
-    ensures { Put (rows_of id kind (λ port. status_at fed.now driven.now possible.now (slot_of member port))) at out.old out.new result }
+    ensures { Put (rows_of id kind (λ port. status_at slots.now.fed slots.now.driven slots.now.possible (slot_of member port))) at out.old out.new result }
 {
-    let first = first_required(kind);
-    let count = required_count(kind);
+    let ports = required_ports(kind);
     let mut place = at;
-    let mut k: usize = 0;
-    while k < count {
-        let port = first + k;
-        let status = status_at(fed, driven, possible, member * PLACES + port);
+    for port in ports.start..ports.end {
+        let status = slots.status(member * PLACES + port);
         place = put_verdict(out, place, id, port as u64, status);
-        k += 1;
     }
     place
 }
 
 // Writes the rows of all components, in list order, and answers how many there are.
-fn put_rows(
-    components: &[i64],
-    members: &[usize],
-    fed: &[bool],
-    driven: &[bool],
-    possible: &[bool],
-    out: &mut [u64],
-) -> usize
+fn put_rows(components: &[i64], members: &[usize], slots: &Slots, out: &mut [u64]) -> usize
     requires components { Components components.now × Indices (component_count components.now) component_limit members.now }
-    requires slot_room { SlotRoom fed.now driven.now possible.now × (12 * component_count components.now ≤ length out.old) }
-    ensures { Scanned (rows_below components.now (λ p port. status_at fed.now driven.now possible.now (slot_of (get_or members.now p 0) port)) (component_count components.now))
+    requires out_len { 12 * component_count components.now ≤ length out.old }
+    ensures { Scanned (rows_below components.now (λ p port. status_at slots.now.fed slots.now.driven slots.now.possible (slot_of (get_or members.now p 0) port)) (component_count components.now))
         3 out.old out.new result }
 {
-    let count = components.len() / COMPONENT;
-    let mut at: usize = 0;
-    let mut p: usize = 0;
-    while p < count {
+    let mut at = 0;
+    for p in 0..components.len() / COMPONENT {
         let id = natural_at(components, p * COMPONENT);
         let kind = natural_at(components, p * COMPONENT + 4);
-        at = put_ports(id, kind, members[p], fed, driven, possible, out, at);
-        p += 1;
+        at = put_ports(id, kind, members[p], slots, out, at);
     }
     at / 3
 }
@@ -171,14 +168,10 @@ fn any_required(components: &[i64]) -> bool
     requires { Components components.now }
     ensures { result ≡ false → NoneRequired components.now }
 {
-    let count = components.len() / COMPONENT;
-    let mut p: usize = 0;
-    while p < count {
-        let kind = natural_at(components, p * COMPONENT + 4);
-        if required_count(kind) != 0 {
+    for p in 0..components.len() / COMPONENT {
+        if !required_ports(natural_at(components, p * COMPONENT + 4)).is_empty() {
             return true;
         }
-        p += 1;
     }
     false
 }
@@ -206,18 +199,11 @@ pub fn write_verdicts(
     if !any_required(components) {
         return 0;
     }
-    let mut fed = [false; SLOTS];
-    let mut driven = [false; SLOTS];
-    let mut possible = [false; SLOTS];
-    mark_slots(
-        ports,
-        sources,
-        sinks,
-        drive,
-        potential,
-        &mut fed,
-        &mut driven,
-        &mut possible,
-    );
-    put_rows(components, members, &fed, &driven, &possible, out)
+    let mut slots = Slots {
+        fed: [false; SLOTS],
+        driven: [false; SLOTS],
+        possible: [false; SLOTS],
+    };
+    slots.mark(ports, sources, sinks, drive, potential);
+    put_rows(components, members, &slots, out)
 }

@@ -9,17 +9,36 @@ ghost use Rattle.signals.specs.Sources.{source_kind, same_position, before_posit
 ghost use Rattle.lists.specs.First.{is_found};
 ghost use Rattle.regions.specs.Graph.{marked};
 ghost use Rattle.signals.specs.Flags.{Flags, FirstFlagged};
+ghost use Rattle.std.specs.Option.{option_map};
+ghost use Rattle.assessment.specs.Rows.{source_number};
 
 use lists::numbers::{natural_at, number_less, number_same};
 use lists::{COMPONENT, FRONTIER};
 
-// The source kind of a block's kind: levers, buttons and plates 0, torches and redstone blocks 1.
-pub fn source_kind(kind: u64) -> Option<usize>
-    ensures { result ≡ source_kind kind }
+// Why a component is a source, in the order of its numbers in source rows.
+#[derive(Clone, Copy)]
+pub enum SourceKind {
+    ControllableInput,
+    IntrinsicSource,
+    ObservationBoundary,
+    InferredPrimaryInput,
+}
+
+// The number of a source kind in source rows.
+pub fn source_number(kind: SourceKind) -> u64
+    ensures { result ≡ source_number kind }
+{
+    kind as u64
+}
+
+// The source kind of a block's kind: levers, buttons and plates are inputs, torches and redstone blocks sources of their own.
+#[tactic(auto, unfolding(signals::specs::Sources::source_kind))]
+pub fn source_kind(kind: u64) -> Option<SourceKind>
+    ensures { option_map source_number result ≡ source_kind kind }
 {
     match kind {
-        3 | 7 => Some(1),
-        4 | 5 | 6 => Some(0),
+        3 | 7 => Some(SourceKind::IntrinsicSource),
+        4 | 5 | 6 => Some(SourceKind::ControllableInput),
         _ => None,
     }
 }
@@ -91,12 +110,8 @@ fn flag_first(components: &[i64], frontiers: &[i64], j: usize, flags: &mut [bool
     requires j_bound { (j < frontier_count frontiers.now) × (component_count components.now ≤ length flags.old) }
     ensures { FirstFlagged (first_at components.now (frontier frontiers.now j)) flags.old flags.new }
 {
-    let found = first_at(components, frontiers, j);
-    match found {
-        Some(p) => {
-            flags[p] = true;
-        }
-        None => {}
+    if let Some(p) = first_at(components, frontiers, j) {
+        flags[p] = true;
     }
 }
 
@@ -106,12 +121,9 @@ pub fn frontier_flags(components: &[i64], frontiers: &[i64], flags: &mut [bool])
     requires components_in_bounds { component_count components.now ≤ length flags.old }
     ensures { Flags (component_count components.now) (is_on_frontier components.now frontiers.now) flags.new }
 {
-    regions::clear_flags(flags);
-    let count = frontiers.len() / FRONTIER;
-    let mut j: usize = 0;
-    while j < count {
+    flags.fill(false);
+    for j in 0..frontiers.len() / FRONTIER {
         flag_first(components, frontiers, j, flags);
-        j += 1;
     }
 }
 
@@ -120,11 +132,7 @@ fn is_drive(components: &[i64], p: usize, on_frontier: bool) -> bool
     requires { Components components.now × (p < component_count components.now) }
     ensures { result ≡ (is_found (source_kind (component components.now p).kind) || on_frontier) }
 {
-    let kind = source_kind(natural_at(components, p * COMPONENT + 4));
-    match kind {
-        Some(_) => true,
-        None => on_frontier,
-    }
+    source_kind(natural_at(components, p * COMPONENT + 4)).is_some() || on_frontier
 }
 
 // Flags the drive sources, given those on frontiers.
@@ -133,10 +141,7 @@ pub fn drive_flags(components: &[i64], on_frontier: &[bool], flags: &mut [bool])
     requires components_in_bounds { (component_count components.now ≤ length on_frontier.now) × (component_count components.now ≤ length flags.old) }
     ensures { Flags (component_count components.now) (λ p. is_found (source_kind (component components.now p).kind) || marked on_frontier.now p) flags.new }
 {
-    let count = components.len() / COMPONENT;
-    let mut p: usize = 0;
-    while p < count {
+    for p in 0..components.len() / COMPONENT {
         flags[p] = is_drive(components, p, on_frontier[p]);
-        p += 1;
     }
 }

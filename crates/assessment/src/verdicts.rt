@@ -4,35 +4,28 @@ ghost use Rattle.tables.specs.Order.{Ascending, LowerBound};
 ghost use Rattle.tables.specs.Pairs.{span};
 ghost use Rattle.lists.specs.Records.{component_count};
 ghost use Rattle.lists.specs.Within.{Components};
-ghost use Rattle.lists.specs.First.{is_found};
+ghost use Rattle.std.specs.Option.{option_map};
 ghost use Rattle.signals.specs.Sources.{source_kind};
-ghost use Rattle.assessment.specs.Verdicts.{row_if, kind_row};
-ghost use Rattle.assessment.specs.Rows.{Put, first_required, required_count, slot_fed, Scanned, sources_of, sources_below, InferredAlone};
+ghost use Rattle.assessment.specs.Verdicts.{kind_row};
+ghost use Rattle.assessment.specs.Rows.{Put, first_required, required_count, slot_fed, Scanned, source_number, sources_of, sources_below, InferredAlone};
 
-use super::sources::source_kind;
+use super::sources::{SourceKind, source_kind, source_number};
+use lists::COMPONENT;
 use lists::numbers::natural_at;
-use lists::{COMPONENT};
+use std::ops::Range;
 use tables::SPAN;
 
-// The first port of a kind that has a verdict row.
-pub fn first_required(kind: u64) -> usize
-    ensures { (result ≡ first_required kind) × (result ≤ 4) }
+// The ports of a kind that have a verdict row.
+#[tactic(auto, unfolding(crate::specs::Rows::first_required, crate::specs::Rows::required_count))]
+pub fn required_ports(kind: u64) -> Range<usize>
+    ensures range { (result.start ≡ first_required kind) × (result.end ≡ first_required kind + required_count kind) }
+    ensures few { (result.end ≤ 8) × (result.end ≤ result.start + 4) }
 {
     match kind {
-        1 | 2 => 1,
-        3 => 4,
-        _ => 0,
-    }
-}
-
-// How many ports of a kind have a verdict row, from the first on.
-pub fn required_count(kind: u64) -> usize
-    ensures { (result ≡ required_count kind) × (result ≤ 4) }
-{
-    match kind {
-        1 | 2 | 3 => 1,
-        8 => 4,
-        _ => 0,
+        1 | 2 => 1..2,
+        3 => 4..5,
+        8 => 0..4,
+        _ => 0..0,
     }
 }
 
@@ -42,35 +35,20 @@ pub fn slot_fed(keys: &[u64], slot: usize, at: usize) -> bool
     requires lower_bound { LowerBound keys.now (slot * span) at }
     ensures { result ≡ slot_fed keys.now slot }
 {
-    if keys.len() <= at {
-        return false;
-    }
-    keys[at] / SPAN == slot as u64
+    at < keys.len() && keys[at] / SPAN == slot as u64
 }
 
-// Writes a source row at a place where the test holds, and answers the place after it.
-fn put_source(out: &mut [u64], at: usize, test: bool, id: u64, kind: u64) -> usize
-    requires { test ≡ true → at + 2 ≤ length out.old }
-    ensures { Put (row_if test id kind) at out.old out.new result }
+// Writes a source row at a place where there is a kind, and answers the place after it.
+fn put_source(out: &mut [u64], at: usize, id: u64, kind: Option<SourceKind>) -> usize
+    requires { at + length (kind_row id (option_map source_number kind)) ≤ length out.old }
+    ensures { Put (kind_row id (option_map source_number kind)) at out.old out.new result }
 {
-    if !test {
+    let Some(kind) = kind else {
         return at;
-    }
+    };
     out[at] = id;
-    out[at + 1] = kind;
+    out[at + 1] = source_number(kind);
     at + 2
-}
-
-// Writes the row of a source kind at a place, and answers the place after it.
-fn put_kind(out: &mut [u64], at: usize, id: u64, kind: u64) -> usize
-    requires { is_found (source_kind kind) ≡ true → at + 2 ≤ length out.old }
-    ensures { Put (kind_row id (source_kind kind)) at out.old out.new result }
-{
-    let found = source_kind(kind);
-    match found {
-        Some(source) => put_source(out, at, true, id, source as u64),
-        None => at,
-    }
 }
 
 // Writes the source rows of one component from a place on, and answers the place after them.
@@ -86,9 +64,11 @@ fn put_component(
     requires on_frontier_value { inferred ≡ true → on_frontier ≡ false }
     ensures { Put (sources_of id (source_kind kind) on_frontier inferred) at out.old out.new result }
 {
-    let first = put_kind(out, at, id, kind);
-    let second = put_source(out, first, on_frontier, id, 2);
-    put_source(out, second, inferred, id, 3)
+    let boundary = on_frontier.then_some(SourceKind::ObservationBoundary);
+    let primary = inferred.then_some(SourceKind::InferredPrimaryInput);
+    let first = put_source(out, at, id, source_kind(kind));
+    let second = put_source(out, first, id, boundary);
+    put_source(out, second, id, primary)
 }
 
 // Writes the source rows of all components, in list order, and answers how many there are.
@@ -104,14 +84,11 @@ pub fn put_sources(
     ensures { Scanned (sources_below components.now on_frontier.now inferred.now (component_count components.now))
         2 out.old out.new result }
 {
-    let count = components.len() / COMPONENT;
-    let mut at: usize = 0;
-    let mut p: usize = 0;
-    while p < count {
+    let mut at = 0;
+    for p in 0..components.len() / COMPONENT {
         let id = natural_at(components, p * COMPONENT);
         let kind = natural_at(components, p * COMPONENT + 4);
         at = put_component(out, at, id, kind, on_frontier[p], inferred[p]);
-        p += 1;
     }
     at / 2
 }

@@ -4,11 +4,11 @@
 --     field_short, count_short    a line of a block fits in 40 bytes
 -- Assumes nothing.
 use mathlib.Core.Path.{◌≡◌, refl, ap, ◌∙◌}
-use mathlib.Core.Bool.{Bool, true, false, cond, ◌&&◌}
+use mathlib.Core.Bool.{Bool, true, ◌&&◌}
 use mathlib.Core.List.{List, [], ◌∷◌, ◌++◌, map, append_assoc}
 use Prim.Native.Nat.{ℕ, zero, suc, ◌+◌, ◌^◌, ◌≤◌, ◌<◌}
 use native.Mathlib.Omega.{arith}
-use lib.Dec.{eqb, leb}
+use lib.Dec.{leb}
 use lib.IntN.{pos}
 use lib.ListN.{length, get_or, drop, drop_of_length-le}
 use lib.Seq.{drop-cons}
@@ -20,18 +20,19 @@ use Rattle.lines.proofs.Digits.{count_most, length_of_digits}
 use Rattle.lines.proofs.Writing.{line_size}
 use Rattle.sheet.specs.Keys.{field_key}
 use Rattle.sheet.specs.Writing.{field_lines}
-use Rattle.blocks.specs.Lines.{component_keys, connection_keys, region_keys, source_keys, input_keys, set_line, input_text}
+use Rattle.blocks.specs.Lines.{set_line, input_text}
+use Rattle.blocks.specs.declared.Block.{Block}
 use Rattle.blocks.specs.Blocks.{block_keys, count_name}
 
 -- the lines of a block from line k on
-abbrev pub lines_from : ℕ → List ℕ → ℕ → List ℕ
+abbrev pub lines_from : Block → List ℕ → ℕ → List ℕ
 lines_from block rows k = field_lines (block_keys block) k (map pos (drop k rows))
 
 -- line k
-abbrev pub line_at : ℕ → List ℕ → ℕ → List ℕ
+abbrev pub line_at : Block → List ℕ → ℕ → List ℕ
 line_at block rows k = line_of (field_key (block_keys block) k) (pos (get_or rows k 0))
 
-module _ (block : ℕ) (rows : List ℕ) (k : ℕ) where
+module _ (block : Block) (rows : List ℕ) (k : ℕ) where
   pub fields_one : k < length rows → lines_from block rows k ≡ line_at block rows k ++ lines_from block rows (suc k)
   unfolding field_lines
   fields_one h = rw (drop-cons rows k 0 h)
@@ -44,7 +45,7 @@ module _ (block : ℕ) (rows : List ℕ) (k : ℕ) where
 
 -- line k of its numbers
 abbrev pub row_line : ℕ → ℕ → List ℕ
-row_line k value = line_of (field_key (block_keys 4) k) (pos value)
+row_line k value = line_of (field_key (block_keys Block.Inputs) k) (pos value)
 
 -- its last two lines, its last three and its last four
 abbrev pub set_lines : List ℕ → List ℕ → List ℕ
@@ -68,11 +69,6 @@ input_lines_lem device port status immediate inferred =
 
 -- ---- lengths
 
--- of two, whichever the test takes
-either : {A : Type 0} (P : A → Type 0) (t : Bool) {x y : A} → P x → P y → P (cond t x y)
-either P true p q = p
-either P false p q = q
-
 abbrev all_short : List (List ℕ) → Bool
 all_short [] = true
 all_short (key ∷ keys) = leb (length key) 11 && all_short keys
@@ -85,23 +81,25 @@ short_at [] j e = omega arith
 short_at (key ∷ keys) zero e = leb-true (length key) 11 (both (leb (length key) 11) (all_short keys) e).0
 short_at (key ∷ keys) (suc j) e = short_at keys j (both (leb (length key) 11) (all_short keys) e).1
 
-block_short : (b : ℕ) → Short (block_keys b)
-block_short b =
-    either Short (eqb b 0) {x = component_keys} refl
-    (either Short (eqb b 1) {x = connection_keys} refl
-    (either Short (eqb b 2) {x = region_keys} refl (either Short (eqb b 3) {x = source_keys} {y = input_keys} refl refl)))
+block_short : (b : Block) → Short (block_keys b)
+block_short Block.Components = refl
+block_short Block.Connections = refl
+block_short Block.Regions = refl
+block_short Block.Sources = refl
+block_short Block.Inputs = refl
 
-name_short : (b : ℕ) → length (count_name b) ≤ 11
-name_short b =
-    let P : List ℕ → Type 0 = λ key. length key ≤ 11 in
-    either P (eqb b 0) (omega arith)
-    (either P (eqb b 1) (omega arith) (either P (eqb b 2) (omega arith) (either P (eqb b 3) (omega arith) (omega arith))))
+name_short : (b : Block) → length (count_name b) ≤ 11
+name_short Block.Components = omega arith
+name_short Block.Connections = omega arith
+name_short Block.Regions = omega arith
+name_short Block.Sources = omega arith
+name_short Block.Inputs = omega arith
 
 line_short : (key : List ℕ) (value : ℕ) → length key ≤ 11 → value < 2 ^ 64 → 0 + length (line_of key (pos value)) ≤ 40
 line_short key value h l = omega (arith, line_size key (pos value), length_of_digits value l [], count_most value l)
 
-pub field_short : (b k value : ℕ) → value < 2 ^ 64 → 0 + length (line_of (field_key (block_keys b) k) (pos value)) ≤ 40
+pub field_short : (b : Block) (k value : ℕ) → value < 2 ^ 64 → 0 + length (line_of (field_key (block_keys b) k) (pos value)) ≤ 40
 field_short b k value l = line_short (field_key (block_keys b) k) value (short_at (block_keys b) _ (block_short b)) l
 
-pub count_short : (b count : ℕ) → count < 2 ^ 64 → 0 + length (line_of (count_name b) (pos count)) ≤ 40
+pub count_short : (b : Block) (count : ℕ) → count < 2 ^ 64 → 0 + length (line_of (count_name b) (pos count)) ≤ 40
 count_short b count l = line_short (count_name b) count (name_short b) l

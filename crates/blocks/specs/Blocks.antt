@@ -1,11 +1,12 @@
 -- What the functions that measure and write lines and blocks hand on to each other. No line of a report rests on these.
---     block_keys, count_name, block_text    the blocks by number: 0 components, 1 connections, 2 regions, 3 sources, 4 inputs
+--     block_keys, count_name, block_text    the blocks
 --     left_after                          how much room is left
 --     ids_in                              the ids of a set's members, by the table of ids
 --     blank_if                            a blank between two ids
 -- Assumes nothing: these are definitions.
 use Rattle.std.specs.Prelude.{Option, Some, None}
-use Rattle.std.specs.Prelude.{ℕ, zero, suc, ◌-◌, ◌/◌, Bool, true, false, cond, List, [], ◌∷◌, eqb, leb, length, get_or}
+use Rattle.std.specs.Prelude.{ℕ, zero, suc, ◌-◌, ◌/◌, Bool, true, false, cond, List, [], ◌∷◌, leb, length, get_or}
+use Rattle.blocks.specs.declared.Block.{Block}
 use Rattle.tables.specs.Pairs.{span}
 use Rattle.sets.specs.Members.{member_of}
 use Rattle.lines.specs.Text.{ascii}
@@ -14,17 +15,22 @@ use Rattle.blocks.specs.Lines.{component_keys, connection_keys, region_keys, sou
 -- ---- blocks
 
 -- the keys of a block's rows
-abbrev pub block_keys : ℕ → List (List ℕ)
-block_keys b =
-    cond (eqb b 0) component_keys (cond (eqb b 1) connection_keys (cond (eqb b 2) region_keys (cond (eqb b 3) source_keys input_keys)))
+abbrev pub block_keys : Block → List (List ℕ)
+block_keys Block.Components = component_keys
+block_keys Block.Connections = connection_keys
+block_keys Block.Regions = region_keys
+block_keys Block.Sources = source_keys
+block_keys Block.Inputs = input_keys
 
 -- the key of its count
-abbrev pub count_name : ℕ → List ℕ
-count_name b =
-    cond (eqb b 0) (ascii "components")
-    (cond (eqb b 1) (ascii "connections") (cond (eqb b 2) (ascii "regions") (cond (eqb b 3) (ascii "sources") (ascii "inputs"))))
+abbrev pub count_name : Block → List ℕ
+count_name Block.Components = ascii "components"
+count_name Block.Connections = ascii "connections"
+count_name Block.Regions = ascii "regions"
+count_name Block.Sources = ascii "sources"
+count_name Block.Inputs = ascii "inputs"
 
-abbrev pub block_text : ℕ → List ℕ → List ℕ
+abbrev pub block_text : Block → List ℕ → List ℕ
 block_text b rows = block (count_name b) (block_keys b) rows
 
 -- ---- room

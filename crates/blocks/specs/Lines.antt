@@ -7,6 +7,7 @@
 -- Assumes nothing: these are definitions.
 use Rattle.std.specs.Prelude.{ℕ, ◌/◌, List, [], ◌∷◌, ◌++◌, map, length, pos}
 use Rattle.lists.specs.declared.Refusal.{Refusal}
+use Rattle.lists.specs.Refusal.{fault_number, list_number}
 use Rattle.lines.specs.Text.{ascii}
 use Rattle.lines.specs.Decimal.{digits, line_of}
 use Rattle.sheet.specs.Writing.{field_lines}
@@ -55,4 +56,4 @@ input_text device port status immediate inferred =
 
 unfoldable pub refusal_lines : Refusal → List ℕ
 refusal_lines r =
-    line_of (ascii "answer") (pos r.number) ++ (line_of (ascii "list") (pos r.list) ++ line_of (ascii "item") (pos r.item))
+    line_of (ascii "answer") (pos (fault_number r.fault)) ++ (line_of (ascii "list") (pos (list_number r.list)) ++ line_of (ascii "item") (pos r.item))

@@ -6,7 +6,7 @@ ghost use Rattle.lines.specs.Wrote.{Put};
 ghost use Rattle.blocks.specs.Lines.{refusal_lines};
 
 use super::writers::put_natural;
-use lists::Refusal;
+use lists::{Refusal, fault_number, list_number};
 
 // Writes the first line of a report into the rest of `out` from `at` on, and answers where it ends.
 pub fn put_accepted(out: &mut [u8], at: usize) -> usize
@@ -21,7 +21,7 @@ pub fn put_refusal(out: &mut [u8], at: usize, refusal: Refusal) -> usize
     requires { at + length (refusal_lines refusal) ≤ length out.old }
     ensures { Put at (refusal_lines refusal) out.old out.new result }
 {
-    let a = put_natural(out, at, b"answer", refusal.number);
-    let b = put_natural(out, a, b"list", refusal.list);
+    let a = put_natural(out, at, b"answer", fault_number(refusal.fault));
+    let b = put_natural(out, a, b"list", list_number(refusal.list));
     put_natural(out, b, b"item", refusal.item as u64)
 }

@@ -27,7 +27,12 @@ pub fn put_ids(out: &mut [u8], at: usize, key: &[u8], set: ComponentSet, keys: &
 }
 
 // How many bytes are left after that line.
-pub fn left_after_ids(left: Option<usize>, key: &[u8], set: ComponentSet, keys: &[u64]) -> Option<usize>
+pub fn left_after_ids(
+    left: Option<usize>,
+    key: &[u8],
+    set: ComponentSet,
+    keys: &[u64],
+) -> Option<usize>
     requires { length keys.now ≤ member_limit }
     ensures { result ≡ left_after left (length (set_line key.now (ids_in keys.now set.words))) }
 {

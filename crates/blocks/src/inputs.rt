@@ -7,11 +7,8 @@ ghost use Rattle.blocks.specs.Blocks.{ids_in, left_after};
 
 use super::ids::{left_after_ids, put_ids};
 use super::keys::{field_length, put_field};
-use super::left_after;
+use super::{Block, left_after};
 use sets::ComponentSet;
-
-// The number of this block.
-const INPUTS: u64 = 4;
 
 // Writes a row into the rest of `out` from `at` on, given the table of ids, and answers where it ends.
 pub fn put_input(
@@ -28,9 +25,9 @@ pub fn put_input(
     requires words_in_bounds { at + length (input_text device port status (ids_in keys.now immediate.words) (ids_in keys.now inferred.words)) ≤ length out.old }
     ensures { Put at (input_text device port status (ids_in keys.now immediate.words) (ids_in keys.now inferred.words)) out.old out.new result }
 {
-    let a = put_field(out, at, INPUTS, 0, device);
-    let b = put_field(out, a, INPUTS, 1, port);
-    let c = put_field(out, b, INPUTS, 2, status);
+    let a = put_field(out, at, Block::Inputs, 0, device);
+    let b = put_field(out, a, Block::Inputs, 1, port);
+    let c = put_field(out, b, Block::Inputs, 2, status);
     let d = put_ids(out, c, b"immediate", immediate, keys);
     put_ids(out, d, b"inferred", inferred, keys)
 }
@@ -48,9 +45,9 @@ pub fn left_after_input(
     requires { length keys.now ≤ member_limit }
     ensures { result ≡ left_after left (length (input_text device port status (ids_in keys.now immediate.words) (ids_in keys.now inferred.words))) }
 {
-    let a = left_after(left, field_length(INPUTS, 0, device));
-    let b = left_after(a, field_length(INPUTS, 1, port));
-    let c = left_after(b, field_length(INPUTS, 2, status));
+    let a = left_after(left, field_length(Block::Inputs, 0, device));
+    let b = left_after(a, field_length(Block::Inputs, 1, port));
+    let c = left_after(b, field_length(Block::Inputs, 2, status));
     let d = left_after_ids(c, b"immediate", immediate, keys);
     left_after_ids(d, b"inferred", inferred, keys)
 }

@@ -14,46 +14,44 @@ ghost use Rattle.blocks.specs.Blocks.{block_text, left_after};
 
 use keys::{count_length, field_length, put_count, put_field, width};
 
+// The blocks of a report, in order.
+#[derive(Clone, Copy)]
+pub enum Block {
+    Components,
+    Connections,
+    Regions,
+    Sources,
+    Inputs,
+}
+
 // How many bytes of a buffer are left after n of them, where it has so many. The rest only falls, so that no sum of lengths is taken.
 pub fn left_after(left: Option<usize>, n: usize) -> Option<usize>
     ensures { result ≡ left_after left n }
 {
-    match left {
-        None => None,
-        Some(rest) => {
-            if n <= rest {
-                return Some(rest - n);
-            }
-            None
-        }
-    }
+    left?.checked_sub(n)
 }
 
 // How many are left after a block.
-pub fn left_after_block(left: Option<usize>, block: u64, rows: &[u64]) -> Option<usize>
+pub fn left_after_block(left: Option<usize>, block: Block, rows: &[u64]) -> Option<usize>
     ensures { result ≡ left_after left (length (block_text block rows.now)) }
 {
     let count = rows.len() / width(block);
     let mut rest = left_after(left, count_length(block, count as u64));
-    let mut k: usize = 0;
-    while k < rows.len() {
-        rest = left_after(rest, field_length(block, k, rows[k]));
-        k += 1;
+    for (k, value) in rows.iter().enumerate() {
+        rest = left_after(rest, field_length(block, k, *value));
     }
     rest
 }
 
 // Writes a block into the rest of `out` from `at` on, and answers where it ends.
-pub fn put_block(out: &mut [u8], at: usize, block: u64, rows: &[u64]) -> usize
+pub fn put_block(out: &mut [u8], at: usize, block: Block, rows: &[u64]) -> usize
     requires { at + length (block_text block rows.now) ≤ length out.old }
     ensures { Put at (block_text block rows.now) out.old out.new result }
 {
     let count = rows.len() / width(block);
     let mut p = put_count(out, at, block, count as u64);
-    let mut k: usize = 0;
-    while k < rows.len() {
-        p = put_field(out, p, block, k, rows[k]);
-        k += 1;
+    for (k, value) in rows.iter().enumerate() {
+        p = put_field(out, p, block, k, *value);
     }
     p
 }

@@ -8,5 +8,4 @@ pub mod Closure
 pub mod Roots
 pub mod Numbering
 pub mod Settling
-pub mod Sharing
 pub mod Nets

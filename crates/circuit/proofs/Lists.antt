@@ -2,7 +2,7 @@
 --     same_or_not, three_ways         two numbers are equal or not; the one is less than, equal to or greater than the other
 --     get_or_map, get_or_range            what stands at a place below the length
 --     length_range                    the length of 0, 1, …, n - 1
---     own_more, own_range             the list 0, 1, …, n - 1 stored place by place
+--     own_range                       a list whose every place holds its own number
 --     redirect_hit, redirect_miss     `redirect` at the loser, and at any other place
 --     count-≤-length, count_pos       a count is at most the length, and above 0 at what the list holds
 --     count_winner, count_other       what a `redirect` does to the counts
@@ -16,9 +16,8 @@ use mathlib.Core.Bool.{Bool, true, false}
 use mathlib.Core.List.{List, [], ◌∷◌, map}
 use mathlib.Core.Logic.{◌⊎◌, inl, inr, ⊎_elim, ◌≢◌}
 use lib.Dec.{eqb, ltb}
-use lib.ListN.{length, get_or, set, length-append, get_or-append}
-use lib.Seq.{get_or_at, get_or-set_same, get_or-set_other, ext_get_or}
-use borrow.Author.Count.{below_more}
+use lib.ListN.{length, get_or, length-append, get_or-append}
+use lib.Seq.{get_or_at, ext_get_or}
 use borrow.Author.Tests.{eqb-true, eqb-false, ltb-true, ltb-false, eq-eqb, ne_eqb}
 use Rattle.circuit.specs.Forest.{range, count, redirect}
 
@@ -54,13 +53,6 @@ get_or_range (suc n) i h =
     (λ e. get_or_at (range n) n [] 0 i (length_range n ∙ sym e) ∙ sym e)
     (λ lt. get_or-append (range n) (n ∷ []) 0 i (rw length_range lt) ∙ get_or_range n i lt)
     (eq-or-lt_of_le (le_of_suc-le-suc h))
-
--- one place more that holds its own number
-pub own_more : (l : List ℕ) (i : ℕ) → i < length l → ((k : ℕ) → k < i → get_or l k 0 ≡ k) → (k : ℕ) → k < i + 1 → get_or (set l i i) k 0 ≡ k
-own_more l i h own =
-    below_more (λ k. get_or (set l i i) k 0 ≡ k) i
-    (λ k lt. get_or-set_other l i k i 0 (λ e. omega arith) ∙ own k lt)
-    (get_or-set_same l i i 0 h)
 
 -- a list whose every place holds its own number
 pub own_range : (n : ℕ) (l : List ℕ) → length l ≡ n → ((k : ℕ) → k < n → get_or l k 0 ≡ k) → l ≡ range n

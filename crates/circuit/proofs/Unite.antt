@@ -1,7 +1,7 @@
 -- Union by rank on two roots l and r, case by case: what `unite_roots` is, and that the arrays' stores stand for it.
 --     rank_fits       a rank in the array is at most rank_limit
 --     unite_same, unite_left_lower, unite_right_lower, unite_level   the definition's four cases
---     same_root       one root: nothing changes
+--     one_root        one root: nothing changes
 --     left_lower      the left root goes under the right one
 --     right_lower     the right root goes under the left one
 --     level           so it does at equal rank, and the left root's rank grows
@@ -11,7 +11,7 @@ use Prim.Native.Nat.{ℕ, ◌+◌, ◌^◌, ◌≤◌, ◌<◌}
 use native.Mathlib.Nat.{pow-suc, le_refl, le_of_lt}
 use native.Mathlib.Numerals.{add-one}
 use native.Mathlib.Omega.{arith}
-use mathlib.Core.Path.{◌≡◌, refl, sym, ap, ◌∙◌}
+use mathlib.Core.Path.{◌≡◌, refl, sym, ap, ◌∙◌, subst}
 use mathlib.Core.List.Memᴰ
 use mathlib.Core.List.{List, [], ◌∷◌}
 use mathlib.Core.Logic.{◌⊎◌, inl, inr, ◌≢◌}
@@ -45,6 +45,11 @@ module _ (f : Forest) (l r : ℕ) where
   unite_level n e =
       rw (ne_eqb l r n, le-ltb (rank f l) (rank f r) (omega arith), le-ltb (rank f r) (rank f l) (omega arith))
 
+-- two places of one root: nothing changes
+pub one_root : (f : Forest) (left right : ℕ) → root f left ≡ root f right → f ≡ unite f left right
+unfolding unite
+one_root f left right e = sym (unite_same f (root f left) (root f right) e)
+
 -- two roots of equal rank have twice the places between them
 two_trees : (k : ℕ) {a b : ℕ} → 2 ^ k ≤ a → 2 ^ k ≤ b → 2 ^ (k + 1) ≤ a + b
 two_trees k ha hb = omega (arith, ap (λ (n : ℕ). 2 ^ n) (add-one k) ∙ pow-suc 2 k)
@@ -77,9 +82,6 @@ module _ (parents ranks : List ℕ) (f : Forest) (rep : Represents parents ranks
     at_roots : unite f left right ≡ unite_roots f l r
     unfolding unite
     at_roots = rw (l-found, r-found)
-
-    pub same_root : l ≡ r → Represents parents ranks (unite f left right)
-    same_root e = rw (at_roots, unite_same f l r e) rep
 
     pub left_lower : l ≢ r → get_or ranks l 0 < get_or ranks r 0 → Represents (set parents l r) ranks (unite f left right)
     left_lower n lt =
@@ -119,7 +121,7 @@ unite_well_formed f wf left right hl hr = go (same_or_not (root f left) (root f 
     go : (root f left ≡ root f right) ⊎ (root f left ≢ root f right)
         → (rank f (root f left) < rank f (root f right)) ⊎ ((rank f (root f left) ≡ rank f (root f right)) ⊎ (rank f (root f right) < rank f (root f left)))
         → WellFormed (unite f left right)
-    go (inl e) way = (same_root _ _ f rep left right _ _ hl hr refl refl e).forest
+    go (inl e) way = subst WellFormed (one_root f left right e) wf
     go (inr n) (inl lt) = (left_lower _ _ f rep left right _ _ hl hr refl refl n lt).forest
     go (inr n) (inr (inl e)) = (level _ _ f rep left right _ _ hl hr refl refl n e).forest
     go (inr n) (inr (inr lt)) = (right_lower _ _ f rep left right _ _ hl hr refl refl n lt).forest

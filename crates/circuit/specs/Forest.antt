@@ -6,11 +6,12 @@
 --     WellFormed            a root is its own root, ranks rise towards it, and a root of rank r has at least 2 ^ r places
 --     Represents            the arrays of parents and of ranks stand for a forest
 --     follow                steps up the parents
+--     seen                  the forest that the arrays stand for
 --     Found                 what `find` ensures
 -- Assumes nothing: these are definitions.
 use Rattle.std.specs.Prelude.{ℕ, zero, suc, ◌+◌, ◌^◌, ◌≤◌, ◌<◌, ◌≡◌, cond, ◌⊎◌, eqb, ltb, length, get_or, set, replicate}
 use mathlib.Core.List.{List, [], ◌∷◌, ◌++◌, map, foldl}
-use Rattle.lists.specs.Limits.{component_limit}
+use Rattle.lists.specs.Limits.{component_limit, rank_limit}
 
 pub record Forest : Type 0 where
   pub roots : List ℕ
@@ -88,6 +89,10 @@ pub record Represents (parents ranks : List ℕ) (f : Forest) : Type 0 where
 unfoldable pub follow : List ℕ → ℕ → ℕ → ℕ
 follow parents zero v = v
 follow parents (suc k) v = follow parents k (get_or parents v 0)
+
+-- the forest that the arrays stand for, if they stand for one: rank_limit steps up the parents lead to each root
+unfoldable pub seen : List ℕ → List ℕ → Forest
+seen parents ranks = record { roots = map (follow parents rank_limit) (range component_limit); ranks = ranks }
 
 -- the arrays stand for some forest. It is the only one, since rank_limit steps up the parents lead to each root (proofs/Follow.antt)
 abbrev pub IsForest : List ℕ → List ℕ → Type 0

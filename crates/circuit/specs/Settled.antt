@@ -7,7 +7,6 @@ use Rattle.lists.specs.Records.{natural_at, connection, connection_count}
 use Rattle.lists.specs.Ids.{place_of}
 use Rattle.circuit.specs.Forest.{singletons, unite_all}
 use Rattle.circuit.specs.Groups.{roots_below, groups_of}
-use Rattle.lists.specs.Slices.{laid}
 
 -- a place; the limit stands for none
 abbrev pub place_or : Option ℕ → ℕ
@@ -29,10 +28,10 @@ settled_joins ps sources sinks top (suc k) =
     settled_joins ps sources sinks top k
     ++ settled_join (leb (connection ps k).kind top) (get_or sources k 0) (get_or sinks k 0)
 
--- the groups of the first n places by their settled ends
-pub record SettledGroups (ps : List ℤ) (sources sinks : List ℕ) (top n : ℕ) (out out' : List ℕ) (r : ℕ) : Type 0 where
-  pub numbers : out' ≡ laid (groups_of (unite_all singletons (settled_joins ps sources sinks top (connection_count ps))) n) out
-  pub count : r ≡ roots_below (unite_all singletons (settled_joins ps sources sinks top (connection_count ps))) n
+-- the groups of the first places by their settled ends, a number for each
+pub record SettledGroups (ps : List ℤ) (sources sinks : List ℕ) (top : ℕ) (numbers : List ℕ) (r : ℕ) : Type 0 where
+  pub numbers_lem : numbers ≡ groups_of (unite_all singletons (settled_joins ps sources sinks top (connection_count ps))) (length numbers)
+  pub count : r ≡ roots_below (unite_all singletons (settled_joins ps sources sinks top (connection_count ps))) (length numbers)
 
 -- each settled end is a place below n, or none
 pub record Ends (n m : ℕ) (places : List ℕ) : Type 0 where

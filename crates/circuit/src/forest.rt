@@ -1,32 +1,15 @@
 // Union-find by Tarjan over the list places of a scene's components: union by rank, with chains flattened by `find`;
 // and the numbers of the groups.
-ghost use Rattle.std.specs.Prelude.{◌≡◌, ◌<◌, ◌≤◌, length};
+ghost use Rattle.std.specs.Prelude.{◌≡◌, ℕ, ◌<◌, ◌≤◌, length, slice_index};
 ghost use Rattle.lists.specs.Limits.{component_limit};
-ghost use Rattle.lists.specs.Slices.{laid};
-ghost use Rattle.circuit.specs.Forest.{Forest, range, unite, Represents, IsForest, Found};
-ghost use Rattle.circuit.specs.Groups.{groups_of, RootNumbers, RootCount, Numberable, Numbered};
+ghost use Rattle.circuit.specs.Forest.{root, singletons, unite, IsForest, Found};
+ghost use Rattle.circuit.specs.Groups.{roots_below, groups_of, RootNumbers, RootsWithin};
 
 use lists::COMPONENTS;
+use std::marker::Model;
 
-// The parents at first: each place is its own.
-pub(crate) fn own_places() -> [usize; COMPONENTS]
-    ensures { result ≡ range component_limit }
-{
-    let mut parents = [0usize; COMPONENTS];
-    let mut i = 0;
-    while i < COMPONENTS {
-        parents[i] = i;
-        i += 1;
-    }
-    parents
-}
-
-// The root of v. Each place on the way to it gets it for a parent.
-pub(crate) fn find(
-    parents: &mut [usize; COMPONENTS],
-    ranks: &[usize; COMPONENTS],
-    v: usize,
-) -> usize
+// The root of v. Each place on the way to it gets it for a parent. Over the arrays, since a forest does not show its chains.
+fn find(parents: &mut [usize; COMPONENTS], ranks: &[usize; COMPONENTS], v: usize) -> usize
     requires { (v < component_limit) × IsForest parents.old ranks.now }
     ensures { Found parents.old parents.new ranks.now v result }
 {
@@ -56,85 +39,112 @@ fn root_of(parents: &mut [usize; COMPONENTS], ranks: &[usize; COMPONENTS], v: us
     find(parents, ranks, v)
 }
 
-// Joins the group of left, a connection's source, and that of right, its sink: the root of lower rank goes under the
-// other. At equal rank the right root goes under the left one, whose rank grows.
-pub(crate) fn union(
-    parents: &mut [usize; COMPONENTS],
-    ranks: &mut [usize; COMPONENTS],
-    left: usize,
-    right: usize,
-)
-    requires { (left < component_limit) × (right < component_limit) × IsForest parents.old ranks.old }
-    ensures { (f : Forest) → Represents parents.old ranks.old f →
-        Represents parents.new ranks.new (unite f left right) }
-{
-    let l = root_of(parents, ranks, left);
-    let r = root_of(parents, ranks, right);
-    if l == r {
-        return;
-    }
-    let low = ranks[l];
-    let high = ranks[r];
-    if low < high {
-        parents[l] = r;
-    } else {
-        parents[r] = l;
-        if low == high {
-            ranks[l] = low + 1;
+// The parent and the rank of each place. A root is its own parent.
+#[derive(Drop)]
+pub(crate) struct UnionFind {
+    parents: [usize; COMPONENTS],
+    ranks: [usize; COMPONENTS],
+}
+
+// Clauses see the forest that the arrays stand for.
+impl Model for UnionFind {
+    ghost use Rattle.circuit.specs.Forest.{Forest, seen, Represents};
+
+    ghost Value = { Forest };
+
+    ghost view = { λ u. seen u.parents u.ranks };
+
+    ghost invariant = { λ u. Represents u.parents u.ranks (seen u.parents u.ranks) };
+}
+
+impl UnionFind {
+    // Each place is its own root, of rank 0.
+    pub(crate) fn new() -> Self
+        ensures { result ≡ singletons }
+    {
+        let mut parents = [0; COMPONENTS];
+        for (place, parent) in parents.iter_mut().enumerate() {
+            *parent = place;
+        }
+        UnionFind {
+            parents,
+            ranks: [0; COMPONENTS],
         }
     }
-}
 
-// Numbers the roots among the first n places by rising place, and answers how many there are. A root is its own parent.
-fn number_roots(parents: &[usize; COMPONENTS], n: usize, numbers: &mut [u64]) -> usize
-    requires { (n ≤ component_limit) × (n ≤ length numbers.old) }
-    ensures { RootNumbers parents.now n numbers.new × RootCount parents.now n result }
-{
-    let mut count: usize = 0;
-    let mut v = 0;
-    while v < n {
-        numbers[v] = count as u64;
-        if parents[v] == v {
-            count += 1;
+    // The root of v.
+    fn root(&mut self, v: usize) -> usize
+        requires { v < component_limit }
+        ensures below { result < component_limit }
+        ensures root { result ≡ root self.old v }
+        ensures kept { self.new ≡ self.old }
+    {
+        root_of(&mut self.parents, &self.ranks, v)
+    }
+
+    // Joins the group of left, a connection's source, and that of right, its sink: the root of lower rank goes under the
+    // other. At equal rank the right root goes under the left one, whose rank grows.
+    pub(crate) fn union(&mut self, left: usize, right: usize)
+        requires { (left < component_limit) × (right < component_limit) }
+        ensures { self.new ≡ unite self.old left right }
+    {
+        let l = self.root(left);
+        let r = self.root(right);
+        if l == r {
+            return;
         }
-        v += 1;
+        let low = self.ranks[l];
+        let high = self.ranks[r];
+        if low < high {
+            self.parents[l] = r;
+        } else {
+            self.parents[r] = l;
+            if low == high {
+                self.ranks[l] = low + 1;
+            }
+        }
     }
-    count
-}
 
-// Writes the number of its root to each of the first n places.
-fn write_numbers(
-    parents: &mut [usize; COMPONENTS],
-    ranks: &[usize; COMPONENTS],
-    n: usize,
-    numbers: &[u64; COMPONENTS],
-    out: &mut [u64],
-)
-    requires { Numberable parents.old ranks.now n out.old × RootNumbers parents.old n numbers.now }
-    ensures { (f : Forest) → Represents parents.old ranks.now f →
-        out.new ≡ laid (groups_of f n) out.old }
-{
-    let mut v = 0;
-    while v < n {
-        let root = root_of(parents, ranks, v);
-        out[v] = numbers[root];
-        v += 1;
+    // Numbers the roots among the first places by rising place, and answers how many there are.
+    fn number_roots(&self, numbers: &mut [u64]) -> usize
+        requires { length numbers.old ≤ component_limit }
+        ensures numbers { RootNumbers self.now numbers.new }
+        ensures count { result ≡ roots_below self.now (length numbers.old) }
+    {
+        let mut count: usize = 0;
+        for (v, number) in numbers.iter_mut().enumerate() {
+            *number = count as u64;
+            if self.parents[v] == v {
+                count += 1;
+            }
+        }
+        count
     }
-}
 
-// Writes the number of its group for each of the first n places to the front of `out`, and answers how many groups
-// there are. Groups number from 0 by rising place of the root.
-pub(crate) fn number_groups(
-    parents: &mut [usize; COMPONENTS],
-    ranks: &[usize; COMPONENTS],
-    n: usize,
-    out: &mut [u64],
-) -> usize
-    requires { Numberable parents.old ranks.now n out.old }
-    ensures { Numbered parents.old ranks.now n out.old out.new result }
-{
-    let mut numbers = [0u64; COMPONENTS];
-    let count = number_roots(parents, n, &mut numbers);
-    write_numbers(parents, ranks, n, &numbers, out);
-    count
+    // Writes the number of its root to each of the first places.
+    fn write_numbers(&mut self, numbers: &[u64], out: &mut [u64])
+        requires room { (length out.old ≤ component_limit) × (length numbers.now ≡ length out.old) }
+        requires inside { RootsWithin self.old (length out.old) }
+        requires numbers { RootNumbers self.old numbers.now }
+        ensures { out.new ≡ groups_of self.old (length out.old) }
+    {
+        for (v, number) in out.iter_mut().enumerate() {
+            *number = numbers[self.root(v)];
+        }
+    }
+
+    // Writes the number of its group for each of the first places, where these have their roots, and answers how many groups
+    // there are. Groups number from 0 by rising place of the root.
+    pub(crate) fn number_groups(&mut self, out: &mut [u64]) -> usize
+        requires room { length out.old ≤ component_limit }
+        requires inside { RootsWithin self.old (length out.old) }
+        ensures numbers { out.new ≡ groups_of self.old (length out.old) }
+        ensures count { result ≡ roots_below self.old (length out.old) }
+    {
+        let mut all_numbers = [0u64; COMPONENTS];
+        let numbers = &mut all_numbers[..out.len()];
+        let count = self.number_roots(numbers);
+        self.write_numbers(numbers, out);
+        count
+    }
 }

@@ -4,12 +4,12 @@ ghost use Rattle.lists.specs.Limits.{component_limit};
 ghost use Rattle.lists.specs.Records.{component_count, connection_count};
 ghost use Rattle.lists.specs.Ids.{IdTable, IsIdTable};
 ghost use Rattle.lists.specs.Within.{Connections};
-ghost use Rattle.circuit.specs.Forest.{Forest, Represents, IsForest, unite_all};
+ghost use Rattle.circuit.specs.Forest.{unite_all};
 ghost use Rattle.circuit.specs.Topology.{GroupedBy};
 ghost use Rattle.circuit.specs.Settled.{place_or, Settled, settled_join, settled_joins, SettledGroups, Ends};
 
 use super::Counts;
-use super::forest::{number_groups, own_places, union};
+use super::forest::UnionFind;
 use lists::hints::{HINTS, hint_ids, place_near};
 use lists::numbers::natural_at;
 use lists::{COMPONENTS, CONNECTION, CONNECTIONS};
@@ -19,7 +19,7 @@ const NET_KINDS: u64 = 4;
 
 const FRAGMENT_KINDS: u64 = 8;
 
-// A place; the limit stands for none.
+// A place; the limit stands for none: a list of Option<usize> is twice as long, and `join_one` tests both ends without a branch for none.
 fn place_or(found: Option<usize>) -> usize
     ensures { result ≡ place_or found }
 {
@@ -36,10 +36,8 @@ fn settle(keys: &[u64], hints: &[u16; HINTS], connections: &[i64], f: usize, pla
     ensures { (cs : List ℤ) → IdTable cs keys.now → Settled cs connections.now f places.new }
 {
     let count = connections.len() / CONNECTION;
-    let mut k: usize = 0;
-    while k < count {
+    for k in 0..count {
         places[k] = place_or(place_near(keys, hints, natural_at(connections, k * CONNECTION + f)));
-        k += 1;
     }
 }
 
@@ -52,20 +50,12 @@ fn sink_or_source(counts: bool, source: usize, sink: usize) -> usize
 }
 
 // Joins two settled ends, where the connection counts and both are components.
-fn join_one(
-    counts: bool,
-    source: usize,
-    sink: usize,
-    parents: &mut [usize; COMPONENTS],
-    ranks: &mut [usize; COMPONENTS],
-)
-    requires { IsForest parents.old ranks.old }
-    ensures { (f : Forest) → Represents parents.old ranks.old f →
-        Represents parents.new ranks.new (unite_all f (settled_join counts source sink)) }
+fn join_one(counts: bool, source: usize, sink: usize, forest: &mut UnionFind)
+    ensures { forest.new ≡ unite_all forest.old (settled_join counts source sink) }
 {
     if (source < COMPONENTS) & (sink < COMPONENTS) {
         let other = sink_or_source(counts, source, sink);
-        union(parents, ranks, source, other);
+        forest.union(source, other);
     }
 }
 
@@ -75,42 +65,35 @@ fn join_all(
     sources: &[usize],
     sinks: &[usize],
     top: u64,
-    parents: &mut [usize; COMPONENTS],
-    ranks: &mut [usize; COMPONENTS],
+    forest: &mut UnionFind,
 )
     requires connections { Connections connections.now }
     requires connections_in_bounds { (connection_count connections.now ≤ length sources.now) × (connection_count connections.now ≤ length sinks.now) }
-    requires forest { IsForest parents.old ranks.old }
-    ensures { (f : Forest) → Represents parents.old ranks.old f →
-        Represents parents.new ranks.new (unite_all f (settled_joins connections.now sources.now sinks.now top (connection_count connections.now))) }
+    ensures { forest.new ≡ unite_all forest.old (settled_joins connections.now sources.now sinks.now top (connection_count connections.now)) }
 {
     let count = connections.len() / CONNECTION;
-    let mut k: usize = 0;
-    while k < count {
+    for k in 0..count {
         let counts = natural_at(connections, k * CONNECTION + 2) <= top;
-        join_one(counts, sources[k], sinks[k], parents, ranks);
-        k += 1;
+        join_one(counts, sources[k], sinks[k], forest);
     }
 }
 
-// The groups of the first n places, by the settled ends of the connections of kinds 0 to `top`.
+// The groups of the first places, one for each number, by the settled ends of the connections of kinds 0 to `top`.
 fn groups(
     connections: &[i64],
     sources: &[usize],
     sinks: &[usize],
     top: u64,
-    n: usize,
-    out: &mut [u64],
+    numbers: &mut [u64],
 ) -> usize
     requires connections { Connections connections.now }
-    requires n_le_component_limit { (n ≤ component_limit) × (n ≤ length out.old) }
-    requires ends { Ends n (connection_count connections.now) sources.now × Ends n (connection_count connections.now) sinks.now }
-    ensures { SettledGroups connections.now sources.now sinks.now top n out.old out.new result }
+    requires room { length numbers.old ≤ component_limit }
+    requires ends { Ends (length numbers.old) (connection_count connections.now) sources.now × Ends (length numbers.old) (connection_count connections.now) sinks.now }
+    ensures { SettledGroups connections.now sources.now sinks.now top numbers.new result }
 {
-    let mut parents = own_places();
-    let mut ranks = [0usize; COMPONENTS];
-    join_all(connections, sources, sinks, top, &mut parents, &mut ranks);
-    number_groups(&mut parents, &ranks, n, out)
+    let mut forest = UnionFind::new();
+    join_all(connections, sources, sinks, top, &mut forest);
+    forest.number_groups(numbers)
 }
 
 // The nets and fragments of an accepted scene, whose table of ids is `keys`.
@@ -127,8 +110,14 @@ pub fn group(keys: &[u64], connections: &[i64], nets: &mut [u64], fragments: &mu
     let mut sinks = [0usize; CONNECTIONS];
     settle(keys, &hints, connections, 0, &mut sources);
     settle(keys, &hints, connections, 1, &mut sinks);
-    let net_count = groups(connections, &sources, &sinks, NET_KINDS, n, nets);
-    let fragment_count = groups(connections, &sources, &sinks, FRAGMENT_KINDS, n, fragments);
+    let net_count = groups(connections, &sources, &sinks, NET_KINDS, &mut nets[..n]);
+    let fragment_count = groups(
+        connections,
+        &sources,
+        &sinks,
+        FRAGMENT_KINDS,
+        &mut fragments[..n],
+    );
     Counts {
         nets: net_count,
         fragments: fragment_count,

@@ -1,9 +1,8 @@
--- The code's table gives the ports in words: computed at all 13 × 7 × 7 × 2 combinations of kind, facing, support and conducts.
+-- The table in constants gives the ports in words: computed at all 13 × 7 × 7 × 2 combinations of kind, facing, support and conducts.
 --     table_computed                              the computed test
 --     every                                       what holds at all combinations, and of kinds above 12, holds of all numbers
 --     no_ports                                    kinds above 12
---     all_listed, count_tabled, rows_tabled       the ports of all numbers are in the table
---     repeater_rows                               those of a repeater
+--     all_listed                                  the ports of all numbers are in the table
 -- Assumes nothing.
 use mathlib.Core.Path.{◌≡◌, refl, sym}
 use mathlib.Core.Bool.{Bool, true, false, ◌&&◌}
@@ -18,7 +17,7 @@ use Rattle.lists.proofs.Search.{never, both, all_at}
 use Rattle.faces.specs.Ports.{Port, opposite, face_or, neither, North, Down, repeater_ports, ports_by_kind, ports_for}
 use Rattle.faces.specs.Rows.{rows_of}
 use Rattle.faces.proofs.Faces.{each_face}
-use Rattle.faces.proofs.Table.{Entry, repeater, entries, none, table_entry}
+use Rattle.faces.proofs.Table.{Entry, entries, none, table_entry}
 
 -- ---- the test
 
@@ -110,13 +109,3 @@ module _ (kind facing support conducts : ℕ) where
       told _ _
       (every (λ k f s c. lists (get_or (entries f s c) k none) (get_or (ports_by_kind f s c) k [])) table_computed
       (λ k f s c h. rw (no_entry k f s c h, no_ports k f s c h)) kind facing support conducts)
-
-  pub count_tabled : length (ports_for kind facing support conducts) ≡ (table_entry kind facing support conducts).count
-  count_tabled = all_listed.count
-
-  pub rows_tabled : rows_of (ports_for kind facing support conducts) ≡ (table_entry kind facing support conducts).rows
-  rows_tabled = all_listed.rows
-
-pub repeater_rows : (facing : ℕ) → rows_of (repeater_ports (face_or North facing)) ≡ (repeater (face_or North facing)).rows
-unfolding ports_for table_entry
-repeater_rows facing = rows_tabled 1 facing 0 0

@@ -1,20 +1,37 @@
 -- Faces by their numbers.
 --     face_or_named, face_or_zero, face_or_above     which numbers name a face
---     north_faced                                 those that face North, none among them
---     opposite_none                               those that have no opposite
+--     code_range                                  a face has a number from 1 to 6
+--     named_or                                    the face of a number, or another one
+--     same_code                                   faces are one where their numbers are
 --     each_face                                   what holds at each face that can be named holds of every number
 -- Assumes nothing.
 use mathlib.Core.Path.{◌≡◌, refl, sym}
 use mathlib.Core.Bool.{Bool, true, false}
-use mathlib.Core.List.{[], ◌∷◌}
-use Prim.Native.Nat.{ℕ, zero, suc, ◌<◌}
+use Prim.Native.Nat.{ℕ, ◌<◌}
 use native.Mathlib.Omega.{arith}
-use lib.Dec.{ltb}
-use lib.ListN.{get_or-eq_default}
+use mathlib.Core.Logic.{⊎_elim}
+use lib.Dec.{eqb, ltb}
 use borrow.Author.Tests.{le-leb, lt-leb, ltb-true, ltb-false}
 use Rattle.lists.specs.First.{all_from}
 use Rattle.lists.proofs.Search.{all_at}
-use Rattle.faces.specs.Ports.{opposite, face_or, North}
+use Rattle.faces.specs.Ports.{face_or}
+use Rattle.faces.specs.Codes.{face_code, NamesFace}
+use Rattle.faces.specs.declared.face.Face.{Face}
+use Rattle.faces.specs.declared.face.Face.TheVariants.{North, East, South, West, Up, Down}
+use Rattle.faces.specs.declared.face.UnknownFace.{UnknownFace}
+use Rattle.faces.specs.contracts.face.Face.{the_type}
+use denote.Enum.Bare.{sameb}
+use Rattle.std.specs.Prelude.{Result, Ok, Err}
+use Rattle.std.specs.Result.{result_unwrap_or}
+
+-- a face has a number from 1 to 6
+pub code_range : (face : Face) → (0 < face_code face) × (face_code face < 7)
+code_range North = (omega arith, omega arith)
+code_range East = (omega arith, omega arith)
+code_range South = (omega arith, omega arith)
+code_range West = (omega arith, omega arith)
+code_range Up = (omega arith, omega arith)
+code_range Down = (omega arith, omega arith)
 
 pub face_or_named : (none face : ℕ) → 0 < face → face < 7 → face_or none face ≡ face
 unfolding face_or
@@ -28,17 +45,12 @@ pub face_or_above : (none face : ℕ) → 6 < face → face_or none face ≡ non
 unfolding face_or
 face_or_above none face p = rw (lt-leb face 6 p, le-leb 1 face (omega arith))
 
--- a number below 2 or above 6 faces North
-pub north_faced : (face : ℕ) → (face ≡ 2 → ⊥) → (face ≡ 3 → ⊥) → (face ≡ 4 → ⊥) → (face ≡ 5 → ⊥) → (face ≡ 6 → ⊥) → face_or North face ≡ North
-unfolding face_or
-north_faced zero h₂ h₃ h₄ h₅ h₆ = refl
-north_faced (suc zero) h₂ h₃ h₄ h₅ h₆ = refl
-north_faced (suc (suc n)) h₂ h₃ h₄ h₅ h₆ = face_or_above North (suc (suc n)) (omega arith)
-
-pub opposite_none : (face : ℕ) → (face ≡ 1 → ⊥) → (face ≡ 2 → ⊥) → (face ≡ 3 → ⊥) → (face ≡ 4 → ⊥) → (face ≡ 5 → ⊥) → (face ≡ 6 → ⊥) → 0 ≡ opposite face
-unfolding opposite
-opposite_none zero h₁ h₂ h₃ h₄ h₅ h₆ = refl
-opposite_none (suc n) h₁ h₂ h₃ h₄ h₅ h₆ = sym (get_or-eq_default (0 ∷ 3 ∷ 4 ∷ 1 ∷ 2 ∷ 6 ∷ 5 ∷ []) 0 {n = suc n} (omega arith))
+-- the face of a number, or another one where it names none
+pub named_or : (none : Face) (number : ℕ) (r : Result Face UnknownFace) (face : Face) → NamesFace number r → face ≡ result_unwrap_or r none
+    → face_code face ≡ face_or (face_code none) number
+named_or none number (Ok named) face e is = rw (is, ← e) (sym (face_or_named (face_code none) (face_code named) (code_range named).0 (code_range named).1))
+named_or none number (Err other) face e is =
+    rw is (⊎_elim (λ z. rw z (sym (face_or_zero (face_code none)))) (λ h. sym (face_or_above (face_code none) number h)) e.1)
 
 -- a test of faces that holds at each that can be named, holds of every number
 pub each_face : (test : ℕ → Bool) (none : ℕ) → all_from (λ f. test (face_or none f)) 0 7 ≡ true → (face : ℕ) → test (face_or none face) ≡ true
@@ -50,3 +62,42 @@ each_face test none e face = go (ltb face 7) refl
     go : (t : Bool) → ltb face 7 ≡ t → test (face_or none face) ≡ true
     go true h = at face (ltb-true face 7 h)
     go false h = rw (face_or_above none face (ltb-false face 7 h), ← face_or_zero none) (at 0 (omega arith))
+
+-- faces are one where their numbers are
+pub same_code : (a b : Face) → sameb the_type a b ≡ eqb (face_code a) (face_code b)
+same_code North North = refl
+same_code North East = refl
+same_code North South = refl
+same_code North West = refl
+same_code North Up = refl
+same_code North Down = refl
+same_code East North = refl
+same_code East East = refl
+same_code East South = refl
+same_code East West = refl
+same_code East Up = refl
+same_code East Down = refl
+same_code South North = refl
+same_code South East = refl
+same_code South South = refl
+same_code South West = refl
+same_code South Up = refl
+same_code South Down = refl
+same_code West North = refl
+same_code West East = refl
+same_code West South = refl
+same_code West West = refl
+same_code West Up = refl
+same_code West Down = refl
+same_code Up North = refl
+same_code Up East = refl
+same_code Up South = refl
+same_code Up West = refl
+same_code Up Up = refl
+same_code Up Down = refl
+same_code Down North = refl
+same_code Down East = refl
+same_code Down South = refl
+same_code Down West = refl
+same_code Down Up = refl
+same_code Down Down = refl

@@ -1,21 +1,12 @@
--- The code's table: for each kind how many ports there are, and seven rows of role, face and channel as numbers.
---     repeater_kind, lever_kind, solid_kind       kinds that have their entry in common
---     no_kind                                     Air, and numbers that are no kind
---     repeater_five, repeater_seven               how many ports a repeater has
+-- The table in constants: for each kind how many ports there are, and seven rows of role, face and channel as numbers.
 -- Assumes nothing.
-use mathlib.Core.Path.{◌≡◌, refl, sym, ◌∙◌}
 use mathlib.Core.Bool.{Bool, cond}
-use mathlib.Core.List.{List, [], ◌∷◌, ◌++◌}
-use Prim.Native.Nat.{ℕ, zero, suc, ◌+◌, ◌-◌, ◌≤◌, ◌<◌}
-use native.Mathlib.Omega.{arith}
+use mathlib.Core.List.{List, [], ◌∷◌}
+use Prim.Native.Nat.{ℕ}
 use lib.Dec.{eqb}
-use lib.ListN.{length, get_or, drop, replicate, length-replicate, get_or-replicate, get_or-append}
-use lib.Seq.{get_or-drop}
-use borrow.Author.Tests.{eqb-true}
-use Rattle.lists.specs.First.{all_from}
-use Rattle.lists.proofs.Search.{all_at}
+use lib.ListN.{get_or, set}
 use Rattle.faces.specs.Ports.{face_or, North, Down}
-use Rattle.faces.specs.Rows.{unused_row, faced}
+use Rattle.faces.specs.Rows.{unused_row}
 
 pub record Entry : Type 0 where
   pub count : ℕ
@@ -26,6 +17,10 @@ entry count rows = record { count = count; rows = rows }
 
 abbrev pub row : ℕ → ℕ → ℕ → List ℕ
 row role face channel = role ∷ face ∷ channel ∷ []
+
+-- the rows with the face of place i put in
+abbrev pub faced : List (List ℕ) → ℕ → ℕ → List (List ℕ)
+faced rows i face = set rows i (set (get_or rows i []) 1 face)
 
 -- ---- the entries, an open face 0
 
@@ -76,44 +71,3 @@ entries facing support conducts =
 
 unfoldable pub table_entry : ℕ → ℕ → ℕ → ℕ → Entry
 table_entry kind facing support conducts = get_or (entries (face_or North facing) (face_or Down support) (eqb conducts 1)) kind none
-
--- a run of n times x in a list
-at_run : {A : Type 0} (l : List A) (from n : ℕ) (x d : A) → drop from l ≡ replicate n x ++ drop (from + n) l
-    → (k : ℕ) → from ≤ k → k < from + n → get_or l k d ≡ x
-at_run l from n x d e k p q =
-    let i : k ≡ from + (k - from) = omega arith in
-    let long : k - from < length (replicate n x) = omega (arith, length-replicate n x) in
-    rw (i, ← get_or-drop, e, get_or-append (replicate n x) (drop (from + n) l) d (k - from) long) (get_or-replicate n (k - from) x d (omega arith))
-
-module _ (kind facing support conducts : ℕ) where
-  pub repeater_kind : 0 < kind → kind < 3 → table_entry kind facing support conducts ≡ repeater (face_or North facing)
-  unfolding table_entry
-  repeater_kind p q = at_run (entries (face_or North facing) (face_or Down support) (eqb conducts 1)) 1 2 (repeater (face_or North facing)) none refl kind p q
-
-  pub lever_kind : 3 < kind → kind < 8 → table_entry kind facing support conducts ≡ lever
-  unfolding table_entry
-  lever_kind p q = at_run (entries (face_or North facing) (face_or Down support) (eqb conducts 1)) 4 4 lever none refl kind p q
-
-  pub solid_kind : 8 < kind → kind < 12 → table_entry kind facing support conducts ≡ solid (eqb conducts 1)
-  unfolding table_entry
-  solid_kind p q = at_run (entries (face_or North facing) (face_or Down support) (eqb conducts 1)) 9 3 (solid (eqb conducts 1)) none refl kind p q
-
-  last_or_none : (n : ℕ) → get_or {A = Entry} (none ∷ []) n none ≡ none
-  last_or_none zero = refl
-  last_or_none (suc n) = refl
-
-  pub no_kind : 11 < kind → table_entry kind facing support conducts ≡ none
-  unfolding table_entry
-  no_kind p =
-      let e : kind ≡ 12 + (kind - 12) = omega arith in
-      rw e (sym (get_or-drop 12 (entries (face_or North facing) (face_or Down support) (eqb conducts 1)) (kind - 12) none) ∙ last_or_none (kind - 12))
-
--- ---- repeaters
-
-pub repeater_five : (face : ℕ) → face < 5 → (repeater (face_or North face)).count ≡ 5
-unfolding all_from face_or
-repeater_five face p = eqb-true _ _ (all_at (λ f. eqb (repeater (face_or North f)).count 5) 0 5 refl face (omega arith) (omega arith))
-
-pub repeater_seven : (face : ℕ) → 5 ≤ face → face < 7 → (repeater (face_or North face)).count ≡ 7
-unfolding all_from face_or
-repeater_seven face p q = eqb-true _ _ (all_at (λ f. eqb (repeater (face_or North f)).count 7) 5 2 refl face p (omega arith))

@@ -1,9 +1,10 @@
 // Which port a connection takes at an end.
-ghost use Rattle.std.specs.Prelude.{◌≡◌, min};
-ghost use Rattle.faces.specs.Rows.{port_of, ports_in};
+ghost use Rattle.std.specs.Prelude.{◌≡◌};
+ghost use Rattle.faces.specs.Codes.{face_code, port_code, ports_in};
 ghost use Rattle.faces.specs.Select.{fits, serves, select_port, transfer_of};
 
-use super::ports::{BIDIRECTIONAL, CONTROL, INPUT, OUTPUT, PORTS, STRUCTURAL};
+use super::face::Face;
+use super::ports::{Channel, PORTS, Port, Role};
 
 // ---- kinds of connection
 
@@ -11,58 +12,39 @@ pub const CONTROL_KIND: u64 = 8;
 
 pub const SUPPORT_KIND: u64 = 9;
 
-fn wide(x: u8) -> u64
-    ensures { result ≡ x }
-{
-    x as u64
-}
-
-fn least(a: usize, b: usize) -> usize
-    ensures { result ≡ min a b }
-{
-    if a < b { a } else { b }
-}
-
 // Whether a port fits a connection that goes out from it or comes in.
-fn port_fits(port: [u8; 3], outgoing: bool, kind: u64) -> bool
-    ensures { result ≡ fits (port_of port) outgoing kind }
+fn port_fits(port: Port, outgoing: bool, kind: u64) -> bool
+    ensures { result ≡ fits (port_code port) outgoing kind }
 {
-    let role = port[0];
     if kind == SUPPORT_KIND {
-        return port[2] == STRUCTURAL;
+        return matches!(port.channel, Channel::Structural);
     }
     if outgoing {
-        return (role == OUTPUT) | (role == BIDIRECTIONAL);
+        return matches!(port.role, Role::Output | Role::Bidirectional);
     }
     if kind == CONTROL_KIND {
-        return role == CONTROL;
+        return matches!(port.role, Role::Control);
     }
-    (role == INPUT) | ((role == BIDIRECTIONAL) | (role == CONTROL))
+    matches!(port.role, Role::Input | Role::Bidirectional | Role::Control)
 }
 
-fn port_serves(port: [u8; 3], face: u64, outgoing: bool, kind: u64) -> bool
-    ensures { result ≡ serves (port_of port) face outgoing kind }
+fn port_serves(port: Port, face: Face, outgoing: bool, kind: u64) -> bool
+    ensures { result ≡ serves (port_code port) (face_code face) outgoing kind }
 {
-    (wide(port[1]) == face) & port_fits(port, outgoing, kind)
+    (port.face == face) & port_fits(port, outgoing, kind)
 }
 
-// The first port below the count that has the face and fits.
-pub fn select_port(
-    ports: [[u8; 3]; PORTS],
-    count: usize,
-    face: u64,
-    outgoing: bool,
-    kind: u64,
-) -> Option<usize>
-    ensures { result ≡ select_port (ports_in ports count) face outgoing kind }
+// The first port that has the face and fits. No port stands past a place without one.
+pub fn select_port(ports: [Option<Port>; PORTS], face: Face, outgoing: bool, kind: u64) -> Option<usize>
+    ensures { result ≡ select_port (ports_in ports) (face_code face) outgoing kind }
 {
-    let end = least(count, PORTS);
-    let mut i: usize = 0;
-    while i < end {
-        if port_serves(ports[i], face, outgoing, kind) {
+    for i in 0..PORTS {
+        let Some(port) = ports[i] else {
+            return None;
+        };
+        if port_serves(port, face, outgoing, kind) {
             return Some(i);
         }
-        i += 1;
     }
     None
 }

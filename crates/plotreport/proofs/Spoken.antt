@@ -3,6 +3,7 @@
 --     long_sheet, short_sheet    the first stage
 --     printed_within             a report that is printed has room
 -- Assumes nothing.
+use Rattle.lists.specs.Refusal.{fault_number, list_number}
 use Rattle.lists.specs.declared.Fault.{Fault}
 use Rattle.std.specs.Prelude.{None}
 use Rattle.std.specs.Prelude.{⊤, Result, Ok, Err}
@@ -45,10 +46,10 @@ line_room key n = omega (arith, line_size key (pos n), few_digits 19 n [])
 pub refusal_room : (r : Refusal) → 0 + length (refusal_lines r) ≤ 120
 unfolding refusal_lines
 refusal_room r =
-    let a = line_of (ascii "answer") (pos r.number) in
-    let b = line_of (ascii "list") (pos r.list) in
+    let a = line_of (ascii "answer") (pos (fault_number r.fault)) in
+    let b = line_of (ascii "list") (pos (list_number r.list)) in
     let c = line_of (ascii "item") (pos r.item) in
-    omega (arith, length-append a (b ++ c), length-append b c, line_room (ascii "answer") r.number, line_room (ascii "list") r.list, line_room (ascii "item") r.item)
+    omega (arith, length-append a (b ++ c), length-append b c, line_room (ascii "answer") (fault_number r.fault), line_room (ascii "list") (list_number r.list), line_room (ascii "item") r.item)
 
 -- ---- the first stage
 

@@ -1,8 +1,8 @@
 // What the program plotreport answers to the bytes that it read. Its limits stand here.
 ghost use Rattle.plotreport.specs.Program.{ProgramPrinted};
 
-use lists::{COMPONENT, CONNECTION, FRONTIER, Refusal};
-use report::{report};
+use lists::{COMPONENT, CONNECTION, FRONTIER, Fault, Refusal};
+use report::report;
 use sheet::Counts;
 
 // The most bytes of a sheet, and of a report.

@@ -1,6 +1,6 @@
 -- The open calls of `visit` as a stack of frames, and what one turn of a walk does to it. No array is spoken of here.
 -- Assumes nothing.
-use mathlib.Core.Path.{◌≡◌, refl, sym, ap, ◌∙◌}
+use mathlib.Core.Path.{◌≡◌, sym, ap, ◌∙◌}
 use mathlib.Core.Bool.{true, false}
 use mathlib.Core.List.{List, [], ◌∷◌}
 use Prim.Native.Nat.{ℕ, zero, suc, ◌+◌, ◌*◌, ◌-◌, ◌≤◌, ◌<◌}
@@ -10,7 +10,7 @@ use Rattle.tables.specs.Order.{Ascending, LowerBound}
 use Rattle.tables.specs.Pairs.{span}
 use Rattle.regions.specs.Graph.{marked, each}
 use Rattle.regions.specs.Kosaraju.{Walk, mark, push, visit}
-use Rattle.regions.specs.Keys.{edges, row, Next}
+use Rattle.regions.specs.Keys.{edges, row, Next, NoNext}
 use Rattle.regions.specs.Search.{Passed, Skipped}
 use Rattle.regions.proofs.Again.{visit_old, visit_new}
 use Rattle.regions.proofs.Rows.{row_next}
@@ -53,16 +53,16 @@ module _ {n : ℕ} {keys : List ℕ} (nodes : n ≤ span) (rise : Ascending keys
   finish_start fuel s lt start len new = opened fuel s lt start len new
 
   -- no neighbour is left: the node goes into the order
-  pub finish_leave : (fuel : ℕ) {x place : ℕ} (fs : List Frame) (s : Walk) → Next n keys x place n
+  pub finish_leave : (fuel : ℕ) {x place : ℕ} (fs : List Frame) (s : Walk) → NoNext n keys x place
       → finish n keys (suc fuel) fs (push x s) ≡ finish n keys fuel (frame x place ∷ fs) s
   unfolding finish each
-  finish_leave fuel {x} fs s l = ap (λ m. finish n keys (suc fuel) fs (push x (each (visit n (edges n keys) fuel) m s))) (sym (l.none refl))
+  finish_leave fuel {x} fs s l = ap (λ m. finish n keys (suc fuel) fs (push x (each (visit n (edges n keys) fuel) m s))) (sym l.none)
 
-  module _ {x place k : ℕ} (l : Next n keys x place k) (lt : k < n) (fs : List Frame) (s : Walk) where
+  module _ {x place k : ℕ} (l : Next n keys x place k) (fs : List Frame) (s : Walk) where
     -- the next neighbour
     turn : (fuel : ℕ) → finish n keys fuel (frame x (suc place) ∷ fs) (visit n (edges n keys) fuel k s) ≡ finish n keys fuel (frame x place ∷ fs) s
     unfolding finish each
-    turn fuel = ap (λ m. finish n keys (suc fuel) fs (push x (each (visit n (edges n keys) fuel) m s))) (sym (l.first lt))
+    turn fuel = ap (λ m. finish n keys (suc fuel) fs (push x (each (visit n (edges n keys) fuel) m s))) (sym l.first)
 
     -- it is visited
     finish_pass : (fuel : ℕ) → marked s.visited k ≡ true
@@ -74,7 +74,7 @@ module _ {n : ℕ} {keys : List ℕ} (nodes : n ≤ span) (rise : Ascending keys
         → finish n keys fuel (frame k i ∷ frame x (suc place) ∷ fs) (mark k s) ≡ finish n keys (suc fuel) (frame x place ∷ fs) s
     unfolding finish
     finish_enter fuel start len new =
-        ap (finish n keys (suc fuel) (frame x (suc place) ∷ fs)) (opened fuel s lt start len new) ∙ turn (suc fuel)
+        ap (finish n keys (suc fuel) (frame x (suc place) ∷ fs)) (opened fuel s l.below start len new) ∙ turn (suc fuel)
 
   module _ {x : ℕ} (fs : List Frame) (s : Walk) (fuel : ℕ) where
     -- the neighbours at d places are visited
@@ -84,10 +84,10 @@ module _ {n : ℕ} {keys : List ℕ} (nodes : n ≤ span) (rise : Ascending keys
     finish_passed from (suc d) all =
         let p = all (from + d) (omega arith) (omega arith) in
         ap (λ (i : ℕ). finish n keys fuel (frame x i ∷ fs) s) (omega arith)
-        ∙ finish_pass p.stands p.below fs s fuel p.old
+        ∙ finish_pass p.stands fs s fuel p.old
         ∙ finish_passed from d (λ i h le. all i (omega arith) le)
 
-    pub finish_skip : {from place k : ℕ} → Skipped n keys s.visited x from place k
+    pub finish_skip : {from place : ℕ} → Skipped n keys s.visited x from place
         → finish n keys fuel (frame x place ∷ fs) s ≡ finish n keys fuel (frame x from ∷ fs) s
     finish_skip {from} {place} l =
         let whole : place ≡ from + (place - from) = omega arith in

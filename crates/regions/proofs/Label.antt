@@ -2,40 +2,35 @@
 -- Assumes nothing.
 use mathlib.Core.Path.{◌≡◌, refl, sym, ap, ap₂, ◌∙◌, subst}
 use mathlib.Core.Bool.{Bool, true, false, cond}
-use mathlib.Core.List.{List, [], ◌∷◌, reverse}
-use mathlib.Core.Logic.{⊎_elim}
-use Prim.Native.Nat.{ℕ, zero, suc, ◌+◌, ◌-◌, ◌≤◌, ◌<◌}
+use mathlib.Core.List.{List, [], ◌∷◌, ◌++◌, reverse, reverse-cons, append-nil, append_assoc}
+use mathlib.Core.Logic.{inl, ⊎_elim}
+use Prim.Native.Nat.{ℕ, zero, suc, ◌+◌, ◌≤◌, ◌<◌}
 use native.Mathlib.Numerals.{add-one}
 use native.Mathlib.Omega.{arith}
-use lib.ListN.{length, get_or, set, take, drop, replicate, length-replicate, drop_of_length-le}
-use lib.Seq.{take-suc, get_or-take, length-take-le}
-use Rattle.regions.specs.Graph.{at, each, Edges, Within, flip, next}
+use lib.ListN.{length, get_or, set, take, replicate, length-replicate, length-append}
+use lib.Seq.{take-suc}
+use Rattle.regions.specs.Graph.{each, Edges, Within, flip, next}
 use Rattle.regions.specs.Kosaraju as Kosaraju
 use Rattle.regions.specs.Kosaraju.{Walk, visit, mark, push, paint, Labels, new_region, label, unlabelled}
 use Rattle.regions.specs.Keys.{edges, Reversed}
-use Rattle.regions.specs.Search.{walk_of, weight, fresh, Zeros, Room, Searched, labels_of, Labelled, Regions}
+use Rattle.regions.specs.Search.{walk_of, weight, fresh, Zeros, Room, Searched, Ordered, labels_of, Labelled, Regions}
+use Rattle.tables.specs.Order.{Ascending}
 use Rattle.regions.proofs.Laws.Main as Main
 use Rattle.regions.proofs.Laws.Keys.{edges_within, same_edges}
-use Rattle.regions.proofs.Laws.Lists.{◌∈◌, ∈-++, get_or-∈}
-use Rattle.regions.proofs.Laws.Loops.{each_append, each_back, each_keeps}
+use Rattle.regions.proofs.Laws.Lists.{◌∈◌, ∈-++, ∈-right, get_or-∈}
+use Rattle.regions.proofs.Laws.Loops.{each_append, each_keeps}
 use Rattle.regions.proofs.Laws.Walks.{∈-next}
-use Rattle.regions.proofs.Order.{room_kept}
+use Rattle.regions.proofs.Order.{room_kept, room_here}
 
 -- ---- paint
 
-module _ (r : ℕ) (members l : List ℕ) where
-  pub paint_none : l ≡ paint r (take 0 members) l
-  unfolding paint each
-  paint_none = refl
-
-  pub paint_more : (i : ℕ) → i < length members → set (paint r (take i members) l) (get_or members i 0) r ≡ paint r (take (i + 1) members) l
-  unfolding paint each
-  paint_more i h =
-      sym (ap (λ m. paint r m l) (ap (λ (k : ℕ). take k members) (add-one i) ∙ take-suc members i 0 h)
-      ∙ each_append (λ x m. set m x r) (take i members) (get_or members i 0 ∷ []) l)
-
-  pub paint_all : {i size : ℕ} → i ≤ size → size ≤ i → paint r (take i members) l ≡ paint r (take size members) l
-  paint_all {i} {size} le ge = let e : i ≡ size = omega arith in ap (λ (k : ℕ). paint r (take k members) l) e
+pub paint_more : (r : ℕ) (members l l' : List ℕ) (i : ℕ) → i < length members → l' ≡ paint r (take i members) l
+    → set l' (get_or members i 0) r ≡ paint r (take (i + 1) members) l
+unfolding paint each
+paint_more r members l l' i h is =
+    ap (λ m. set m (get_or members i 0) r) is
+    ∙ sym (ap (λ m. paint r m l) (ap (λ (k : ℕ). take k members) (add-one i) ∙ take-suc members i 0 h)
+    ∙ each_append (λ x m. set m x r) (take i members) (get_or members i 0 ∷ []) l)
 
 -- ---- a walk adds nodes below n to the order
 
@@ -67,6 +62,12 @@ fresh_le (false ∷ l) = let h = fresh_le l in omega (arith, h)
 pub fresh_room : {n : ℕ} {keys : List ℕ} {visited : List Bool} {order stack : List ℕ} → Room n keys visited order stack → fresh visited ≤ n
 fresh_room {visited = visited} r = let f = fresh_le visited in omega arith
 
+-- and no more are added
+pub members_few : {n : ℕ} {edge : Edges} {x : ℕ} {keys : List ℕ} {visited₀ visited : List Bool} {members₀ members stack₀ stack : List ℕ} {size : ℕ}
+    → Room n keys visited₀ members₀ stack₀ → Searched n edge x visited₀ members₀ 0 visited members size stack → length members ≡ length members₀
+    → size ≤ length members
+members_few r s long = let f = fresh_room r in let room = r.order_room in let a = s.adds in omega arith
+
 module _ (n : ℕ) (edge : Edges) (x : ℕ) (s : Labels) where
   label_old : get_or s.visited x false ≡ true → label n edge x s ≡ s
   unfolding label
@@ -84,11 +85,10 @@ labelled_old n edge x visited region_of count stack z old = record { labels = sy
 module _ {n : ℕ} {edge : Edges} {x : ℕ} {visited₀ visited : List Bool} {members₀ members stack : List ℕ} {size : ℕ}
     (lt : x < n) (s : Searched n edge x visited₀ members₀ 0 visited members size stack) where
   -- the members are nodes
-  pub members_low : size ≤ length members → (i : ℕ) → i < size → get_or members i 0 < n
-  members_low le i h =
-      visit_low n edge n x (walk_of visited₀ members₀ 0) lt (λ y m. absurd m) (get_or members i 0)
-      (subst (λ w. get_or members i 0 ∈ w.order) s.visits
-      (subst (λ (y : ℕ). y ∈ take size members) (get_or-take size members i 0 h) (get_or-∈ (take size members) i 0 (let e = length-take-le size members le in omega arith))))
+  pub members_low : (i : ℕ) → i < length (take size members) → get_or (take size members) i 0 < n
+  members_low i h =
+      visit_low n edge n x (walk_of visited₀ members₀ 0) lt (λ y m. absurd m) (get_or (take size members) i 0)
+      (subst (λ w. get_or (take size members) i 0 ∈ w.order) s.visits (get_or-∈ (take size members) i 0 h))
 
   pub labelled_new : (region_of : List ℕ) (count : ℕ) → get_or visited₀ x false ≡ false
       → Labelled n (flip edge) x visited₀ region_of count visited (paint count (take size members) region_of) (count + 1) stack
@@ -110,82 +110,105 @@ label_count n edge x s = go (get_or s.visited x false)
     go true = omega arith
     go false = omega arith
 
--- In the loop: the nodes of the order from the place i on are dealt with
-pub record Labelling (n : ℕ) (edge : Edges) (keys : List ℕ) (visited : List Bool) (labels : List ℕ) (count : ℕ) (members stack : List ℕ) (i : ℕ) : Type 0 where
-  pub labels_are : labels_of visited labels count ≡ each (label n edge) (reverse (drop i (Kosaraju.order n edge))) (unlabelled n)
-  pub count_room : count + i ≤ n
+within_flip : (n : ℕ) (keys : List ℕ) → Within n (flip (edges n keys))
+within_flip n keys a b h = let p = edges_within n keys b a h in (p.1, p.0)
+
+-- In the loop: `rest` is left of the order, and the nodes after it are dealt with, the last first
+pub record Labelling (n : ℕ) (keys : List ℕ) (visited : List Bool) (labels : List ℕ) (count : ℕ) (members stack rest : List ℕ) : Type 0 where
+  pub done : List ℕ
+  pub order_is : rest ++ done ≡ Kosaraju.order n (flip (edges n keys))
+  pub labels_are : labels_of visited labels count ≡ each (label n (flip (edges n keys))) (reverse done) (unlabelled n)
+  pub count_room : count + length rest ≤ n
   pub labels_length : length labels ≡ n
   pub room : Room n keys visited members stack
 
-pub label_begin : {n : ℕ} {edge : Edges} {keys labels : List ℕ} {visited : List Bool} {members stack : List ℕ} → Within n edge
-    → labels ≡ replicate n 0 → visited ≡ replicate n false → Room n keys visited members stack → Labelling n edge keys visited labels 0 members stack n
+pub label_begin : {n : ℕ} {keys labels : List ℕ} {visited₀ visited : List Bool} {members stack order : List ℕ} (labels₀ : List ℕ)
+    → order ≡ Kosaraju.order n (flip (edges n keys)) → length labels₀ ≡ n → Room n keys visited₀ members stack
+    → labels ≡ replicate (length labels₀) 0 → visited ≡ replicate (length visited₀) false → Labelling n keys visited labels 0 members stack order
 unfolding each
-label_begin {n} {edge} within l v r =
-    let e = Main.order_length n edge within in
+label_begin {n} {keys} {visited₀ = visited₀} {order = order} labels₀ is long room l v =
+    let e = ap length is ∙ Main.order_length n (flip (edges n keys)) (within_flip n keys) in
+    let lc = l ∙ ap (λ (k : ℕ). replicate k 0) long in
+    let vc = v ∙ ap (λ (k : ℕ). replicate k false) room.visited_length in
     record {
-      labels_are =
-          ap₂ (λ a b. labels_of a b 0) v l
-          ∙ ap (λ m. each (label n edge) (reverse m) (unlabelled n)) (sym (drop_of_length-le (Kosaraju.order n edge) {i = n} (omega arith)));
+      done = [];
+      order_is = append-nil order ∙ is;
+      labels_are = ap₂ (λ a b. labels_of a b 0) vc lc;
       count_room = omega arith;
-      labels_length = ap length l ∙ simp length-replicate;
-      room = r;
+      labels_length = ap length lc ∙ length-replicate n 0;
+      room = room_kept room room.keys_rise (ap length v ∙ length-replicate (length visited₀) false) room.order_room refl room.stack_zeros;
     }
 
-module _ {n : ℕ} {edge : Edges} {keys : List ℕ} {visited : List Bool} {labels : List ℕ} {count : ℕ} {members stack : List ℕ} {i : ℕ}
-    (l : Labelling n edge keys visited labels count members stack i) where
-  module _ (more : 0 < i) (within : Within n edge) (order : List ℕ) (order_is : take n order ≡ Kosaraju.order n edge) where
-    lt : i - 1 < n
-    lt = omega arith
+module _ {n : ℕ} {keys : List ℕ} {visited : List Bool} {labels : List ℕ} {count : ℕ} {members stack rest : List ℕ}
+    (front : List ℕ) (node : ℕ) (l : Labelling n keys visited labels count members stack rest) (last : rest ≡ front ++ (node ∷ [])) where
+  -- the node that comes next, and those after it
+  order_next : front ++ (node ∷ l.done) ≡ Kosaraju.order n (flip (edges n keys))
+  order_next = sym (append_assoc front (node ∷ []) l.done) ∙ ap (λ m. m ++ l.done) (sym last) ∙ l.order_is
 
-    node_is : get_or order (i - 1) 0 ≡ at (Kosaraju.order n edge) (i - 1)
-    node_is = sym (get_or-take n order (i - 1) 0 lt) ∙ ap (λ m. at m (i - 1)) order_is
+  shorter : length rest ≡ length front + 1
+  shorter = ap length last ∙ length-append front (node ∷ [])
 
-    below_length : i - 1 < length (Kosaraju.order n edge)
-    below_length = let e = Main.order_length n edge within in let h = lt in omega arith
+  pub label_room : (node < length visited) × (count < length visited) × (length labels ≡ length visited) × Room (length visited) keys visited members stack
+  label_room =
+      let low = (Main.order_nodes n (flip (edges n keys)) (within_flip n keys) node).0
+      (subst (λ m. node ∈ m) order_next (∈-right node front (node ∷ l.done) (inl refl)))
+      in
+      let less = shorter in
+      let long = l.room.visited_length in
+      (omega arith, omega arith, l.labels_length ∙ sym long, room_here l.room)
 
-    pub label_node : get_or order (i - 1) 0 < n
-    label_node =
-        subst (λ (x : ℕ). x < n) (sym node_is)
-        ((Main.order_nodes n edge within (at (Kosaraju.order n edge) (i - 1))).0 (get_or-∈ (Kosaraju.order n edge) (i - 1) 0 below_length))
+  -- after `label_from` at the node
+  pub label_more : {visited' : List Bool} {labels' : List ℕ} {count' : ℕ} {members' stack' : List ℕ}
+      → Labelled (length visited) (flip (edges (length visited) keys)) node visited labels count visited' labels' count' stack'
+      → length visited' ≡ length visited → length labels' ≡ length labels → length members' ≡ length members → length stack' ≡ length stack
+      → Labelling n keys visited' labels' count' members' stack' front
+  unfolding each
+  label_more {visited'} {labels'} {count'} {members'} {stack'} here lv ll lm ls =
+      let r = subst (λ (m : ℕ). Labelled m (flip (edges m keys)) node visited labels count visited' labels' count' stack') l.room.visited_length here in
+      record {
+        done = node ∷ l.done;
+        order_is = order_next;
+        labels_are =
+            r.labels
+            ∙ ap (label n (flip (edges n keys)) node) l.labels_are
+            ∙ sym (each_append (label n (flip (edges n keys))) (reverse l.done) (node ∷ []) (unlabelled n))
+            ∙ ap (λ m. each (label n (flip (edges n keys))) m (unlabelled n)) (sym (reverse-cons node l.done));
+        count_room =
+            let a = ap (λ s. s.count) r.labels in
+            let b = label_count n (flip (edges n keys)) node (labels_of visited labels count) in
+            let less = shorter in
+            omega arith;
+        labels_length = ll ∙ l.labels_length;
+        room = room_kept l.room l.room.keys_rise lv (omega (arith, lm, l.room.order_room)) ls r.stack_zeros;
+      }
 
-    -- after `label_from` at the node at i - 1
-    pub label_more : {visited' : List Bool} {labels' : List ℕ} {count' : ℕ} {members' stack' : List ℕ}
-        → Labelled n edge (get_or order (i - 1) 0) visited labels count visited' labels' count' stack'
-        → length visited' ≡ length visited → length labels' ≡ length labels → length members' ≡ length members → length stack' ≡ length stack
-        → Labelling n edge keys visited' labels' count' members' stack' (i - 1)
-    label_more r lv ll lm ls =
-        let up : i ≡ suc (i - 1) = omega arith in
-        record {
-          labels_are =
-              r.labels
-              ∙ ap₂ (λ (x : ℕ) s. label n edge x s) node_is l.labels_are
-              ∙ ap (λ (k : ℕ). label n edge (at (Kosaraju.order n edge) (i - 1)) (each (label n edge) (reverse (drop k (Kosaraju.order n edge))) (unlabelled n))) up
-              ∙ sym (each_back (label n edge) (Kosaraju.order n edge) (i - 1) 0 (unlabelled n) below_length);
-          count_room =
-              let a = ap (λ s. s.count) r.labels in
-              let b = label_count n edge (get_or order (i - 1) 0) (labels_of visited labels count) in
-              omega arith;
-          labels_length = ll ∙ l.labels_length;
-          room = room_kept l.room l.room.keys_rise lv (omega arith) ls r.stack_zeros;
-        }
-
-pub label_end : {n : ℕ} {edge : Edges} {keys : List ℕ} {visited : List Bool} {labels : List ℕ} {count : ℕ} {members stack : List ℕ} {i : ℕ} → i ≤ 0
-    → Labelling n edge keys visited labels count members stack i → Regions n edge labels count stack
+pub label_end : {n : ℕ} {keys : List ℕ} {visited : List Bool} {labels : List ℕ} {count : ℕ} {members stack rest : List ℕ}
+    → Labelling n keys visited labels count members stack rest → length rest ≡ 0 → Regions n (flip (edges n keys)) labels count stack
 unfolding Kosaraju.labels
-label_end {n} {edge} {i = i} h l =
-    let e : i ≡ 0 = omega arith in
-    let all = l.labels_are ∙ ap (λ (k : ℕ). each (label n edge) (reverse (drop k (Kosaraju.order n edge))) (unlabelled n)) e in
+label_end {n} {keys} {rest = []} l h =
+    let all = l.labels_are ∙ ap (λ m. each (label n (flip (edges n keys))) (reverse m) (unlabelled n)) l.order_is in
     record { count_is = ap (λ s. s.count) all; labels_are = ap (λ s. s.region_of) all; stack_zeros = l.room.stack_zeros }
+label_end {rest = x ∷ rest} l h = absurd (omega arith)
 
 -- ---- the two arrays of keys
 
-pub within_flip : (n : ℕ) (keys : List ℕ) → Within n (flip (edges n keys))
-within_flip n keys a b h = let p = edges_within n keys b a h in (p.1, p.0)
+module _ {n : ℕ} {forward backward : List ℕ} {visited₀ : List Bool} {order₀ stack₀ : List ℕ}
+    (reversed : Reversed n forward backward) (r : Room n forward visited₀ order₀ stack₀) (visited : List Bool) (kept : length visited ≡ length visited₀) where
+  -- after the walk forward the walk back has room, and the order that it asks for
+  pub back_room : {order members stack : List ℕ} (labels : List ℕ) → Ascending backward → length labels ≡ n → n ≤ length members
+      → Ordered (length visited₀) (edges (length visited₀) forward) order₀ order stack → length stack ≡ length stack₀
+      → (take n order ≡ Kosaraju.order (length visited) (flip (edges (length visited) backward))) × (length labels ≡ length visited)
+      × Room (length visited) backward visited members stack
+  back_room {order} {members} {stack} labels rise long enough walk ls =
+      let at_n : Ordered n (edges n forward) order₀ order stack =
+      subst (λ (m : ℕ). Ordered m (edges m forward) order₀ order stack) r.visited_length walk
+      in
+      subst (λ (m : ℕ). (take n order ≡ Kosaraju.order m (flip (edges m backward))) × (length labels ≡ m) × Room m backward visited members stack)
+      (sym (kept ∙ r.visited_length))
+      (at_n.order_is ∙ ap (Kosaraju.order n) (sym (same_edges reversed)), long, room_kept r rise kept enough ls walk.stack_zeros)
 
-module _ (n : ℕ) (forward backward : List ℕ) (reversed : Reversed n forward backward) where
-  pub order_backward : {l : List ℕ} → l ≡ Kosaraju.order n (edges n forward) → l ≡ Kosaraju.order n (flip (edges n backward))
-  order_backward e = e ∙ ap (Kosaraju.order n) (sym (same_edges reversed))
-
-  pub regions_forward : {labels : List ℕ} {count : ℕ} {stack : List ℕ} → Regions n (flip (edges n backward)) labels count stack
+  pub regions_forward : {labels : List ℕ} {count : ℕ} {stack : List ℕ} → Regions (length visited) (flip (edges (length visited) backward)) labels count stack
       → Regions n (edges n forward) labels count stack
-  regions_forward {labels} {count} {stack} r = subst (λ edge. Regions n edge labels count stack) (same_edges reversed) r
+  regions_forward {labels} {count} {stack} w =
+      subst (λ edge. Regions n edge labels count stack) (same_edges reversed)
+      (subst (λ (m : ℕ). Regions m (flip (edges m backward)) labels count stack) (kept ∙ r.visited_length) w)

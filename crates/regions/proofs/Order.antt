@@ -3,11 +3,11 @@
 use mathlib.Core.Path.{◌≡◌, refl, sym, ap, ◌∙◌, subst}
 use mathlib.Core.Bool.{Bool, true, false, cond}
 use mathlib.Core.List.{List, [], ◌∷◌, ◌++◌, append-nil}
-use Prim.Native.Nat.{ℕ, zero, suc, ◌+◌, ◌-◌, ◌≤◌}
+use Prim.Native.Nat.{ℕ, zero, suc, ◌+◌, ◌-◌, ◌≤◌, ◌<◌}
 use native.Mathlib.Nat.{zero-add}
 use native.Mathlib.Numerals.{add-one}
 use native.Mathlib.Omega.{arith}
-use lib.ListN.{length, take, drop, replicate}
+use lib.ListN.{length, take, drop, replicate, length-replicate}
 use lib.Seq.{length-take-le, drop-drop}
 use Rattle.tables.specs.Order.{Ascending}
 use Rattle.regions.specs.Graph.{marked, range, filter, each}
@@ -36,6 +36,10 @@ pub room_kept : {n : ℕ} {keys keys' : List ℕ} {visited visited' : List Bool}
     → length visited' ≡ length visited → n ≤ length order' → length stack' ≡ length stack → Zeros stack' → Room n keys' visited' order' stack'
 room_kept r k v o s z =
     record { nodes = r.nodes; keys_rise = k; visited_length = v ∙ r.visited_length; order_room = o; stack_room = omega arith; stack_zeros = z }
+
+-- the nodes are counted by their flags
+pub room_here : {n : ℕ} {keys : List ℕ} {visited : List Bool} {order stack : List ℕ} → Room n keys visited order stack → Room (length visited) keys visited order stack
+room_here {n} {keys} {visited} {order} {stack} r = subst (λ (m : ℕ). Room m keys visited order stack) (sym r.visited_length) r
 
 -- ---- the nodes to walk from
 
@@ -74,15 +78,16 @@ pub record Walked (n : ℕ) (keys order₀ : List ℕ) (visited : List Bool) (or
   pub adds : count + fresh visited ≡ n
   pub room : Room n keys visited order stack
 
-module _ {n : ℕ} (keys : List ℕ) {order₀ stack : List ℕ} {visited : List Bool} (e : visited ≡ replicate n false) (r : Room n keys visited order₀ stack) where
+module _ {n : ℕ} {keys order₀ stack : List ℕ} {visited₀ visited : List Bool} (r : Room n keys visited₀ order₀ stack) (cleared : visited ≡ replicate (length visited₀) false) where
   begin : Walked n keys order₀ visited order₀ 0 stack []
   unfolding each
   begin =
+      let e : visited ≡ replicate n false = cleared ∙ ap (λ (k : ℕ). replicate k false) r.visited_length in
       record {
         walks = ap (λ v. walk_of v order₀ 0) e;
         rest = refl;
         adds = let f = ap fresh e in let g = fresh_none n in omega arith;
-        room = r;
+        room = room_kept r r.keys_rise (ap length cleared ∙ length-replicate (length visited₀) false) r.order_room refl r.stack_zeros;
       }
 
   pub order_begin : Walked n keys order₀ visited order₀ 0 stack (range zero 0)
@@ -98,13 +103,20 @@ module _ {n : ℕ} {keys order₀ : List ℕ} {visited : List Bool} {order : Lis
   walked_at : {m : List ℕ} → l ≡ m → Walked n keys order₀ visited order count stack m
   walked_at e = subst (λ m. Walked n keys order₀ visited order count stack m) e w
 
+  -- the next walk has room
+  pub walk_room : (start : ℕ) → start < n → (start < length visited) × (count + fresh visited ≤ length visited) × Room (length visited) keys visited order stack
+  walk_room start lt = (omega arith, omega arith, room_here w.room)
+
   -- after the walk from one more node
   module _ {start : ℕ} {visited' : List Bool} {order' : List ℕ} {count' : ℕ} {stack' : List ℕ}
-      (s : Searched n (edges n keys) start visited order count visited' order' count' stack')
+      (here : Searched (length visited) (edges (length visited) keys) start visited order count visited' order' count' stack')
       (lv : length visited' ≡ length visited) (lo : length order' ≡ length order) (ls : length stack' ≡ length stack) where
     pub walk_more : Walked n keys order₀ visited' order' count' stack' (l ++ (start ∷ []))
     unfolding each
     walk_more =
+        let s : Searched n (edges n keys) start visited order count visited' order' count' stack' =
+        subst (λ (m : ℕ). Searched m (edges m keys) start visited order count visited' order' count' stack') w.room.visited_length here
+        in
         record {
           walks =
               s.visits ∙ ap (visit n (edges n keys) n start) w.walks
@@ -119,14 +131,14 @@ module _ {n : ℕ} {keys order₀ : List ℕ} {visited : List Bool} {order : Lis
 module _ {n : ℕ} {keys order₀ : List ℕ} {visited : List Bool} {order : List ℕ} {count : ℕ} {stack : List ℕ} (start : ℕ)
     (w : Walked n keys order₀ visited order count stack (range zero start)) where
   pub order_more : {visited' : List Bool} {order' : List ℕ} {count' : ℕ} {stack' : List ℕ}
-      → Searched n (edges n keys) start visited order count visited' order' count' stack'
+      → Searched (length visited) (edges (length visited) keys) start visited order count visited' order' count' stack'
       → length visited' ≡ length visited → length order' ≡ length order → length stack' ≡ length stack
       → Walked n keys order₀ visited' order' count' stack' (range zero (start + 1))
   order_more s lv lo ls = walked_at (walk_more w s lv lo ls) (sym (range_next start))
 
   -- a node that is visited already
   pub order_skip : marked visited start ≡ true → Walked n keys order₀ visited order count stack (range zero (start + 1))
-  order_skip old = order_more (searched_old n keys start visited order count stack w.room.stack_zeros old) refl refl refl
+  order_skip old = order_more (searched_old (length visited) keys start visited order count stack w.room.stack_zeros old) refl refl refl
 
   pub order_end : start ≤ n → n ≤ start → Ordered n (edges n keys) order₀ order stack
   unfolding Kosaraju.order
@@ -147,7 +159,7 @@ module _ {n : ℕ} {keys order₀ : List ℕ} {visited : List Bool} {order : Lis
 module _ {n : ℕ} {keys order₀ : List ℕ} {visited : List Bool} {order : List ℕ} {count : ℕ} {stack : List ℕ} (start : ℕ) (marks : List Bool)
     (w : Walked n keys order₀ visited order count stack (starts_of start marks)) where
   pub reach_more : {visited' : List Bool} {order' : List ℕ} {count' : ℕ} {stack' : List ℕ} → marked marks start ≡ true
-      → Searched n (edges n keys) start visited order count visited' order' count' stack'
+      → Searched (length visited) (edges (length visited) keys) start visited order count visited' order' count' stack'
       → length visited' ≡ length visited → length order' ≡ length order → length stack' ≡ length stack
       → Walked n keys order₀ visited' order' count' stack' (starts_of (start + 1) marks)
   reach_more m s lv lo ls = walked_at (walk_more w s lv lo ls) (sym (starts_more marks start m))

@@ -16,7 +16,7 @@ use Rattle.tables.specs.Laws.{same?, at_member, member_none}
 use Rattle.tables.specs.Pairs.{span, pair}
 use Rattle.regions.specs.Graph.{Edges, range, filter, each, next}
 use Rattle.regions.specs.Kosaraju.{Walk, visit}
-use Rattle.regions.specs.Keys.{edges, row, Next}
+use Rattle.regions.specs.Keys.{edges, row, Next, NoNext}
 use Rattle.regions.proofs.Laws.Keys.{edges_pair}
 use Rattle.regions.proofs.Again.{visit_long, visit_again}
 
@@ -189,15 +189,9 @@ module _ (n x fuel : ℕ) (keys : List ℕ) {i : ℕ} (nodes : n ≤ span) (lt :
 -- ---- the key at a place
 
 module _ (n x : ℕ) (keys : List ℕ) (place : ℕ) where
-  pub next_end : length keys ≤ place → Next n keys x place n
+  pub next_end : length keys ≤ place → NoNext n keys x place
   unfolding row
-  next_end h =
-      record {
-        high = omega arith;
-        within = λ q. absurd (omega arith);
-        first = λ q. absurd (omega arith);
-        none = λ q. ap (row n x) (drop_of_length-le keys h);
-      }
+  next_end h = record { none = ap (row n x) (drop_of_length-le keys h) }
 
   module _ (h : place < length keys) where
     at_place : row n x (drop place keys)
@@ -205,20 +199,14 @@ module _ (n x : ℕ) (keys : List ℕ) (place : ℕ) where
     unfolding row
     at_place = ap (row n x) (drop-cons keys place 0 h)
 
-    pub next_past : pair x n ≤ get_or keys place 0 → Next n keys x place n
+    pub next_past : pair x n ≤ get_or keys place 0 → NoNext n keys x place
     next_past past =
-        record {
-          high = omega arith;
-          within = λ q. h;
-          first = λ q. absurd (omega arith);
-          none = λ q. at_place ∙ ap (λ b. cond b ((get_or keys place 0 - x * span) ∷ row n x (drop (suc place) keys)) []) (le-ltb _ _ past);
-        }
+        record { none = at_place ∙ ap (λ b. cond b ((get_or keys place 0 - x * span) ∷ row n x (drop (suc place) keys)) []) (le-ltb _ _ past) }
 
     pub next_here : x * span ≤ get_or keys place 0 → get_or keys place 0 < pair x n → Next n keys x place (get_or keys place 0 - x * span)
     next_here up less =
         record {
-          high = omega arith;
-          within = λ q. h;
-          first = λ q. at_place ∙ ap (λ b. cond b ((get_or keys place 0 - x * span) ∷ row n x (drop (suc place) keys)) []) (lt-ltb _ _ less);
-          none = λ q. absurd (omega arith);
+          below = omega arith;
+          within = h;
+          first = at_place ∙ ap (λ b. cond b ((get_or keys place 0 - x * span) ∷ row n x (drop (suc place) keys)) []) (lt-ltb _ _ less);
         }

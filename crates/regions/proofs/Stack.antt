@@ -8,15 +8,14 @@ use Prim.Native.Nat.{ℕ, zero, suc, ◌+◌, ◌*◌, ◌-◌, ◌≤◌, ◌<�
 use native.Mathlib.Nat.{not-suc-le-zero, le_of_suc-le-suc}
 use native.Mathlib.Numerals.{add-one}
 use native.Mathlib.Omega.{arith}
-use lib.Arith.{lt_of_le-ne}
 use lib.ListN.{length, get_or, set, take, drop, length-set}
 use lib.Seq.{get_or-set_same, get_or-set_other, take-suc-set, drop-set-lt, drop-drop}
 use Rattle.tables.specs.Order.{Ascending, LowerBound}
 use Rattle.tables.specs.Pairs.{span}
 use Rattle.regions.specs.Graph.{marked}
 use Rattle.regions.specs.Kosaraju.{Walk, push, visit}
-use Rattle.regions.specs.Keys.{edges, Next}
-use Rattle.regions.specs.Search.{walk_of, weight, fresh, Zeros, Room, Entered, Skipped, Searched}
+use Rattle.regions.specs.Keys.{edges}
+use Rattle.regions.specs.Search.{walk_of, weight, fresh, Zeros, Room, Entered, Found, Spent, Searched}
 use Rattle.tables.specs.Laws.{same?}
 use Rattle.regions.proofs.Again.{visit_old}
 use Rattle.regions.proofs.Frames.{Frame, frame, Placed, AllPlaced, finish, finish_start, finish_leave, finish_skip, finish_enter}
@@ -129,8 +128,12 @@ module _ {n : ℕ} {keys : List ℕ} {goal : Walk} {total count₀ : ℕ} {order
   placed_whole : Placed n keys x place × AllPlaced n keys (frames top stack)
   placed_whole = subst (AllPlaced n keys) (sym frames_whole) o.placed
 
-  pub top_placed : Placed n keys x place
+  top_placed : Placed n keys x place
   top_placed = placed_whole.0
+
+  -- a search for the next neighbour is for one of a node
+  pub search_room : (length visited ≤ span) × (x < length visited) × ((i : ℕ) → place ≤ i → i < length keys → x * span ≤ get_or keys i 0)
+  search_room = let below = top_placed.node_below in (omega arith, omega arith, top_placed.from_row)
 
   work_whole : (suc (length keys) - place) + work (length keys) (frames top stack) ≡ work (length keys) (frames depth stack)
   unfolding work
@@ -138,9 +141,9 @@ module _ {n : ℕ} {keys : List ℕ} {goal : Walk} {total count₀ : ℕ} {order
 
   -- ---- no neighbour is left: the call is closed
 
-  module _ {to k : ℕ} (l : Skipped n keys visited x place to k) (last : k ≡ n) where
-    none_left : Next n keys x to n
-    none_left = subst (λ (j : ℕ). Next n keys x to j) last l.stands
+  module _ (here : Spent (length visited) keys visited x place) where
+    spent : Spent n keys visited x place
+    spent = subst (λ (m : ℕ). Spent m keys visited x place) o.visited_length here
 
     abbrev popped : List ℕ
     popped = set (set stack (2 * top) 0) (2 * top + 1) 0
@@ -158,8 +161,8 @@ module _ {n : ℕ} {keys : List ℕ} {goal : Walk} {total count₀ : ℕ} {order
               ∙ ap (λ m. finish n keys (n - top) (frames top stack) (record { visited = visited; order = m }))
               (ap (λ (k : ℕ). take k (set order count x)) (add-one count) ∙ take-suc-set order count x (omega arith))
               ∙ ap (λ (k : ℕ). finish n keys k (frames top stack) (push x (walk_of visited order count))) fuel
-              ∙ finish_leave o.nodes o.rise (n - depth) (frames top stack) (walk_of visited order count) none_left
-              ∙ finish_skip o.nodes o.rise (frames top stack) (walk_of visited order count) (n - depth) l
+              ∙ finish_leave o.nodes o.rise (n - depth) (frames top stack) (walk_of visited order count) spent.ends
+              ∙ finish_skip o.nodes o.rise (frames top stack) (walk_of visited order count) (n - depth) spent.skipped
               ∙ ap (λ m. finish n keys (n - depth) m (walk_of visited order count)) frames_whole
               ∙ o.finishes;
           placed = subst (AllPlaced n keys) (sym under) placed_whole.1;
@@ -186,12 +189,15 @@ module _ {n : ℕ} {keys : List ℕ} {goal : Walk} {total count₀ : ℕ} {order
 
   -- ---- the next neighbour that is not visited: its call is opened
 
-  module _ {to k : ℕ} (l : Skipped n keys visited x place to k) (more : ¬ (k ≡ n)) where
-    pub lt : k < n
-    lt = lt_of_le-ne l.stands.high more
+  module _ {to k : ℕ} (here : Found (length visited) keys visited x place to k) where
+    l : Found n keys visited x place to k
+    l = subst (λ (m : ℕ). Found m keys visited x place to k) o.visited_length here
+
+    lt : k < n
+    lt = l.stands.below
 
     pub inside : to < length keys
-    inside = l.stands.within lt
+    inside = l.stands.within
 
     abbrev passed : List ℕ
     passed = set stack (2 * top + 1) (to + 1)
@@ -208,10 +214,14 @@ module _ {n : ℕ} {keys : List ℕ} {goal : Walk} {total count₀ : ℕ} {order
     )
 
     fewer : fresh visited ≡ 1 + fresh (set visited k true)
-    fewer = let h = lt in weight_mark 1 visited k (omega arith) (l.new lt)
+    fewer = let h = lt in weight_mark 1 visited k (omega arith) l.new
 
-    pub enter_room : depth < n
+    enter_room : depth < n
     enter_room = let f = fewer in omega arith
+
+    -- the node of the call that is opened has a flag, and its call a place
+    pub call_room : (k < span) × (k < length visited) × (2 * top + 2 + 1 < length passed)
+    call_room = let h = lt in let r = enter_room in (omega arith, omega arith, simp length-set (omega arith))
 
     module _ {visited' : List Bool} {stack' : List ℕ} (e : Entered keys k (2 * top + 2) visited passed visited' stack') where
       abbrev i : ℕ
@@ -237,8 +247,8 @@ module _ {n : ℕ} {keys : List ℕ} {goal : Walk} {total count₀ : ℕ} {order
             rise = o.rise;
             finishes =
                 ap (λ m. finish n keys (n - (depth + 1)) m (walk_of (set visited k true) order count)) frames_pushed
-                ∙ finish_enter o.nodes o.rise l.stands lt (frames top stack) (walk_of visited order count) (n - (depth + 1)) e.start o.visited_length (l.new lt)
-                ∙ finish_skip o.nodes o.rise (frames top stack) (walk_of visited order count) (suc (n - (depth + 1))) l
+                ∙ finish_enter o.nodes o.rise l.stands (frames top stack) (walk_of visited order count) (n - (depth + 1)) e.start o.visited_length l.new
+                ∙ finish_skip o.nodes o.rise (frames top stack) (walk_of visited order count) (suc (n - (depth + 1))) l.skipped
                 ∙ ap₂ (λ (f : ℕ) m. finish n keys f m (walk_of visited order count)) fuel frames_whole
                 ∙ o.finishes;
             placed = subst (AllPlaced n keys) (sym frames_pushed) (row_placed o.rise lt e.start, placed_passed);
@@ -266,7 +276,7 @@ module _ {n : ℕ} {keys : List ℕ} {goal : Walk} {total count₀ : ℕ} {order
           let p = ap (work (length keys)) frames_pushed in
           let w = work_whole in
           let h = lt in
-          let m = weight_mark (length keys + 2) visited k (omega arith) (l.new lt) in
+          let m = weight_mark (length keys + 2) visited k (omega arith) l.new in
           let b = top_placed.place_within in
           omega arith
 

@@ -1,7 +1,7 @@
 -- A graph as a table of keys: an edge from a to b is the pair of a and b, a * span + b, of crate `tables`. The keys rise; a key may be there
 -- more than once, as where several port connections lead from one component to another.
 -- Assumes nothing: these are definitions.
-use Rattle.std.specs.Prelude.{◌≡◌, cond, ◌&&◌, List, [], ◌∷◌, ℕ, suc, ◌*◌, ◌-◌, ◌≤◌, ◌<◌, ltb, length, drop}
+use Rattle.std.specs.Prelude.{◌≡◌, cond, ◌&&◌, List, [], ◌∷◌, ℕ, suc, ◌*◌, ◌-◌, ◌<◌, ltb, length, drop}
 use Rattle.tables.specs.Order.{member}
 use Rattle.tables.specs.Pairs.{span, pair}
 use Rattle.regions.specs.Graph.{Edges}
@@ -19,9 +19,12 @@ unfoldable pub row : ℕ → ℕ → List ℕ → List ℕ
 row n x [] = []
 row n x (key ∷ keys) = cond (ltb key (pair x n)) ((key - x * span) ∷ row n x keys) []
 
--- k is the neighbour of x that stands at the place, or n where no neighbour stands there or further on
+-- k is the neighbour of x that stands at the place
 pub record Next (n : ℕ) (keys : List ℕ) (x place k : ℕ) : Type 0 where
-  pub high : k ≤ n
-  pub within : k < n → place < length keys
-  pub first : k < n → row n x (drop place keys) ≡ k ∷ row n x (drop (suc place) keys)
-  pub none : k ≡ n → row n x (drop place keys) ≡ []
+  pub below : k < n
+  pub within : place < length keys
+  pub first : row n x (drop place keys) ≡ k ∷ row n x (drop (suc place) keys)
+
+-- no neighbour of x stands at the place or further on
+pub record NoNext (n : ℕ) (keys : List ℕ) (x place : ℕ) : Type 0 where
+  pub none : row n x (drop place keys) ≡ []

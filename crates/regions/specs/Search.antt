@@ -5,7 +5,7 @@ use Rattle.std.specs.Prelude.{◌≡◌, Bool, true, false, cond, List, [], ◌�
 use Rattle.tables.specs.Order.{Ascending, LowerBound}
 use Rattle.tables.specs.Pairs.{span}
 use Rattle.regions.specs.Graph.{Edges, marked}
-use Rattle.regions.specs.Keys.{Next}
+use Rattle.regions.specs.Keys.{Next, NoNext}
 use Rattle.regions.specs.Kosaraju as Kosaraju
 use Rattle.regions.specs.Kosaraju.{Walk, visit, Labels, label, reached}
 
@@ -47,16 +47,25 @@ pub record Entered (keys : List ℕ) (x at : ℕ) (visited₀ : List Bool) (stac
 -- a neighbour of x that is visited stands at the place
 pub record Passed (n : ℕ) (keys : List ℕ) (visited : List Bool) (x place : ℕ) : Type 0 where
   pub node : ℕ
-  pub below : node < n
   pub stands : Next n keys x place node
   pub old : marked visited node ≡ true
 
--- what a search for a neighbour of x that is not visited finds: visited ones up to the place, and there k, or none from there on where k is n
-pub record Skipped (n : ℕ) (keys : List ℕ) (visited : List Bool) (x from place k : ℕ) : Type 0 where
+-- a search for a neighbour of x that is not visited has come to the place: it passed visited ones
+pub record Skipped (n : ℕ) (keys : List ℕ) (visited : List Bool) (x from place : ℕ) : Type 0 where
   pub onward : from ≤ place
   pub passed : (i : ℕ) → i < place → from ≤ i → Passed n keys visited x i
+
+-- it finds k there
+pub record Found (n : ℕ) (keys : List ℕ) (visited : List Bool) (x from place k : ℕ) : Type 0 where
+  pub skipped : Skipped n keys visited x from place
   pub stands : Next n keys x place k
-  pub new : k < n → marked visited k ≡ false
+  pub new : marked visited k ≡ false
+
+-- it comes to a place from which on there is none
+pub record Spent (n : ℕ) (keys : List ℕ) (visited : List Bool) (x from : ℕ) : Type 0 where
+  pub place : ℕ
+  pub skipped : Skipped n keys visited x from place
+  pub ends : NoNext n keys x place
 
 -- what a walk from x does: it is `visit`, it touches no place of the order past the nodes that it adds, and it leaves the stack zero
 pub record Searched (n : ℕ) (edge : Edges) (x : ℕ) (visited₀ : List Bool) (order₀ : List ℕ) (count₀ : ℕ)

@@ -4,13 +4,13 @@
 
 pub mod carry;
 
-ghost use Rattle.std.specs.Prelude.{◌≡◌, false, ℕ, ◌+◌, ◌*◌, ◌<◌, ◌≤◌, length, get_or, take, replicate};
-ghost use Rattle.tables.specs.Order.{Ascending};
+ghost use Rattle.std.specs.Prelude.{◌≡◌, false, ℕ, ◌+◌, ◌*◌, ◌<◌, ◌≤◌, length, get_or, take, replicate, MatchOption};
+ghost use Rattle.tables.specs.Order.{Ascending, LowerBound};
 ghost use Rattle.tables.specs.Pairs.{span};
 ghost use Rattle.regions.specs.Graph.{flip};
 ghost use Rattle.regions.specs.Kosaraju as Kosaraju;
 ghost use Rattle.regions.specs.Keys.{edges, Reversed};
-ghost use Rattle.regions.specs.Search.{fresh, Room, Entered, Skipped, Searched, Ordered, Labelled, Regions, Reached};
+ghost use Rattle.regions.specs.Search.{fresh, Room, Entered, Found, Spent, Searched, Ordered, Labelled, Regions, Reached};
 
 use tables::SECOND_BITS;
 use tables::rows::{hint_rows, lower_bound_in};
@@ -22,214 +22,194 @@ pub const HINTED: usize = (1 << 10) + 1;
 pub fn clear_flags(flags: &mut [bool])
     ensures { flags.new ≡ replicate (length flags.old) false }
 {
-    let mut i = 0;
-    while i < flags.len() {
-        flags[i] = false;
-        i += 1;
-    }
+    flags.fill(false);
 }
 
 // Sets every number to 0.
 pub fn clear(numbers: &mut [usize])
     ensures { numbers.new ≡ replicate (length numbers.old) 0 }
 {
-    let mut i = 0;
-    while i < numbers.len() {
-        numbers[i] = 0;
-        i += 1;
-    }
+    numbers.fill(0);
 }
 
-// Marks the node and puts its call on the stack: the node, and the place of its first key.
-fn enter(
-    keys: &[u64],
-    node: usize,
-    visited: &mut [bool],
-    stack: &mut [usize],
-    at: usize,
-    rows: &[usize; HINTED],
-)
-    requires { (node < span) × (node < length visited.old) × (at + 1 < length stack.old) }
-    ensures { Entered keys.now node at visited.old stack.old visited.new stack.new }
-{
-    visited[node] = true;
-    stack[at] = node;
-    stack[at + 1] = lower_bound_in(keys, node as u64 * tables::SPAN, rows, node);
+// A graph: its edges as a table of keys, and hints of where the rows of the table end. The arrays that a walk writes are no fields: each
+// method would owe that its struct still holds the same references.
+#[derive(Clone, Copy)]
+struct Graph<'a> {
+    keys: &'a [u64],
+    rows: &'a [usize; HINTED],
 }
 
-// A neighbour, and the place of its key; or n, and a place from which on the node has no keys.
+// A neighbour, and the place of its key.
 #[derive(Clone, Copy)]
 struct Neighbour {
     place: usize,
     node: usize,
 }
 
-// The first neighbour of `node` from the place on that is not visited.
-fn skip_visited(keys: &[u64], n: usize, node: usize, from: usize, visited: &[bool]) -> Neighbour
-    requires { (n ≤ span) × (node < n) × (length visited.now ≡ n)
-        × ((i : ℕ) → from ≤ i → i < length keys.now → node * span ≤ get_or keys.now i 0) }
-    ensures { Skipped n keys.now visited.now node from result.place result.node }
-{
-    let base = node as u64 * tables::SPAN;
-    let mut place = from;
-    while place < keys.len() {
-        let k = (keys[place] - base) as usize;
-        if n <= k {
-            return Neighbour {
-                place: place,
-                node: n,
-            };
+impl Graph<'_> {
+    // The place of the first key of the node.
+    fn first_key(self, node: usize) -> usize
+        requires { node < span }
+        ensures { LowerBound self.entry.keys.now (node * span) result }
+    {
+        let Graph { keys, rows } = self;
+        lower_bound_in(keys, node as u64 * tables::SPAN, rows, node)
+    }
+
+    // The first neighbour of `node` from the place on that is not visited.
+    #[tactic(auto, using(crate::proofs::Rows::next_end, crate::proofs::Rows::next_past, crate::proofs::Rows::next_here))]
+    fn next_unvisited(self, node: usize, from: usize, visited: &[bool]) -> Option<Neighbour>
+        requires { let n = length visited.now in (n ≤ span) × (node < n)
+            × ((i : ℕ) → from ≤ i → i < length self.keys.now → node * span ≤ get_or self.keys.now i 0) }
+        ensures { let n = length visited.now in MatchOption result (Spent n self.entry.keys.now visited.now node from)
+            (λ next. Found n self.entry.keys.now visited.now node from next.place next.node) }
+    {
+        let keys = self.keys;
+        let base = node as u64 * tables::SPAN;
+        for place in from..keys.len() {
+            let k = (keys[place] - base) as usize;
+            if visited.len() <= k {
+                return None;
+            }
+            if !visited[k] {
+                return Some(Neighbour { place, node: k });
+            }
         }
-        if !visited[k] {
-            return Neighbour {
-                place: place,
-                node: k,
-            };
+        None
+    }
+
+    // Marks the node and puts its call on the stack: the node, and the place of its first key.
+    fn enter(self, node: usize, visited: &mut [bool], stack: &mut [usize], at: usize)
+        requires { (node < span) × (node < length visited.old) × (at + 1 < length stack.old) }
+        ensures { Entered self.entry.keys.now node at visited.old stack.old visited.new stack.new }
+    {
+        visited[node] = true;
+        stack[at] = node;
+        stack[at + 1] = self.first_key(node);
+    }
+
+    // Visits the nodes that `start` reaches over nodes that are not visited, and adds them to the order as they finish.
+    // Answers the new length of the order. The stack holds, for each open call, its node and the place of the key to look at next.
+    fn visit_from(
+        self,
+        start: usize,
+        visited: &mut [bool],
+        order: &mut [usize],
+        count: usize,
+        stack: &mut [usize],
+    ) -> usize
+        requires { let n = length visited.old in
+            (start < n) × (count + fresh visited.old ≤ n) × Room n self.keys.now visited.old order.old stack.old }
+        ensures { let n = length visited.old in
+            Searched n (edges n self.entry.keys.now) start visited.old order.old count visited.new order.new result stack.new }
+    {
+        if visited[start] {
+            return count;
         }
-        place += 1;
+        self.enter(start, visited, stack, 0);
+        let mut depth = 1;
+        let mut done = count;
+        // By hand: the stack grows and shrinks as the walk goes, no range says how.
+        while 0 < depth {
+            let at = 2 * (depth - 1);
+            let node = stack[at];
+            match self.next_unvisited(node, stack[at + 1], visited) {
+                None => {
+                    order[done] = node;
+                    done += 1;
+                    stack[at] = 0;
+                    stack[at + 1] = 0;
+                    depth -= 1;
+                }
+                Some(next) => {
+                    stack[at + 1] = next.place + 1;
+                    self.enter(next.node, visited, stack, at + 2);
+                    depth += 1;
+                }
+            }
+        }
+        done
     }
-    Neighbour {
-        place: place,
-        node: n,
-    }
-}
 
-// Visits the nodes that `start` reaches over nodes that are not visited, and adds them to the order as they finish.
-// Answers the new length of the order. The stack holds, for each open call, its node and the place of the key to look at next.
-fn visit_from(
-    keys: &[u64],
-    n: usize,
-    start: usize,
-    visited: &mut [bool],
-    order: &mut [usize],
-    count: usize,
-    stack: &mut [usize],
-    rows: &[usize; HINTED],
-) -> usize
-    requires { (start < n) × (count + fresh visited.old ≤ n) × Room n keys.now visited.old order.old stack.old }
-    ensures { Searched n (edges n keys.now) start visited.old order.old count
-        visited.new order.new result stack.new }
-{
-    if visited[start] {
-        return count;
-    }
-    enter(keys, start, visited, stack, 0, rows);
-    let mut depth = 1;
-    let mut done = count;
-    while 0 < depth {
-        let at = 2 * (depth - 1);
-        let node = stack[at];
-        let found = skip_visited(keys, n, node, stack[at + 1], visited);
-        let k = found.node;
-        if k == n {
-            order[done] = node;
-            done += 1;
-            stack[at] = 0;
-            stack[at + 1] = 0;
-            depth -= 1;
-        } else {
-            stack[at + 1] = found.place + 1;
-            enter(keys, k, visited, stack, at + 2, rows);
-            depth += 1;
+    // The walk forward: the nodes, in the order in which they finish.
+    fn finish_order(self, visited: &mut [bool], order: &mut [usize], stack: &mut [usize])
+        requires { Room (length visited.old) self.keys.now visited.old order.old stack.old }
+        ensures { let n = length visited.old in Ordered n (edges n self.entry.keys.now) order.old order.new stack.new }
+    {
+        visited.fill(false);
+        let mut count = 0;
+        for start in 0..visited.len() {
+            if !visited[start] {
+                count = self.visit_from(start, visited, order, count, stack);
+            }
         }
     }
-    done
-}
 
-// The walk forward: the nodes, in the order in which they finish. The rows are hints.
-fn finish_order(
-    keys: &[u64],
-    n: usize,
-    visited: &mut [bool],
-    order: &mut [usize],
-    stack: &mut [usize],
-    rows: &[usize; HINTED],
-)
-    requires { Room n keys.now visited.old order.old stack.old }
-    ensures { Ordered n (edges n keys.now) order.old order.new stack.new }
-{
-    clear_flags(visited);
-    let mut count = 0;
-    let mut start = 0;
-    while start < n {
-        if !visited[start] {
-            count = visit_from(keys, n, start, visited, order, count, stack, rows);
+    // The region of `node`, if it has none yet: the nodes without a region that reach it get the number `count`.
+    // Answers the new number of regions.
+    fn label_from(
+        self,
+        node: usize,
+        visited: &mut [bool],
+        labels: &mut [usize],
+        count: usize,
+        members: &mut [usize],
+        stack: &mut [usize],
+    ) -> usize
+        requires { let n = length visited.old in
+            (node < n) × (count < n) × (length labels.old ≡ n) × Room n self.keys.now visited.old members.old stack.old }
+        ensures { let n = length visited.old in
+            Labelled n (flip (edges n self.entry.keys.now)) node visited.old labels.old count visited.new labels.new result stack.new }
+    {
+        if visited[node] {
+            return count;
         }
-        start += 1;
+        let size = self.visit_from(node, visited, members, 0, stack);
+        paint(labels, &members[..size], count);
+        count + 1
+    }
+
+    // The walk back: the regions of the nodes of the order, last finished first.
+    fn label_all(
+        self,
+        order: &[usize],
+        visited: &mut [bool],
+        labels: &mut [usize],
+        members: &mut [usize],
+        stack: &mut [usize],
+    ) -> usize
+        requires { let n = length visited.old in (order.now ≡ Kosaraju.order n (flip (edges n self.keys.now)))
+            × (length labels.old ≡ n) × Room n self.keys.now visited.old members.old stack.old }
+        ensures { let n = length visited.old in Regions n (flip (edges n self.entry.keys.now)) labels.new result stack.new }
+    {
+        visited.fill(false);
+        labels.fill(0);
+        let mut count = 0;
+        for node in order.iter().rev() {
+            count = self.label_from(*node, visited, labels, count, members, stack);
+        }
+        count
     }
 }
 
-// Stores r at each of the first `size` members.
-fn paint(labels: &mut [usize], members: &[usize], size: usize, r: usize)
-    requires { (size ≤ length members.now) × ((i : ℕ) → i < size → get_or members.now i 0 < length labels.old) }
-    ensures { labels.new ≡ Kosaraju.paint r (take size members.now) labels.old }
+// Stores r at each of the members.
+#[tactic(auto, using(crate::proofs::Label::paint_more), unfolding(crate::specs::Kosaraju::paint, crate::specs::Graph::each))]
+fn paint(labels: &mut [usize], members: &[usize], r: usize)
+    requires { (i : ℕ) → i < length members.now → get_or members.now i 0 < length labels.old }
+    ensures { labels.new ≡ Kosaraju.paint r members.now labels.old }
 {
-    let mut i = 0;
-    while i < size {
-        labels[members[i]] = r;
-        i += 1;
+    for member in members {
+        labels[*member] = r;
     }
-}
-
-// The region of `node`, if it has none yet: the nodes without a region that reach it get the number `count`.
-// Answers the new number of regions.
-fn label_from(
-    backward: &[u64],
-    n: usize,
-    node: usize,
-    visited: &mut [bool],
-    labels: &mut [usize],
-    count: usize,
-    members: &mut [usize],
-    stack: &mut [usize],
-    rows: &[usize; HINTED],
-) -> usize
-    requires { (node < n) × (count < n) × (length labels.old ≡ n) × Room n backward.now visited.old members.old stack.old }
-    ensures { Labelled n (flip (edges n backward.now)) node visited.old labels.old count
-        visited.new labels.new result stack.new }
-{
-    if visited[node] {
-        return count;
-    }
-    let size = visit_from(backward, n, node, visited, members, 0, stack, rows);
-    paint(labels, members, size, count);
-    count + 1
-}
-
-// The walk back: the regions of the nodes of the order, last finished first. The rows are hints.
-fn label_all(
-    backward: &[u64],
-    n: usize,
-    order: &[usize],
-    visited: &mut [bool],
-    labels: &mut [usize],
-    members: &mut [usize],
-    stack: &mut [usize],
-    rows: &[usize; HINTED],
-) -> usize
-    requires { (n ≤ length order.now) × (take n order.now ≡ Kosaraju.order n (flip (edges n backward.now)))
-        × (length labels.old ≡ n) × Room n backward.now visited.old members.old stack.old }
-    ensures { Regions n (flip (edges n backward.now)) labels.new result stack.new }
-{
-    clear_flags(visited);
-    clear(labels);
-    let mut count = 0;
-    let mut i = n;
-    while 0 < i {
-        i -= 1;
-        count = label_from(
-            backward, n, order[i], visited, labels, count, members, stack, rows,
-        );
-    }
-    count
 }
 
 // The number of regions; `labels` gets the number of each node's. The two tables hold the edges and the edges turned
 // around; `rows` and `turned` are hints of their rows.
+#[tactic(auto, using(crate::proofs::Label::back_room, crate::proofs::Label::regions_forward))]
 pub fn regions(
     forward: &[u64],
     backward: &[u64],
-    n: usize,
     labels: &mut [usize],
     visited: &mut [bool],
     order: &mut [usize],
@@ -238,35 +218,42 @@ pub fn regions(
     rows: &[usize; HINTED],
     turned: &[usize; HINTED],
 ) -> usize
-    requires { Reversed n forward.now backward.now × Ascending backward.now × (length labels.old ≡ n) × (n ≤ length members.old)
+    requires { let n = length labels.old in Reversed n forward.now backward.now × Ascending backward.now × (n ≤ length members.old)
         × Room n forward.now visited.old order.old stack.old }
-    ensures { Regions n (edges n forward.now) labels.new result stack.new }
+    ensures { let n = length labels.old in Regions n (edges n forward.now) labels.new result stack.new }
 {
-    finish_order(forward, n, visited, order, stack, rows);
-    label_all(backward, n, order, visited, labels, members, stack, turned)
+    let onward = Graph {
+        keys: forward,
+        rows,
+    };
+    onward.finish_order(visited, order, stack);
+    let finished = &order[..labels.len()];
+    let back = Graph {
+        keys: backward,
+        rows: turned,
+    };
+    back.label_all(finished, visited, labels, members, stack)
 }
 
 // Marks in `visited` what the marked starts reach, the starts among it. The order is scratch.
 pub fn reach_from(
     keys: &[u64],
-    n: usize,
     starts: &[bool],
     visited: &mut [bool],
     order: &mut [usize],
     stack: &mut [usize],
 )
-    requires { (length starts.now ≡ n) × Room n keys.now visited.old order.old stack.old }
-    ensures { Reached n (edges n keys.now) starts.now visited.new stack.new }
+    requires { Room (length starts.now) keys.now visited.old order.old stack.old }
+    ensures { let n = length starts.now in Reached n (edges n keys.now) starts.now visited.new stack.new }
 {
-    clear_flags(visited);
+    visited.fill(false);
     let mut rows = [0usize; HINTED];
     hint_rows(keys, SECOND_BITS, &mut rows);
+    let graph = Graph { keys, rows: &rows };
     let mut count = 0;
-    let mut start = 0;
-    while start < n {
-        if starts[start] {
-            count = visit_from(keys, n, start, visited, order, count, stack, &rows);
+    for (start, is_start) in starts.iter().enumerate() {
+        if *is_start {
+            count = graph.visit_from(start, visited, order, count, stack);
         }
-        start += 1;
     }
 }

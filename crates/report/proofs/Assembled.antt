@@ -3,6 +3,7 @@
 --     rows_long, component_count_lem, region_pairs     how many numbers the rows have
 --     assembled                        by what grouping, port selection and the analysis left
 -- Assumes nothing.
+use Rattle.blocks.specs.declared.Block.{Block}
 use Rattle.std.specs.Prelude.{None}
 use mathlib.Core.Path.{◌≡◌, refl, ap, subst, ◌∙◌}
 use mathlib.Core.List.{List, ◌++◌, append_assoc}
@@ -43,10 +44,10 @@ pub whole_is : (cs ps fs : List ℤ) → first_repeated cs ≡ None
     ≡ report_of cs ps fs
 unfolding report_of
 whole_is cs ps fs once =
-    let components = block_text 0 (component_rows cs ps fs (component_count cs)) in
-    let kept = block_text 1 (kept_rows cs ps) in
-    let regions = block_text 2 (region_rows cs ps fs (region_count cs (kept_list cs ps))) in
-    let sources = block_text 3 (source_rows cs (kept_list cs ps) fs) in
+    let components = block_text Block.Components (component_rows cs ps fs (component_count cs)) in
+    let kept = block_text Block.Connections (kept_rows cs ps) in
+    let regions = block_text Block.Regions (region_rows cs ps fs (region_count cs (kept_list cs ps))) in
+    let sources = block_text Block.Sources (source_rows cs (kept_list cs ps) fs) in
     in_order (line_of (ascii "answer") (pos 0)) components kept regions sources (inputs_text cs (kept_list cs ps) fs (input_rows cs (kept_list cs ps) fs))
     ∙ ap (λ (t : List ℕ). line_of (ascii "answer") (pos 0) ++ (components ++ (kept ++ (regions ++ (sources ++ t))))) (inputs_is cs (kept_list cs ps) fs once)
 

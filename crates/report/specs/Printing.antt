@@ -4,6 +4,7 @@
 --     blocks_text, whole_text               the blocks before them, and the report by its rows
 --     Accepts, Gathered, Analyzed         the lists of an accepted sheet; what grouping, port selection and the analysis left
 -- Assumes nothing: these are definitions.
+use Rattle.blocks.specs.declared.Block.{Block}
 use Rattle.std.specs.Prelude.{Ok}
 use Rattle.std.specs.Prelude.{ℕ, ◌/◌, ◌≡◌, List, [], ◌∷◌, ◌++◌, map, length, get_or, ℤ, pos}
 use Rattle.sets.specs.Members.{as_nat, member_of}
@@ -65,7 +66,7 @@ inputs_text cs kept fs rows = line_of (ascii "inputs") (pos (length rows / 3)) +
 -- up to the verdict rows: of components, kept connections, regions, sources
 abbrev pub blocks_text : List ℕ → List ℕ → List ℕ → List ℕ → List ℕ
 blocks_text components kept regions sources =
-    line_of (ascii "answer") (pos 0) ++ (block_text 0 components ++ (block_text 1 kept ++ (block_text 2 regions ++ block_text 3 sources)))
+    line_of (ascii "answer") (pos 0) ++ (block_text Block.Components components ++ (block_text Block.Connections kept ++ (block_text Block.Regions regions ++ block_text Block.Sources sources)))
 
 abbrev pub whole_text : List ℤ → List ℤ → List ℤ → List ℕ → List ℕ → List ℕ → List ℕ → List ℕ → List ℕ
 whole_text cs kept fs components connections regions sources inputs =

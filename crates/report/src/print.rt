@@ -15,12 +15,12 @@ use super::fill::{fill_components, fill_connections, fill_regions};
 use super::rows::{left_after_rows, put_rows};
 use assessment::upstream::TABLE;
 use blocks::answer::put_accepted;
-use blocks::{left_after, left_after_block, put_block};
+use blocks::{Block, left_after, left_after_block, put_block};
 use checks::refusals::grouping_lists;
 use circuit::settle::group;
 use inputs::asked::make_ready;
 use lists::ends::settle_ends;
-use lists::{COMPONENT, COMPONENTS, CONNECTIONS, PORT, Refusal};
+use lists::{COMPONENT, COMPONENTS, CONNECTIONS, Fault, PORT, Refusal};
 use liveness::Analysis;
 use liveness::steps::analyze;
 use scene::connections::keep_all;
@@ -54,10 +54,10 @@ fn left_after_blocks(
     ensures { result ≡ left_after left (length (blocks_text components.now kept.now regions.now sources.now)) }
 {
     let a = left_after(left, ANSWER);
-    let b = left_after_block(a, 0, components);
-    let c = left_after_block(b, 1, kept);
-    let d = left_after_block(c, 2, regions);
-    left_after_block(d, 3, sources)
+    let b = left_after_block(a, Block::Components, components);
+    let c = left_after_block(b, Block::Connections, kept);
+    let d = left_after_block(c, Block::Regions, regions);
+    left_after_block(d, Block::Sources, sources)
 }
 
 // Writes these blocks at the front of `out`, and answers where they end.
@@ -72,10 +72,10 @@ fn put_blocks(
     ensures { Put 0 (blocks_text components.now kept.now regions.now sources.now) out.old out.new result }
 {
     let a = put_accepted(out, 0);
-    let b = put_block(out, a, 0, components);
-    let c = put_block(out, b, 1, kept);
-    let d = put_block(out, c, 2, regions);
-    put_block(out, d, 3, sources)
+    let b = put_block(out, a, Block::Components, components);
+    let c = put_block(out, b, Block::Connections, kept);
+    let d = put_block(out, c, Block::Regions, regions);
+    put_block(out, d, Block::Sources, sources)
 }
 
 // Prints a report given its rows, where it fits.

@@ -9,11 +9,8 @@ ghost use Rattle.report.specs.Printing.{asked_text, row_lines, inputs_text};
 
 use blocks::inputs::{left_after_input, put_input};
 use blocks::keys::{count_length, put_count};
-use blocks::left_after;
+use blocks::{Block, left_after};
 use inputs::asked::asked_sources;
-
-// The number of this block.
-const INPUTS: u64 = 4;
 
 // Writes the lines of a row into the rest of `out` from `at` on, and answers where they end.
 fn put_asked(
@@ -79,7 +76,7 @@ pub fn put_rows(
         at + length (inputs_text components.now ps fs rows.now) ≤ length out.old →
         Put at (inputs_text components.now ps fs rows.now) out.old out.new result }
 {
-    let mut p = put_count(out, at, INPUTS, (rows.len() / 3) as u64);
+    let mut p = put_count(out, at, Block::Inputs, (rows.len() / 3) as u64);
     let mut k: usize = 0;
     while k + 2 < rows.len() {
         p = put_asked(
@@ -114,7 +111,7 @@ pub fn left_after_rows(
     ensures { (ps fs : List ℤ) → Ready components.now ps fs fed.now labels.now upstream.now →
         result ≡ left_after left (length (inputs_text components.now ps fs rows.now)) }
 {
-    let mut rest = left_after(left, count_length(INPUTS, (rows.len() / 3) as u64));
+    let mut rest = left_after(left, count_length(Block::Inputs, (rows.len() / 3) as u64));
     let mut k: usize = 0;
     while k + 2 < rows.len() {
         rest = left_after_asked(

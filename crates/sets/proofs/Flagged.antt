@@ -1,24 +1,22 @@
 -- Words and sets made of flags.
 --     word_none, word_more, word_small     `WordOf`: one flag more, below those that there are; how great a word can be
---     flagged_none, flagged_more           `Flagged`: one word more
 --     flagged_all                          all words make the set
+--     set_of_front                         the set of the flags in front of a slice
 -- Assumes nothing.
 use mathlib.Core.Path.{◌≡◌, refl, sym, ap, ◌∙◌}
 use mathlib.Core.Bool.{Bool, true, false, ◌&&◌}
 use mathlib.Core.List.{List}
-use mathlib.Core.Logic.{⊎_elim}
 use Prim.Native.Nat.{ℕ, zero, suc, ◌+◌, ◌*◌, ◌/◌, ◌%◌, ◌^◌, ◌≤◌, ◌<◌, min}
-use native.Mathlib.Nat.{pow-suc, eq-or-lt_of_le, lt_of_lt_of_le}
+use native.Mathlib.Nat.{pow-suc}
 use native.Mathlib.Decide.{dec_lt}
 use native.Mathlib.Omega.{arith}
 use lib.Dec.{eqb, ltb}
-use lib.Pow.{pow_mono}
-use lib.ListN.{length, get_or, set, replicate}
-use lib.Seq.{get_or-set_same, get_or-set_other}
+use lib.ListN.{length, get_or, take}
+use lib.Seq.{length-take-le, get_or-take}
 use borrow.Author.Tests.{lt-ltb, le-ltb}
 use Rattle.sets.specs.Members.{test_bit, member_of, as_nat, SetOf, WordOf}
 use Rattle.sets.proofs.TestBit.{test_low, test_suc, test_zero}
-use Rattle.sets.proofs.Words.{get_or_zeros}
+use Rattle.sets.proofs.Words.{member_past}
 
 -- ---- a word
 
@@ -52,46 +50,40 @@ as_small false = omega arith
 pub word_small : (word k : ℕ) (t : Bool) → word < 2 ^ k → 2 * word + as_nat t < 2 ^ suc k
 word_small word k t l = omega (arith, pow-suc 2 k, as_small t)
 
-pub word_fits : (word k : ℕ) (t : Bool) → word < 2 ^ k → k < 64 → 2 * word + as_nat t < 2 ^ 64
-word_fits word k t l h = lt_of_lt_of_le (word_small word k t l) (pow_mono (let m : suc k ≤ 64 = omega arith in m))
-
 -- ---- a set
 
--- the words below i have their flags, and the others have none
-pub record Flagged (n : ℕ) (flags : List Bool) (i : ℕ) (words : List ℕ) : Type 0 where
-  pub done : (j : ℕ) → j < i → WordOf flags (64 * j) (min (64 * j + 64) n) (get_or words j 0)
-  pub left : (j : ℕ) → i ≤ j → get_or words j 0 ≡ 0
-
-pub flagged_none : (n : ℕ) (flags : List Bool) (m : ℕ) → Flagged n flags 0 (replicate m 0)
-flagged_none n flags m = record { done = λ j h. absurd (omega arith); left = λ j h. get_or_zeros m j }
-
-pub flagged_more : (n : ℕ) (flags : List Bool) (i : ℕ) (words : List ℕ) (word : ℕ) → i < length words → Flagged n flags i words
-    → WordOf flags (64 * i) (min (64 * i + 64) n) word → Flagged n flags (i + 1) (set words i word)
-flagged_more n flags i words word h f w = record {
-  done = λ j l. ⊎_elim
-      (λ (same : j ≡ i). rw (same, get_or-set_same words i word 0 h) w)
-      (λ (less : j < i). rw (get_or-set_other words i j word 0 (λ e. omega arith)) (f.done j less))
-      (eq-or-lt_of_le (let m : j ≤ i = omega arith in m));
-  left = λ j l. get_or-set_other words i j word 0 (λ e. omega arith) ∙ f.left j (omega arith);
-}
-
-module _ (n : ℕ) (flags : List Bool) (i : ℕ) (words : List ℕ) (all : n ≤ 64 * i) (f : Flagged n flags i words) where
-  there : (k : ℕ) → k / 64 < i → member_of words k ≡ (ltb k (min (64 * (k / 64) + 64) n) && get_or flags k false)
+-- each word has its flags, if it has any: the words make the set
+module _ (flags : List Bool) (words : List ℕ) (few : length flags ≤ 64 * length words)
+    (each : (i : ℕ) → i < length words → WordOf flags (min (length flags) (64 * i)) (min (length flags) (64 * i + 64)) (get_or words i 0)) where
+  flag_at : (k start : ℕ) → k / 64 < length words → start ≡ min (length flags) (64 * (k / 64))
+      → member_of words k ≡ (ltb (start + k % 64) (min (length flags) (64 * (k / 64) + 64)) && get_or flags (start + k % 64) false)
   unfolding member_of
-  there k h =
-      let same : 64 * (k / 64) + k % 64 ≡ k = omega arith in
-      (f.done (k / 64) h).bits (k % 64) ∙ ap (λ (x : ℕ). ltb x (min (64 * (k / 64) + 64) n) && get_or flags x false) same
+  flag_at k start h e =
+      (each (k / 64) h).bits (k % 64)
+      ∙ ap (λ (x : ℕ). ltb (x + k % 64) (min (length flags) (64 * (k / 64) + 64)) && get_or flags (x + k % 64) false) (sym e)
 
-  past_word : (k : ℕ) → i ≤ k / 64 → member_of words k ≡ false
-  unfolding member_of
-  past_word k h = ap (λ (x : ℕ). test_bit x (k % 64)) (f.left (k / 64) h) ∙ test_zero (k % 64)
+  past_flags : (k : ℕ) → length flags ≤ k → Dec (k / 64 < length words) → member_of words k ≡ false
+  past_flags k h (yes l) =
+      let start = min (length flags) (64 * (k / 64)) in
+      flag_at k start l refl
+      ∙ ap (λ (t : Bool). t && get_or flags (start + k % 64) false) (le-ltb (start + k % 64) (min (length flags) (64 * (k / 64) + 64)) (omega arith))
+  past_flags k h (no l) = member_past words k (omega arith)
 
-  past : (k : ℕ) → n ≤ k → Dec (k / 64 < i) → member_of words k ≡ false
-  past k h (yes l) = there k l ∙ ap (λ (t : Bool). t && get_or flags k false) (le-ltb k (min (64 * (k / 64) + 64) n) (omega arith))
-  past k h (no l) = past_word k (omega arith)
-
-  pub flagged_all : SetOf n flags words
+  pub flagged_all : SetOf (length flags) flags words
   flagged_all = record {
-    member = λ k h. there k (omega arith) ∙ ap (λ (t : Bool). t && get_or flags k false) (lt-ltb k (min (64 * (k / 64) + 64) n) (omega arith));
-    past = λ k h. past k h (dec_lt (k / 64) i);
+    member = λ k h.
+        let same : 64 * (k / 64) + k % 64 ≡ k = omega arith in
+        flag_at k (64 * (k / 64)) (omega arith) (omega arith)
+        ∙ ap (λ (x : ℕ). ltb x (min (length flags) (64 * (k / 64) + 64)) && get_or flags x false) same
+        ∙ ap (λ (t : Bool). t && get_or flags k false) (lt-ltb k (min (length flags) (64 * (k / 64) + 64)) (omega arith));
+    past = λ k h. past_flags k h (dec_lt (k / 64) (length words));
   }
+
+-- a set of the first n flags of a longer slice, of which they are lent
+pub set_of_front : (n : ℕ) (flags : List Bool) (words : List ℕ) → n ≤ length flags → SetOf (length (take n flags)) (take n flags) words → SetOf n flags words
+set_of_front n flags words h s =
+    let long : length (take n flags) ≡ n = length-take-le n flags h in
+    record {
+      member = λ k l. s.member k (omega arith) ∙ get_or-take n flags k false l;
+      past = λ k l. s.past k (omega arith);
+    }

@@ -1,5 +1,4 @@
 -- The tables of keys are the graph of `signals`.
---     and_assoc                             tests joined to the left or to the right
 --     pair_same, slot_same                  two pairs are equal where their parts are
 --     pairs_member                          what a table of keys has
 --     settled_small                         settled members are below the span
@@ -10,7 +9,7 @@
 --     fed_at                                the table of fed ports
 -- Assumes nothing.
 use mathlib.Core.Path.{◌≡◌, refl, sym, ap, ◌∙◌}
-use mathlib.Core.Bool.{Bool, true, false, ◌&&◌}
+use mathlib.Core.Bool.{Bool, true, false, ◌&&◌, and_assoc}
 use mathlib.Core.Logic.{⊎_elim}
 use mathlib.Core.List.{List}
 use Prim.Native.Nat.{ℕ, ◌+◌, ◌*◌, ◌≤◌, ◌<◌}
@@ -69,10 +68,6 @@ and_turn true true true = refl
 and_turn true true false = refl
 and_turn true false true = refl
 and_turn true false false = refl
-
-pub and_assoc : (a b c : Bool) → ((a && b) && c) ≡ (a && (b && c))
-and_assoc true b c = refl
-and_assoc false b c = refl
 
 -- ---- a table of keys
 

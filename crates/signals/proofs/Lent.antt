@@ -3,15 +3,21 @@
 --     front_length           which is as long as what was lent
 --     indices_same           indices below the length that was lent
 --     gathered_same          tests gathered up to that length
+--     gathered_front         by the indices at the front of an array
 -- Assumes nothing.
 use mathlib.Core.Path.{◌≡◌, sym, ap, subst, ◌∙◌}
-use mathlib.Core.Bool.{Bool}
+use mathlib.Core.Bool.{Bool, ◌&&◌}
 use mathlib.Core.List.{List, ◌++◌}
-use Prim.Native.Nat.{ℕ, ◌≤◌}
+use Prim.Native.Nat.{ℕ, ◌≤◌, ◌<◌}
 use native.Mathlib.Omega.{arith}
+use lib.Dec.{eqb}
 use lib.ListN.{length, take, length-append}
-use lib.Seq.{take-append_seam}
+use lib.Seq.{take-append_seam, length-take-le}
+use Rattle.std.proofs.lemmas.List.{get_or-take}
+use Rattle.lists.specs.First.{is_found}
+use Rattle.regions.specs.Graph.{marked}
 use Rattle.signals.specs.Flags.{Gathered, Indices}
+use Rattle.signals.proofs.Tabulated.{first_cong}
 
 pub front : {A : Type 0} (n : ℕ) (out rest : List A) → length out ≡ n → take n (out ++ rest) ≡ out
 front n out rest e = rw (← e) (take-append_seam out rest)
@@ -27,3 +33,11 @@ indices_same e i = record { long = i.long; below = λ p h. omega (arith, e, i.be
 
 pub gathered_same : {n n' : ℕ} {index : List ℕ} {tests out : List Bool} → n ≡ n' → Gathered n index tests out → Gathered n' index tests out
 gathered_same {n} {n'} {index} {tests} {out} e g = subst (λ (k : ℕ). Gathered k index tests out) e g
+
+pub gathered_front : {n : ℕ} (index : List ℕ) {tests out : List Bool} → n ≤ length index → Gathered (length (take n index)) (take n index) tests out
+    → Gathered n index tests out
+gathered_front {n} index {tests} h g = record {
+  at = λ j l.
+      g.at j l ∙ rw (length-take-le n index h)
+      (ap is_found (first_cong _ _ 0 n (λ p a b. ap (λ (i : ℕ). marked tests p && eqb i j) (get_or-take n index p 0 (let m : p < n = omega arith in m)))));
+}

@@ -2,7 +2,7 @@
 --     set_marked                                       a flag that is set
 --     flags_none, flags_more                           `Flags`: one flag written more
 --     by_none, by_or, by_more                          `GatheredBy`: one test more
---     gathered_none, gathered_or                       `Gathered`: one test more
+--     gathered_none, gathered_more                      `Gathered`: one test more
 --     counted_none, counted_more, counted_most         `Counted`: one index more
 -- Assumes nothing.
 use mathlib.Core.Path.{◌≡◌, sym, ap, ◌∙◌}
@@ -74,9 +74,9 @@ module _ (index : List ℕ) (tests : List Bool) where
   pub gathered_none : (n : ℕ) → Gathered 0 index tests (replicate n false)
   gathered_none n = record { at = (by_none (λ p. get_or index p 0) (marked tests) n).at }
 
-  pub gathered_or : (p : ℕ) {out : List Bool} → Gathered p index tests out → get_or index p 0 < length out
-      → Gathered (p + 1) index tests (set out (get_or index p 0) (marked out (get_or index p 0) || marked tests p))
-  gathered_or p {out} g l = record { at = (by_or (λ q. get_or index q 0) (marked tests) p {out = out} (record { at = g.at }) l).at }
+  pub gathered_more : (p : ℕ) {out : List Bool} → Gathered p index tests out → (i : ℕ) (v : Bool) → i ≡ get_or index p 0 → v ≡ marked tests p → i < length out
+      → Gathered (p + 1) index tests (set out i (marked out i || v))
+  gathered_more p {out} g i v e f l = record { at = (by_more (λ q. get_or index q 0) (marked tests) p {out = out} (record { at = g.at }) i v e f l).at }
 
 -- ---- counts
 

@@ -1,12 +1,12 @@
 -- The neighbours seen so far, none, one or many.
 --     seen_cong                              what was seen by one test was seen by another that agrees with it
---     seen_first, seen_again, seen_more, seen_many   a neighbour more
+--     seen_more                              a second neighbour
 --     few_none, few_one, few_many            at most one was seen exactly if the test holds at most once
 --     row_none, row_key, row_other, row_all  the keys of a row: none yet, one more, all
 --     both_rows                              the neighbours of two rows
 -- Assumes nothing.
 use mathlib.Core.Path.{◌≡◌, refl, sym, ap, ◌∙◌}
-use mathlib.Core.Bool.{Bool, true, false, ◌&&◌, ◌||◌}
+use mathlib.Core.Bool.{Bool, true, false, ◌&&◌, ◌||◌, or-false, or_assoc, and-false}
 use mathlib.Core.List.{List, [], ◌∷◌}
 use mathlib.Core.Logic.{◌⊎◌, ⊎_elim, inl, inr}
 use Prim.Native.Nat.{ℕ, zero, suc, ◌+◌, ◌*◌, ◌/◌, ◌%◌, ◌≤◌, ◌<◌}
@@ -31,10 +31,6 @@ use Rattle.signals.specs.declared.inferred.Seen.TheVariants.{None, One, Many}
 
 -- ---- truth values
 
-or_false : (t : Bool) → (t || false) ≡ t
-or_false true = refl
-or_false false = refl
-
 pub or_left : {a : Bool} (b : Bool) → a ≡ true → (a || b) ≡ true
 or_left b e = ap (λ (t : Bool). t || b) e
 
@@ -54,19 +50,6 @@ module _ (n : ℕ) (test : ℕ → Bool) (j : ℕ) (lt : j < n) where
   abbrev more : ℕ → Bool
   more i = test i || eqb j i
 
-  pub seen_first : SeenOf n test None → SeenOf n more (One j)
-  seen_first none = (
-    lt,
-    (
-      or_right (test j) (eq-eqb j j refl),
-      λ k h e. ⊎_elim (λ t. never (sym (none k h) ∙ t)) (λ t. sym (eqb-true j k t)) (either (test k) (eqb j k) e),
-    ),
-  )
-
-  pub seen_again : (i : ℕ) → i ≡ j → SeenOf n test (One i) → SeenOf n more (One i)
-  seen_again i same (_, (is, only)) =
-      (omega arith, (or_left (eqb j i) is, λ k h e. ⊎_elim (λ t. only k h t) (λ t. omega (arith, eqb-true j k t)) (either (test k) (eqb j k) e)))
-
   pub seen_more : (i : ℕ) → (i ≡ j → ⊥) → SeenOf n test (One i) → SeenOf n more Many
   seen_more i other (low, (is, only)) =
       let first = or_left (eqb j i) is in
@@ -75,9 +58,6 @@ module _ (n : ℕ) (test : ℕ → Bool) (j : ℕ) (lt : j < n) where
       (λ (le : i ≤ j). (i, (j, (omega arith, (lt, (first, second))))))
       (λ (less : j < i). (j, (i, (less, (low, (second, first))))))
       (order? i j)
-
-  pub seen_many : SeenOf n test Many → SeenOf n more Many
-  seen_many (a, (b, (less, (low, (p, q))))) = (a, (b, (less, (low, (or_left (eqb j a) p, or_left (eqb j b) q)))))
 
 -- ---- at most one
 
@@ -104,16 +84,12 @@ member_none v (suc at) [] h = refl
 member_none v (suc at) (key ∷ keys) h =
     rw (ne_eqb v key (λ e. h 0 (omega arith) (omega arith) (sym e))) (member_none v at keys (λ k l m. h (suc k) (omega arith) (omega arith)))
 
-or_assoc : (a b c : Bool) → (a || (b || c)) ≡ ((a || b) || c)
-or_assoc true b c = refl
-or_assoc false b c = refl
-
 member_one : (v at : ℕ) (keys : List ℕ) → at < length keys → member v (take (suc at) keys) ≡ (member v (take at keys) || eqb v (get_or keys at 0))
 unfolding member
 member_one v at [] h = absurd (omega arith)
-member_one v zero (key ∷ keys) h = or_false (eqb v key)
+member_one v zero (key ∷ keys) h = or-false (eqb v key)
 member_one v (suc at) (key ∷ keys) h =
-    ap (λ (t : Bool). eqb v key || t) (member_one v at keys (omega arith)) ∙ or_assoc (eqb v key) (member v (take at keys)) (eqb v (get_or keys at 0))
+    ap (λ (t : Bool). eqb v key || t) (member_one v at keys (omega arith)) ∙ sym (or_assoc (eqb v key) (member v (take at keys)) (eqb v (get_or keys at 0)))
 
 member_all : (v at : ℕ) (keys : List ℕ) → ((k : ℕ) → at ≤ k → k < length keys → get_or keys k 0 ≡ v → ⊥) → member v (take at keys) ≡ member v keys
 unfolding member
@@ -131,10 +107,6 @@ member_all v (suc at) (key ∷ keys) h =
 abbrev pub passed : List ℕ → List ℕ → ℕ → ℕ → (ℕ → Bool) → ℕ → Bool
 passed keys labels m at test j = test j || (eqb (get_or labels j 0) (get_or labels m 0) && member (pair m j) (take at keys))
 
-and_false : (t : Bool) → (t && false) ≡ false
-and_false true = refl
-and_false false = refl
-
 -- a key in hand, whose neighbour is of the region or not
 in-region : (t l s e : Bool) → (e ≡ true → l ≡ true) → ((t || (l && s)) || e) ≡ (t || (l && (s || e)))
 in-region true l s e h = refl
@@ -145,7 +117,7 @@ in-region false false s false h = refl
 out_of_region : (t l s e : Bool) → (e ≡ true → l ≡ false) → (t || (l && s)) ≡ (t || (l && (s || e)))
 out_of_region true l s e h = refl
 out_of_region false true s true h = never (sym (h refl))
-out_of_region false true s false h = sym (or_false s)
+out_of_region false true s false h = sym (or-false s)
 out_of_region false false s e h = refl
 
 module _ (keys labels : List ℕ) (m : ℕ) (rows : Rows (length labels) keys) (lt : m < length labels) where
@@ -161,7 +133,7 @@ module _ (keys labels : List ℕ) (m : ℕ) (rows : Rows (length labels) keys) (
       seen_cong n test (passed keys labels m at test)
       (λ j h.
       let gone = member_none (pair m j) at keys (λ k l e q. omega (arith, low.before rows.rising k l)) in
-      sym (ap (λ (t : Bool). test j || (same j && t)) gone ∙ ap (λ (t : Bool). test j || t) (and_false (same j)) ∙ or_false (test j)))
+      sym (ap (λ (t : Bool). test j || (same j && t)) gone ∙ ap (λ (t : Bool). test j || t) (and-false (same j)) ∙ or-false (test j)))
 
   module _ (at : ℕ) (inside : at < length keys) where
     abbrev key : ℕ

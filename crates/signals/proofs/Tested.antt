@@ -57,15 +57,17 @@ some_front P m n le none =
     let (i, h, t) = some_found P n e in
     ⊎_elim (λ (l : m ≤ i). never (sym (none i l h) ∙ t)) (λ (l : i < m). some_at P m i l t) (order? m i))
 
-module _ {n : ℕ} {keys : List ℕ} {count : ℕ} (e : EdgeKeys n keys count) where
+module _ {n : ℕ} {keys front : List ℕ} (e : EdgeKeys n keys front) where
   pub edges_first : (test : ℕ → ℕ → Bool)
-      → some (λ i. test (get_or keys i 0 / span) (get_or keys i 0 % span)) count ≡ some (λ i. of_edge n test (get_or keys i 0)) (length keys)
+      → some (λ i. test (get_or front i 0 / span) (get_or front i 0 % span)) (length front) ≡ some (λ i. of_edge n test (get_or keys i 0)) (length keys)
   edges_first test =
-      ap is_found (first_cong _ _ 0 count (λ i a b. sym (edge_tested n test (get_or keys i 0) refl refl (e.first i (omega arith)))))
-      ∙ some_front (λ i. of_edge n test (get_or keys i 0)) count (length keys) e.few (λ i a b. no_edge n test (get_or keys i 0) (e.past i a b))
+      ap is_found (first_cong _ _ 0 (length front) (λ i a b.
+      let h : i < length front = omega arith in
+      sym (ap (of_edge n test) (sym (e.same i h)) ∙ edge_tested n test (get_or front i 0) refl refl (e.first i h))))
+      ∙ some_front (λ i. of_edge n test (get_or keys i 0)) (length front) (length keys) e.few (λ i a b. no_edge n test (get_or keys i 0) (e.past i a b))
 
   pub edge_flags : (number : ℕ → ℕ) (test : ℕ → ℕ → Bool) {m : ℕ} {out : List Bool} → length out ≡ m
-      → GatheredBy count (λ i. number (get_or keys i 0 % span)) (λ i. test (get_or keys i 0 / span) (get_or keys i 0 % span)) out
+      → GatheredBy (length front) (λ i. number (get_or front i 0 % span)) (λ i. test (get_or front i 0 / span) (get_or front i 0 % span)) out
       → Flags m (λ r. some (λ i. of_edge n (λ a b. test a b && eqb (number b) r) (get_or keys i 0)) (length keys)) out
   edge_flags number test long g = record {
     long = omega arith;

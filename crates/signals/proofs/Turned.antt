@@ -1,17 +1,15 @@
 -- The pairs of a table of keys turned round.
---     turned_more, turned_all        a loop that turns one pair more
 --     turned_low, turned_rising      of a sorted table of pairs of small numbers: these numbers are small, and the second rise
 --     keys_below                     the numbers of a table of keys
 --     turned_keys_of                 so the turned keys, sorted, are the table backward
 -- Assumes nothing.
-use mathlib.Core.Path.{◌≡◌, refl, sym, ap, ◌∙◌}
+use mathlib.Core.Path.{◌≡◌, sym, ap, ◌∙◌}
 use mathlib.Core.Bool.{Bool, true, false}
-use mathlib.Core.List.{List, [], ◌∷◌, ◌++◌, map}
-use Prim.Native.Nat.{ℕ, ◌+◌, ◌/◌, ◌%◌, ◌≤◌, ◌<◌}
-use native.Mathlib.Numerals.{add-one}
+use mathlib.Core.List.{List, map}
+use Prim.Native.Nat.{ℕ, ◌/◌, ◌%◌, ◌≤◌, ◌<◌}
 use native.Mathlib.Omega.{arith}
-use lib.ListN.{length, get_or, set, take, length-map, get_or-map}
-use lib.Seq.{ext_get_or, take_all, take-suc, take-suc-set}
+use lib.ListN.{length, get_or, length-map, get_or-map}
+use lib.Seq.{ext_get_or}
 use lib.IntN.{ℤ}
 use Rattle.tables.specs.Order.{All, Ascending, Sorted}
 use Rattle.tables.specs.Laws.{at_all, rearranged_map, rearranged_trans}
@@ -23,25 +21,6 @@ use Rattle.lists.specs.First.{tabulate}
 use Rattle.signals.specs.Signals.{is_signal}
 use Rattle.signals.specs.Keys.{signal_key, signal_keys, turned, KeysOf}
 use Rattle.signals.proofs.Tabulated.{tab_length, tab_at}
-
--- ---- the loop
-
-map_last : (xs : List ℕ) (x : ℕ) → map turned (xs ++ (x ∷ [])) ≡ map turned xs ++ (turned x ∷ [])
-map_last [] x = refl
-map_last (y ∷ xs) x = ap (λ (l : List ℕ). turned y ∷ l) (map_last xs x)
-
-pub turned_more : (keys out : List ℕ) (i : ℕ) → i < length keys → i < length out → take i out ≡ map turned (take i keys)
-    → take (i + 1) (set out i (turned (get_or keys i 0))) ≡ map turned (take (i + 1) keys)
-turned_more keys out i h l e =
-    ap (λ (n : ℕ). take n (set out i (turned (get_or keys i 0)))) (add-one i)
-    ∙ take-suc-set out i (turned (get_or keys i 0)) l
-    ∙ ap (λ (l : List ℕ). l ++ (turned (get_or keys i 0) ∷ [])) e
-    ∙ sym (map_last (take i keys) (get_or keys i 0))
-    ∙ ap (map turned) (sym (take-suc keys i 0 h))
-    ∙ ap (λ (n : ℕ). map turned (take n keys)) (sym (add-one i))
-
-pub turned_all : (keys out : List ℕ) (i : ℕ) → i ≡ length keys → take i out ≡ map turned (take i keys) → take (length keys) out ≡ map turned keys
-turned_all keys out i h e = ap (λ (n : ℕ). take n out) (sym h) ∙ e ∙ ap (map turned) (take_all i keys (omega arith))
 
 -- ---- a table of pairs of small numbers
 

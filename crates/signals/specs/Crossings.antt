@@ -1,6 +1,6 @@
 -- The pairs of regions that signal edges lead from and to, as the program lists them.
 -- Assumes nothing: these are definitions.
-use Rattle.std.specs.Prelude.{ℕ, ◌≤◌, ◌≡◌, Bool, not, ◌&&◌, List, eqb, length, get_or, take}
+use Rattle.std.specs.Prelude.{ℕ, ◌≡◌, Bool, not, ◌&&◌, List, eqb, length, get_or}
 use Rattle.tables.specs.Order.{member}
 use Rattle.tables.specs.Pairs.{pair, KeysBelow}
 use Rattle.lists.specs.Limits.{component_limit}
@@ -17,8 +17,7 @@ crosses labels v a b = not (eqb (get_or labels a 0) (get_or labels b 0)) && eqb 
 pub record CrossingKeys (forward labels keys : List ℕ) : Type 0 where
   pub has : (v : ℕ) → member v keys ≡ some (λ i. of_edge (length labels) (crosses labels v) (get_or forward i 0)) (length forward)
 
--- the first `count` keys are the same, by rising first number
-pub record FoundCrossings (forward labels : List ℕ) (count : ℕ) (keys : List ℕ) : Type 0 where
-  pub few : count ≤ length keys
-  pub below : KeysBelow component_limit (take count keys)
-  pub pairs : Crossings (edges (length labels) forward) labels (take count keys)
+-- the same, by rising first number
+pub record FoundCrossings (forward labels keys : List ℕ) : Type 0 where
+  pub below : KeysBelow component_limit keys
+  pub pairs : Crossings (edges (length labels) forward) labels keys

@@ -1,5 +1,5 @@
 // The signal edges of a scene as sorted tables of keys: forward, backward, and by the port that they feed.
-ghost use Rattle.std.specs.Prelude.{◌≡◌, List, map, cond, ℕ, ◌+◌, ◌*◌, ◌/◌, ◌^◌, ◌≤◌, ◌<◌, length, get_or, take};
+ghost use Rattle.std.specs.Prelude.{◌≡◌, Bool, List, map, cond, ℕ, ◌+◌, ◌*◌, ◌/◌, ◌^◌, ◌≤◌, ◌<◌, length, get_or, take};
 ghost use Rattle.tables.specs.Pairs.{pair, span, KeysBelow};
 ghost use Rattle.tables.specs.Order.{Ascending, Sorted};
 ghost use Rattle.lists.specs.Records.{port_count};
@@ -7,7 +7,8 @@ ghost use Rattle.lists.specs.Limits.{component_limit};
 ghost use Rattle.lists.specs.Within.{PortConnections};
 ghost use Rattle.signals.specs.Signals.{is_signal};
 ghost use Rattle.signals.specs.Keys.{Slots, signal_key, signal_keys, turned, KeysOf, Sortable};
-ghost use Rattle.signals.specs.Seen.{Rows, EdgeKeys};
+ghost use Rattle.signals.specs.Flags.{Flags, Indices};
+ghost use Rattle.signals.specs.Seen.{Rows, EdgeKeys, some_edge_into};
 
 use lists::ids::SUPPORT;
 use lists::numbers::natural_at;
@@ -24,16 +25,13 @@ pub fn settle_slots(ports: &[i64], sinks: &[usize], slots: &mut [usize])
     requires by_index { (k : ℕ) → k < port_count ports.now → get_or sinks.now k 0 ≤ component_limit }
     ensures { Slots ports.now sinks.now slots.new }
 {
-    let count = ports.len() / PORT;
-    let mut k: usize = 0;
-    while k < count {
+    for k in 0..ports.len() / PORT {
         slots[k] = sinks[k] * PORTS + natural_at(ports, k * PORT + 3) as usize;
-        k += 1;
     }
 }
 
-// The key of port connection k: the pair of two numbers, or of `nowhere` and COMPONENTS where it is a support: turned round where `nowhere` is
-// COMPONENTS too, that is itself.
+// The key of port connection k: the pair of two numbers, or of `nowhere` and COMPONENTS where it is a support. Where `nowhere` is COMPONENTS
+// too, the key of a support turned round is itself.
 fn signal_key(ports: &[i64], k: usize, first: usize, second: usize, nowhere: usize) -> u64
     requires port_connections { PortConnections ports.now × (k < port_count ports.now) }
     requires first_bound { (first < 2 ^ 32) × ((second < span) × (nowhere < 2 ^ 32)) }
@@ -57,10 +55,8 @@ pub(crate) fn list_keys(
     requires sortable { Sortable (port_count ports.now) firsts.now seconds.now nowhere × (length keys.old ≡ port_count ports.now) }
     ensures { keys.new ≡ signal_keys ports.now firsts.now seconds.now nowhere }
 {
-    let mut k: usize = 0;
-    while k < keys.len() {
-        keys[k] = signal_key(ports, k, firsts[k], seconds[k], nowhere);
-        k += 1;
+    for (k, key) in keys.iter_mut().enumerate() {
+        *key = signal_key(ports, k, firsts[k], seconds[k], nowhere);
     }
 }
 
@@ -84,14 +80,11 @@ pub fn signal_keys(
 
 // Writes each pair turned round.
 fn turn(keys: &[u64], out: &mut [u64])
-    requires { length keys.now ≤ length out.old }
-    ensures { take (length keys.now) out.new ≡ map turned keys.now }
+    requires { length out.old ≡ length keys.now }
+    ensures { out.new ≡ map turned keys.now }
 {
-    let mut i: usize = 0;
-    while i < keys.len() {
-        let key = keys[i];
+    for (i, key) in keys.iter().enumerate() {
         out[i] = key % SPAN * SPAN + key / SPAN;
-        i += 1;
     }
 }
 
@@ -102,15 +95,37 @@ pub fn turned_keys(keys: &[u64], out: &mut [u64], spare: &mut [u64], counts: &mu
     requires ascending { Ascending keys.now × ((length counts.old ≤ span) × KeysBelow (length counts.old) keys.now) }
     ensures { Sorted (map turned keys.now) out.new }
 {
-    let n = keys.len();
-    turn(keys, spare);
-    tables::lay_by_first(&spare[..n], out, counts);
+    let turned = &mut spare[..keys.len()];
+    turn(keys, turned);
+    tables::lay_by_first(turned, out, counts);
 }
 
-// How many keys of a sorted table are edges of the nodes below n. They come first: the keys of supports are past them.
-pub(crate) fn edge_count(keys: &[u64], n: usize) -> usize
+// The keys of a sorted table that are edges of the nodes below n. They come first: the keys of supports are past them.
+pub(crate) fn edges_of(keys: &[u64], n: usize) -> &[u64]
     requires { Rows n keys.now }
-    ensures { EdgeKeys n keys.now result }
+    ensures { EdgeKeys n keys.now result.now }
 {
-    tables::lower_bound(keys, n as u64 * SPAN)
+    &keys[..tables::lower_bound(keys, n as u64 * SPAN)]
+}
+
+// Flags the regions that some edge leads into whose two nodes pass the test, and clears the others. There is no branch on a test.
+pub(crate) fn flag_sinks<F: Fn(usize, usize) -> bool>(
+    forward: &[u64],
+    labels: &[usize],
+    test: F,
+    flags: &mut [bool],
+)
+    ghost passes: { ℕ → ℕ → Bool }
+    requires rows { Rows (length labels.now) forward.now }
+    requires indices { Indices (length labels.now) (length flags.old) labels.now }
+    requires callable { (a b : ℕ) → a < length labels.now → b < length labels.now → F.pre test a b }
+    requires answer { (a b : ℕ) (r : Bool) → a < length labels.now → b < length labels.now → F.post test a b r → r ≡ passes a b }
+    ensures { Flags (length flags.old) (some_edge_into forward.now labels.now passes) flags.new }
+{
+    flags.fill(false);
+    for key in edges_of(forward, labels.len()) {
+        let from = (key / SPAN) as usize;
+        let to = (key % SPAN) as usize;
+        flags[labels[to]] |= test(from, to);
+    }
 }

@@ -5,76 +5,47 @@ ghost use Rattle.signals.specs.Flags.{Flags, Gathered, Counted, Indices};
 
 // Sets the flag of each index whose test holds, and clears the others. There is no branch on a test: they come in no order that a
 // processor could foresee.
-pub fn gather(n: usize, index: &[usize], tests: &[bool], out: &mut [bool])
-    requires { Indices n (length out.old) index.now × (n ≤ length tests.now) }
-    ensures { Gathered n index.now tests.now out.new }
+pub fn gather(index: &[usize], tests: &[bool], out: &mut [bool])
+    requires indices { Indices (length index.now) (length out.old) index.now }
+    requires tests_in_bounds { length index.now ≤ length tests.now }
+    ensures { Gathered (length index.now) index.now tests.now out.new }
 {
-    regions::clear_flags(out);
-    let mut p: usize = 0;
-    while p < n {
-        let j = index[p];
-        out[j] = out[j] | tests[p];
-        p += 1;
+    out.fill(false);
+    for (j, test) in index.iter().zip(tests) {
+        out[*j] |= *test;
     }
 }
 
-// Counts how often each index stands among the first n.
-pub fn count_into(n: usize, index: &[usize], counts: &mut [usize])
-    requires { Indices n (length counts.old) index.now }
-    ensures { Counted n index.now counts.new }
+// Counts how often each index stands there.
+pub fn count_into(index: &[usize], counts: &mut [usize])
+    requires { Indices (length index.now) (length counts.old) index.now }
+    ensures { Counted (length index.now) index.now counts.new }
 {
-    regions::clear(counts);
-    let mut p: usize = 0;
-    while p < n {
-        counts[index[p]] += 1;
-        p += 1;
+    counts.fill(0);
+    for j in index {
+        counts[*j] += 1;
     }
 }
 
-// Each of the first n flags of the one or of the other.
-pub fn or_flags(n: usize, a: &[bool], b: &[bool], out: &mut [bool])
-    requires { (n ≤ length a.now) × ((n ≤ length b.now) × (n ≤ length out.old)) }
-    ensures { Flags n (λ p. marked a.now p || marked b.now p) out.new }
+// Each flag joined with the other at its place.
+pub fn combine_flags<F: Fn(bool, bool) -> bool>(flags: &mut [bool], others: &[bool], join: F)
+    ghost joined: { Bool → Bool → Bool }
+    requires others_in_bounds { length flags.old ≤ length others.now }
+    requires callable { F.IsAlwaysCallable join }
+    requires answer { (a b r : Bool) → F.post join a b r → r ≡ joined a b }
+    ensures { Flags (length flags.old) (λ p. joined (marked flags.old p) (marked others.now p)) flags.new }
 {
-    let mut p: usize = 0;
-    while p < n {
-        out[p] = a[p] | b[p];
-        p += 1;
+    for (p, flag) in flags.iter_mut().enumerate() {
+        *flag = join(*flag, others[p]);
     }
 }
 
-// Each of the first n flags of both.
-pub fn and_flags(n: usize, a: &[bool], b: &[bool], out: &mut [bool])
-    requires { (n ≤ length a.now) × ((n ≤ length b.now) × (n ≤ length out.old)) }
-    ensures { Flags n (λ p. marked a.now p && marked b.now p) out.new }
+// The value of each index.
+pub fn spread<T: Copy>(index: &[usize], values: &[T], out: &mut [T])
+    requires { Indices (length index.now) (length values.now) index.now × (length index.now ≤ length out.old) }
+    ensures { (p : ℕ) (d : T) → p < length index.now → get_or out.new p d ≡ get_or values.now (get_or index.now p 0) d }
 {
-    let mut p: usize = 0;
-    while p < n {
-        out[p] = a[p] & b[p];
-        p += 1;
-    }
-}
-
-// Copies the flags.
-pub fn copy_flags(flags: &[bool], out: &mut [bool])
-    requires { length flags.now ≤ length out.old }
-    ensures { Flags (length flags.now) (marked flags.now) out.new }
-{
-    let mut p: usize = 0;
-    while p < flags.len() {
-        out[p] = flags[p];
-        p += 1;
-    }
-}
-
-// The flag of each index.
-pub fn spread(index: &[usize], flags: &[bool], out: &mut [bool])
-    requires { Indices (length index.now) (length flags.now) index.now × (length index.now ≤ length out.old) }
-    ensures { Flags (length index.now) (λ p. marked flags.now (get_or index.now p 0)) out.new }
-{
-    let mut p: usize = 0;
-    while p < index.len() {
-        out[p] = flags[index[p]];
-        p += 1;
+    for (p, j) in index.iter().enumerate() {
+        out[p] = values[*j];
     }
 }

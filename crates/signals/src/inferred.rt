@@ -7,13 +7,21 @@ ghost use Rattle.lists.specs.First.{some};
 ghost use Rattle.regions.specs.Keys.{edges};
 ghost use Rattle.signals.specs.Regions.{wire, is_passive};
 ghost use Rattle.signals.specs.Flags.{Flags, Indices};
-ghost use Rattle.signals.specs.Seen.{SeenOf, Rows, outside_key};
+ghost use Rattle.signals.specs.Seen.{SeenOf, Rows, few_near, outside_key};
 
-use super::edges::edge_count;
+use super::edges::flag_sinks;
+use super::network::{Network, Table};
 use lists::COMPONENT;
 use lists::numbers::natural_at;
 use tables::SPAN;
 use tables::rows::lower_bound_in;
+
+// Kinds of components, by their numbers in the lists.
+const WIRE: u64 = 0;
+
+const SOLID: u64 = 9;
+
+const TRANSPARENT: u64 = 10;
 
 // The distinct neighbours seen so far.
 #[derive(Clone, Copy)]
@@ -34,16 +42,16 @@ fn see(seen: Seen, j: usize) -> Seen
     }
 }
 
-// With the neighbours of m in a table seen too, those of its own region. The rows are hints.
-fn see_row(keys: &[u64], labels: &[usize], m: usize, seen: Seen, rows: &[usize]) -> Seen
-    requires { Rows (length labels.now) keys.now × (m < length labels.now) }
+// With the neighbours of m in a table seen too, those of its own region.
+fn see_row(table: &Table, labels: &[usize], m: usize, seen: Seen) -> Seen
+    requires { Rows (length labels.now) table.now.keys.now × (m < length labels.now) }
     ensures { (test : ℕ → Bool) → SeenOf (length labels.now) test seen →
-        SeenOf (length labels.now) (λ j. test j || (eqb (get_or labels.now j 0) (get_or labels.now m 0) && edges (length labels.now) keys.now m j)) result }
+        SeenOf (length labels.now) (λ j. test j
+        || (eqb (get_or labels.now j 0) (get_or labels.now m 0) && edges (length labels.now) table.now.keys.now m j)) result }
 {
-    let mut at = lower_bound_in(keys, m as u64 * SPAN, rows, m);
+    let at = lower_bound_in(table.keys, m as u64 * SPAN, table.rows, m);
     let mut found = seen;
-    while at < keys.len() {
-        let key = keys[at];
+    for key in &table.keys[at..] {
         if key / SPAN != m as u64 {
             return found;
         }
@@ -51,27 +59,17 @@ fn see_row(keys: &[u64], labels: &[usize], m: usize, seen: Seen, rows: &[usize])
         if labels[j] == labels[m] {
             found = see(found, j);
         }
-        at += 1;
     }
     found
 }
 
 // Whether m has at most one distinct neighbour in its region, either way along the edges.
-fn few_neighbours(
-    forward: &[u64],
-    backward: &[u64],
-    labels: &[usize],
-    m: usize,
-    forward_rows: &[usize],
-    backward_rows: &[usize],
-) -> bool
-    requires { Rows (length labels.now) forward.now × (Rows (length labels.now) backward.now × (m < length labels.now)) }
-    ensures { result ≡ leb (count_below (λ j. eqb (get_or labels.now j 0) (get_or labels.now m 0)
-        && (edges (length labels.now) forward.now m j || edges (length labels.now) backward.now m j)) (length labels.now)) 1 }
+fn few_neighbours(network: &Network, m: usize) -> bool
+    requires { m < length network.now.labels.now }
+    ensures { result ≡ few_near network.now.forward.keys.now network.now.backward.keys.now network.now.labels.now m }
 {
-    let first = see_row(forward, labels, m, Seen::None, forward_rows);
-    let both = see_row(backward, labels, m, first, backward_rows);
-    match both {
+    let first = see_row(&network.forward, network.labels, m, Seen::None);
+    match see_row(&network.backward, network.labels, m, first) {
         Seen::None => true,
         Seen::One(_) => true,
         Seen::Many => false,
@@ -83,54 +81,30 @@ pub fn passive_flags(components: &[i64], flags: &mut [bool])
     requires { Components components.now × (component_count components.now ≤ length flags.old) }
     ensures { Flags (component_count components.now) (λ p. is_passive (component components.now p).kind) flags.new }
 {
-    let count = components.len() / COMPONENT;
-    let mut p: usize = 0;
-    while p < count {
+    for p in 0..components.len() / COMPONENT {
         let kind = natural_at(components, p * COMPONENT + 4);
-        flags[p] = (kind == 9) | (kind == 10);
-        p += 1;
+        flags[p] = (kind == SOLID) | (kind == TRANSPARENT);
     }
 }
 
-// Flags the regions with an edge from another region's node that is not passive. There is no branch on a test.
+// Flags the regions with an edge from another region's node that is not passive.
 pub fn flag_outside(forward: &[u64], labels: &[usize], passive: &[bool], fed: &mut [bool])
     requires rows { Rows (length labels.now) forward.now }
     requires labels_in_bounds { (length labels.now ≤ length passive.now) × Indices (length labels.now) (length fed.old) labels.now }
-    ensures { Flags (length fed.old) (λ r. some (λ i. outside_key labels.now passive.now r (get_or forward.now i 0)) (length forward.now)) fed.new }
+    ensures { Flags (length fed.old) (λ r.
+        some (λ i. outside_key labels.now passive.now r (get_or forward.now i 0)) (length forward.now)) fed.new }
 {
-    regions::clear_flags(fed);
-    let count = edge_count(forward, labels.len());
-    let mut i: usize = 0;
-    while i < count {
-        let key = forward[i];
-        let from = (key / SPAN) as usize;
-        let r = labels[(key % SPAN) as usize];
-        fed[r] = fed[r] | (!(labels[from] == r) & !passive[from]);
-        i += 1;
-    }
+    let is_outside = |from: usize, to: usize| (labels[from] != labels[to]) & !passive[from];
+    flag_sinks(forward, labels, is_outside, fed);
 }
 
 // Whether component p, member m, is an inferred input, given whether its region has a drive source or is fed from outside.
-// The rows are hints.
-pub fn is_inferred(
-    components: &[i64],
-    p: usize,
-    quiet: bool,
-    forward: &[u64],
-    backward: &[u64],
-    labels: &[usize],
-    m: usize,
-    forward_rows: &[usize],
-    backward_rows: &[usize],
-) -> bool
+pub fn is_inferred(components: &[i64], p: usize, quiet: bool, network: &Network, m: usize) -> bool
     requires components { Components components.now × (p < component_count components.now) }
-    requires rows { Rows (length labels.now) forward.now × (Rows (length labels.now) backward.now × (m < length labels.now)) }
-    ensures { result ≡ (eqb (component components.now p).kind wire && (quiet && leb (count_below (λ j. eqb (get_or labels.now j 0) (get_or labels.now m 0)
-        && (edges (length labels.now) forward.now m j || edges (length labels.now) backward.now m j)) (length labels.now)) 1)) }
+    requires node { m < length network.now.labels.now }
+    ensures { result ≡ (eqb (component components.now p).kind wire
+        && (quiet && few_near network.now.forward.keys.now network.now.backward.keys.now network.now.labels.now m)) }
 {
     let kind = natural_at(components, p * COMPONENT + 4);
-    if (kind == 0) & quiet {
-        return few_neighbours(forward, backward, labels, m, forward_rows, backward_rows);
-    }
-    false
+    (kind == WIRE) & quiet && few_neighbours(network, m)
 }

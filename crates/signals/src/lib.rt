@@ -6,4 +6,5 @@ pub mod crossings;
 pub mod edges;
 pub mod flags;
 pub mod inferred;
+pub mod network;
 pub mod stages;

@@ -15,7 +15,7 @@ ghost use Rattle.signals.specs.Flags.{Flags, Numbers, Indices};
 ghost use Rattle.signals.specs.Seen.{Rows};
 ghost use Rattle.signals.specs.Stages.{Tables, FedTable, self_key, cyclic_at};
 
-use super::edges::{PORTS, edge_count, list_keys, settle_slots, signal_keys, turned_keys};
+use super::edges::{PORTS, flag_sinks, list_keys, settle_slots, signal_keys, turned_keys};
 use super::flags::count_into;
 use lists::ids::place_at;
 use lists::{COMPONENTS, CONNECTIONS};
@@ -33,9 +33,11 @@ pub fn build_tables(
     forward_ends: &mut [usize; HINTED],
     backward_ends: &mut [usize; HINTED],
 )
-    requires port_connections { PortConnections ports.now × ((cs : List ℤ) × ((component_count cs ≤ component_limit) × SettledEnds cs ports.now sources.now sinks.now)) }
+    requires port_connections { PortConnections ports.now
+        × ((cs : List ℤ) × ((component_count cs ≤ component_limit) × SettledEnds cs ports.now sources.now sinks.now)) }
     requires forward_len { (length forward.old ≡ port_count ports.now) × (length backward.old ≡ port_count ports.now) }
-    ensures { (cs : List ℤ) → SettledEnds cs ports.now sources.now sinks.now → Tables cs ports.now sources.now sinks.now forward.new backward.new }
+    ensures { (cs : List ℤ) → SettledEnds cs ports.now sources.now sinks.now →
+        Tables cs ports.now sources.now sinks.now forward.new backward.new }
 {
     let mut spare = [0u64; CONNECTIONS];
     list_keys(ports, sources, sinks, COMPONENTS, forward);
@@ -45,8 +47,11 @@ pub fn build_tables(
 
 // Sorts the signal edges by the port that they feed, given their settled ends.
 pub fn build_fed(ports: &[i64], sources: &[usize], sinks: &[usize], fed: &mut [u64])
-    requires port_connections { PortConnections ports.now × ((cs : List ℤ) × ((component_count cs ≤ component_limit) × (Settled cs ports.now 0 sources.now × Settled cs ports.now 2 sinks.now))) }
-    requires ports_in_bounds { (port_count ports.now ≤ length sources.now) × ((port_count ports.now ≤ length sinks.now) × (length fed.old ≡ port_count ports.now)) }
+    requires port_connections { PortConnections ports.now
+        × ((cs : List ℤ) × ((component_count cs ≤ component_limit)
+        × (Settled cs ports.now 0 sources.now × Settled cs ports.now 2 sinks.now))) }
+    requires ports_in_bounds { (port_count ports.now ≤ length sources.now)
+        × ((port_count ports.now ≤ length sinks.now) × (length fed.old ≡ port_count ports.now)) }
     ensures { FedTable ports.now sources.now sinks.now fed.new }
 {
     let mut slots = [0usize; CONNECTIONS];
@@ -91,22 +96,8 @@ pub fn place_members(keys: &[u64], members: &mut [usize])
     requires { IsIdTable keys.now × (length keys.now ≤ length members.old) }
     ensures { (cs : List ℤ) → IdTable cs keys.now → first_repeated cs ≡ None → Numbers (component_count cs) (member_of cs) members.new }
 {
-    let mut m: usize = 0;
-    while m < keys.len() {
+    for m in 0..keys.len() {
         members[place_at(keys, m)] = m;
-        m += 1;
-    }
-}
-
-// The label of each component, by list place.
-pub fn place_labels(n: usize, members: &[usize], labels: &[usize], out: &mut [usize])
-    requires { Indices n (length labels.now) members.now × (n ≤ length out.old) }
-    ensures { Numbers n (λ p. get_or labels.now (get_or members.now p 0) 0) out.new }
-{
-    let mut p: usize = 0;
-    while p < n {
-        out[p] = labels[members[p]];
-        p += 1;
     }
 }
 
@@ -115,28 +106,8 @@ fn flag_large(sizes: &[usize], flags: &mut [bool])
     requires { length sizes.now ≤ length flags.old }
     ensures { Flags (length sizes.now) (λ r. leb 2 (get_or sizes.now r 0) || marked flags.old r) flags.new }
 {
-    let mut r: usize = 0;
-    while r < sizes.len() {
-        if 2 <= sizes[r] {
-            flags[r] = true;
-        }
-        r += 1;
-    }
-}
-
-// Flags the regions with an edge from a node to itself. There is no branch on a test.
-fn flag_selves(forward: &[u64], labels: &[usize], flags: &mut [bool])
-    requires { Rows (length labels.now) forward.now × Indices (length labels.now) (length flags.old) labels.now }
-    ensures { Flags (length flags.old) (λ r. some (λ i. self_key labels.now r (get_or forward.now i 0)) (length forward.now)) flags.new }
-{
-    regions::clear_flags(flags);
-    let count = edge_count(forward, labels.len());
-    let mut i: usize = 0;
-    while i < count {
-        let key = forward[i];
-        let r = labels[(key % SPAN) as usize];
-        flags[r] = flags[r] | (key / SPAN == key % SPAN);
-        i += 1;
+    for (r, size) in sizes.iter().enumerate() {
+        flags[r] |= 2 <= *size;
     }
 }
 
@@ -148,7 +119,7 @@ pub fn find_cyclic(forward: &[u64], labels: &[usize], flags: &mut [bool])
 {
     let count = flags.len();
     let mut sizes = [0usize; COMPONENTS];
-    flag_selves(forward, labels, flags);
-    count_into(labels.len(), labels, &mut sizes[..count]);
+    flag_sinks(forward, labels, |from, to| from == to, flags);
+    count_into(labels, &mut sizes[..count]);
     flag_large(&sizes[..count], flags);
 }

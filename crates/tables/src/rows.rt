@@ -5,42 +5,26 @@ ghost use Rattle.tables.specs.Order.{LowerBound};
 
 use super::{lower_bound, lower_bound_near};
 
-// Stores the place after a key as the end of its row.
-fn mark_end(rows: &mut [usize], row: usize, end: usize)
-    ensures { length rows.new ≡ length rows.old }
-{
-    if row < rows.len() {
-        rows[row] = end;
-    }
-}
-
 // Stores the place after the last key of each row that has keys.
 fn mark_ends(keys: &[u64], shift: u64, rows: &mut [usize])
     requires { shift < 64 }
     ensures { length rows.new ≡ length rows.old }
 {
-    let mut i: usize = 0;
-    while i < keys.len() {
-        let row = (keys[i] >> shift) as usize;
-        mark_end(rows, row, i + 1);
-        i += 1;
+    for (i, key) in keys.iter().enumerate() {
+        if let Some(end) = rows.get_mut((*key >> shift) as usize) {
+            *end = i + 1;
+        }
     }
-}
-
-fn larger(a: usize, b: usize) -> usize {
-    if a < b { b } else { a }
 }
 
 // Replaces each end by the greatest up to it: a row without keys ends where the one before it does.
 fn carry_ends(rows: &mut [usize])
     ensures { length rows.new ≡ length rows.old }
 {
-    let mut top: usize = 0;
-    let mut r: usize = 0;
-    while r < rows.len() {
-        top = larger(top, rows[r]);
-        rows[r] = top;
-        r += 1;
+    let mut top = 0;
+    for end in rows.iter_mut() {
+        top = top.max(*end);
+        *end = top;
     }
 }
 
@@ -57,10 +41,7 @@ pub fn hint_rows(keys: &[u64], shift: u64, rows: &mut [usize])
 fn begin_of(rows: &[usize], row: usize) -> usize
     requires { row < length rows.now }
 {
-    if 0 < row {
-        return rows[row - 1];
-    }
-    0
+    if row == 0 { 0 } else { rows[row - 1] }
 }
 
 // What `lower_bound` gives, without the search where the key comes before all others of its row or after them.

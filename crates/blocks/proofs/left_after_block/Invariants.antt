@@ -1,7 +1,6 @@
 -- `blocks::left_after_block` meets its contract: before line k, what is left to measure gives the whole.
 -- Assumes nothing.
 use mathlib.Core.Path.{◌≡◌}
-use Prim.Native.Nat.{◌-◌}
 use lib.ListN.{length}
 use Rattle.blocks.specs.Blocks.{left_after}
 use Rattle.blocks.proofs.FieldText.{lines_from}
@@ -9,6 +8,3 @@ use Rattle.blocks.proofs.left_after_block.Given as goal
 
 abbrev pub invariant-loop-k : goal.invariant-loop-k
 invariant-loop-k l = left_after l.rest (length (lines_from l.block l.rows l.k)) ≡ left_after l.initial.rest (length (lines_from l.block l.rows 0))
-
-abbrev pub decreases-loop-k : goal.decreases-loop-k
-decreases-loop-k l = length l.rows - l.k

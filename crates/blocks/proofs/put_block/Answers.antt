@@ -9,20 +9,21 @@ use lib.ListN.{length, length-append}
 use Rattle.lines.specs.Decimal.{line_of}
 use Rattle.lines.specs.Wrote.{Put}
 use Rattle.lines.proofs.Writing.{put_length, put_room, put_put}
+use Rattle.blocks.specs.declared.Block.{Block}
 use Rattle.blocks.specs.Blocks.{block_keys, count_name, block_text}
 use Rattle.blocks.proofs.Going.{Going, goes_from, goes_room, goes_on, goes_done, goes_length}
 use Rattle.blocks.proofs.FieldText.{lines_from, line_at, fields_one, fields_none}
 use Rattle.blocks.proofs.put_block.Goals as goal
 
 -- the first line, by the width that was asked for
-abbrev count_line : ℕ → List ℕ → ℕ → List ℕ
+abbrev count_line : Block → List ℕ → ℕ → List ℕ
 count_line block rows width = line_of (count_name block) (pos (length rows / width))
 
-text : (block : ℕ) (rows : List ℕ) (width : ℕ) → width ≡ length (block_keys block) → count_line block rows width ++ lines_from block rows 0 ≡ block_text block rows
+text : (block : Block) (rows : List ℕ) (width : ℕ) → width ≡ length (block_keys block) → count_line block rows width ++ lines_from block rows 0 ≡ block_text block rows
 text block rows width e = rw e
 
 -- the lines have room behind it
-module _ (block : ℕ) (rows : List ℕ) (width : ℕ) (e : width ≡ length (block_keys block)) (at : ℕ) (out : List ℕ) where
+module _ (block : Block) (rows : List ℕ) (width : ℕ) (e : width ≡ length (block_keys block)) (at : ℕ) (out : List ℕ) where
   room : at + length (block_text block rows) ≤ length out
       → at + length (count_line block rows width ++ lines_from block rows 0) ≤ length out
   room h = rw (text block rows width e) h
@@ -32,7 +33,7 @@ module _ (block : ℕ) (rows : List ℕ) (width : ℕ) (e : width ≡ length (bl
   lines-room h p = put_room p (lines_from block rows 0) (room h)
 
 -- line k is next
-next-line : (block : ℕ) (rows : List ℕ) (at : ℕ) (old new : List ℕ) (p k : ℕ) → k < length rows
+next-line : (block : Block) (rows : List ℕ) (at : ℕ) (old new : List ℕ) (p k : ℕ) → k < length rows
     → Going (lines_from block rows 0) at old (lines_from block rows k) new p
     → Going (lines_from block rows 0) at old (line_at block rows k ++ lines_from block rows (suc k)) new p
 next-line block rows at old new p k h g =

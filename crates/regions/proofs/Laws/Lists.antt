@@ -2,7 +2,7 @@
 -- Assumes nothing.
 use mathlib.Core.Path.{◌≡◌, refl, sym, ap, ◌∙◌, subst}
 use mathlib.Core.Bool.{Bool, true, false, cond, ◌||◌, false≢true, true≢false}
-use mathlib.Core.List.{List, [], ◌∷◌, ◌++◌, map, reverse, reverse_aux}
+use mathlib.Core.List.{List, [], ◌∷◌, ◌++◌, map, reverse, reverse_aux, reverse-cons, reverse-reverse}
 use mathlib.Core.Logic.{◌⊎◌, inl, inr, ⊎_elim}
 use Prim.Native.Nat.{ℕ, zero, suc, ◌+◌, ◌≤◌, ◌<◌, zero-le, suc-le-suc}
 use native.Mathlib.Nat.{eq-or-lt_of_le, le_of_suc-le-suc, not-suc-le-zero, zero-add}
@@ -11,6 +11,7 @@ use borrow.Author.Tests.{eqb-true, eq-eqb}
 use lib.Dec.{eqb}
 use lib.ListN.{length, get_or, set, replicate, length-map, length-set, length-replicate, get_or-replicate}
 use lib.Seq.{ext_get_or, get_or-set_same, get_or-set_other}
+use Rattle.std.proofs.lemmas.List.{get_or-reverse}
 use Rattle.tables.specs.Order.{member}
 use Rattle.tables.specs.Laws.{same?}
 use Rattle.regions.specs.Graph.{range, filter}
@@ -227,47 +228,24 @@ table_set n f g x lt h = table_of n g (g x) (set (table n f) x (g x)) (length-se
 
 -- ---- the list turned around
 
-∈-reverse_aux : (x : ℕ) (l r : List ℕ) → x ∈ reverse_aux l r → (x ∈ l) ⊎ (x ∈ r)
-∈-reverse_aux x [] r h = inr h
-∈-reverse_aux x (y ∷ l) r h = go (∈-reverse_aux x l (y ∷ r) h)
-  where
-    go : (x ∈ l) ⊎ (x ∈ (y ∷ r)) → (x ∈ (y ∷ l)) ⊎ (x ∈ r)
-    go (inl k) = inl (inr k)
-    go (inr (inl e)) = inl (inl e)
-    go (inr (inr k)) = inr k
-
-reverse_aux-∈ : (x : ℕ) (l r : List ℕ) → (x ∈ l) ⊎ (x ∈ r) → x ∈ reverse_aux l r
-reverse_aux-∈ x [] r h = ⊎_elim absurd (λ k. k) h
-reverse_aux-∈ x (y ∷ l) r (inl (inl e)) = reverse_aux-∈ x l (y ∷ r) (inr (inl e))
-reverse_aux-∈ x (y ∷ l) r (inl (inr k)) = reverse_aux-∈ x l (y ∷ r) (inl k)
-reverse_aux-∈ x (y ∷ l) r (inr k) = reverse_aux-∈ x l (y ∷ r) (inr (inr k))
-
 nodup_reverse_aux : (l r : List ℕ) → Nodup l → Nodup r → ((x : ℕ) → x ∈ l → ¬ (x ∈ r)) → Nodup (reverse_aux l r)
 nodup_reverse_aux [] r dl dr apart = dr
 nodup_reverse_aux (y ∷ l) r dl dr apart =
     nodup_reverse_aux l (y ∷ r) dl.1 (apart y (inl refl), dr)
     (λ x h. ⊎_elim (λ e. dl.0 (subst (λ (z : ℕ). z ∈ l) e h)) (apart x (inr h)))
 
-get_or_reverse_aux_right : (l r : List ℕ) (i d : ℕ) → get_or (reverse_aux l r) (length l + i) d ≡ get_or r i d
-get_or_reverse_aux_right [] r i d = ap (λ (k : ℕ). get_or r k d) (omega arith)
-get_or_reverse_aux_right (x ∷ l) r i d =
-    ap (λ (k : ℕ). get_or (reverse_aux l (x ∷ r)) k d) (omega arith) ∙ get_or_reverse_aux_right l (x ∷ r) (suc i) d
-
-get_or_reverse_aux_left : (l r : List ℕ) (i j d : ℕ) → suc (i + j) ≡ length l → get_or (reverse_aux l r) i d ≡ get_or l j d
-get_or_reverse_aux_left [] r i j d e = absurd (omega arith)
-get_or_reverse_aux_left (x ∷ l) r i zero d e =
-    ap (λ (k : ℕ). get_or (reverse_aux l (x ∷ r)) k d) (omega arith) ∙ get_or_reverse_aux_right l (x ∷ r) zero d
-get_or_reverse_aux_left (x ∷ l) r i (suc j) d e = get_or_reverse_aux_left l (x ∷ r) i j d (omega arith)
-
 pub ∈-reverse : (x : ℕ) (l : List ℕ) → x ∈ reverse l → x ∈ l
-∈-reverse x l h = ⊎_elim (λ k. k) absurd (∈-reverse_aux x l [] h)
+∈-reverse x [] h = h
+∈-reverse x (y ∷ l) h =
+    ⊎_elim (λ k. inr (∈-reverse x l k)) (⊎_elim inl absurd)
+    (∈-++ x (reverse l) (y ∷ []) (subst (λ m. x ∈ m) (reverse-cons y l) h))
 
 pub reverse-∈ : (x : ℕ) (l : List ℕ) → x ∈ l → x ∈ reverse l
-reverse-∈ x l h = reverse_aux-∈ x l [] (inl h)
+reverse-∈ x l h = ∈-reverse x (reverse l) (subst (λ m. x ∈ m) (sym (reverse-reverse l)) h)
 
 pub nodup_reverse : (l : List ℕ) → Nodup l → Nodup (reverse l)
 nodup_reverse l d = nodup_reverse_aux l [] d tt (λ x h k. k)
 
 -- place i from the front is place j from the back
 pub get_or_reverse : (l : List ℕ) (i j d : ℕ) → suc (i + j) ≡ length l → get_or (reverse l) i d ≡ get_or l j d
-get_or_reverse l i j d e = get_or_reverse_aux_left l [] i j d e
+get_or_reverse l i j d e = get_or-reverse l i d (omega arith) ∙ ap (λ (k : ℕ). get_or l k d) (omega arith)

@@ -1,12 +1,10 @@
 -- The loops of a program over the definitions of `Kosaraju`: what one more turn does. A loop's invariant is the left side at its counter.
 -- Assumes nothing.
 use mathlib.Core.Path.{◌≡◌, refl, ap, ◌∙◌}
-use mathlib.Core.List.{List, [], ◌∷◌, ◌++◌, reverse, reverse-cons}
-use Prim.Native.Nat.{ℕ, zero, suc, ◌+◌, ◌<◌}
+use mathlib.Core.List.{List, [], ◌∷◌, ◌++◌}
+use Prim.Native.Nat.{ℕ, zero, suc, ◌+◌}
 use mathlib.Core.Logic.{inl, inr}
 use native.Mathlib.Omega.{arith}
-use lib.ListN.{length, get_or, drop}
-use lib.Seq.{drop-cons}
 use Rattle.regions.specs.Graph.{range, each}
 use Rattle.regions.proofs.Laws.Lists.{◌∈◌}
 
@@ -19,14 +17,6 @@ pub range_suc : (a k : ℕ) → range a (suc k) ≡ range a k ++ ((a + k) ∷ []
 unfolding range
 range_suc a zero = ap {B = List ℕ} (λ x. x ∷ []) (omega arith)
 range_suc a (suc k) = ap {B = List ℕ} (λ l. a ∷ l) (range_suc (suc a) k ∙ ap (λ (x : ℕ). range (suc a) k ++ (x ∷ [])) (omega arith))
-
--- for i in (0..n).rev() { f(l[i]) }
-pub each_back : {S : Type 0} (f : ℕ → S → S) (l : List ℕ) (i d : ℕ) (s : S) → i < length l
-    → each f (reverse (drop i l)) s ≡ f (get_or l i d) (each f (reverse (drop (suc i) l)) s)
-unfolding each
-each_back f l i d s h =
-    ap (λ m. each f m s) (ap reverse (drop-cons l i d h) ∙ reverse-cons (get_or l i d) (drop (suc i) l))
-    ∙ each_append f (reverse (drop (suc i) l)) (get_or l i d ∷ []) s
 
 -- what f keeps at each node of the list
 pub each_keeps : {S : Type 0} (P : S → Type 0) (f : ℕ → S → S) (l : List ℕ) → ((x : ℕ) → x ∈ l → (s : S) → P s → P (f x s)) → (s : S) → P s → P (each f l s)

@@ -1,12 +1,8 @@
--- `regions::paint` meets its contract. The loop's invariant: the members before i are painted. Assumes nothing.
-use Prim.Native.Nat.{◌≤◌, ◌-◌}
+-- `regions::paint` meets its contract. The loop's invariant: the members before the place are painted. Assumes nothing.
 use mathlib.Core.Path.{◌≡◌}
-use lib.ListN.{length, take}
+use lib.ListN.{take}
 use Rattle.regions.specs.Kosaraju as Kosaraju
 use Rattle.regions.proofs.paint.Given as goal
 
-abbrev pub invariant-loop-i : goal.invariant-loop-i
-invariant-loop-i l = (l.i ≤ l.size) × (length l.labels ≡ length l.initial.labels) × (l.labels ≡ Kosaraju.paint l.r (take l.i l.members) l.initial.labels)
-
-abbrev pub decreases-loop-i : goal.decreases-loop-i
-decreases-loop-i l = l.size - l.i
+abbrev pub invariant-loop-member : goal.invariant-loop-member
+invariant-loop-member l = l.labels ≡ Kosaraju.paint l.r (take l.member-index l.members) l.initial.labels

@@ -1,52 +1,24 @@
 -- Answers for the goals that the search leaves.
-use mathlib.Core.Path.{refl, ap, ◌∙◌}
-use mathlib.Core.Bool.{false}
 use native.Mathlib.Omega.{arith}
-use lib.ListN.{replicate}
-use Rattle.regions.proofs.Order.{room_kept, reach_begin, reach_more, reach_skip, reach_end}
+use Rattle.regions.proofs.Order.{reach_begin, reach_more, reach_skip, reach_end}
 use Rattle.regions.proofs.reach_from.Goals as goal
-use Rattle.regions.proofs.reach_from.Goals.{then-starts-start, else-starts-start}
-
-pub clear_flags-requires : goal.clear_flags-requires
-clear_flags-requires c = tt
+use Rattle.regions.proofs.reach_from.Goals.{then-is_start, else-is_start}
 
 pub loop-start-init : goal.loop-start-init
-loop-start-init c =
-    let (starts-length, room) = c.requires in
-    let cleared = c.clear_flags in
-    (omega arith, refl, refl, reach_begin _ (cleared.ensures ∙ ap (λ k. replicate k false) room.visited_length) (room_kept room room.keys_rise cleared.auto.flags room.order_room refl room.stack_zeros) c.args.starts.now)
-
-pub visit_from-count-requires : goal.visit_from-count-requires
-visit_from-count-requires c =
-    let (le, order_length, stack_length, w) = c.loop-start.invariant in
-    (c.loop-start-test.true, omega arith, w.room)
+loop-start-init c = reach_begin c.requires (c.fill.ensures.after (λ y e. e)) c.args.starts.now
 
 pub loop-start-preserved : goal.loop-start-preserved
 loop-start-preserved c =
-    let (le, order_length, stack_length, w) = c.loop-start.invariant in
     let start = c.loop-start.start in
     let starts = c.args.starts.now in
-    elim c.if-starts-start.branch [
-      | then-starts-start v ↦
-          let kept = v.visit_from-count.auto in
-          rw (v.visited-is, v.order-is, v.stack-is, v.count-is) (
-            omega arith,
-            kept.order ∙ order_length,
-            kept.stack ∙ stack_length,
-            reach_more start starts w v.if-starts-start.true v.visit_from-count.ensures kept.visited kept.order kept.stack,
-          )
-      | else-starts-start v ↦
+    let w = c.loop-start.invariant in
+    elim c.if-is_start.branch [
+      | then-is_start v ↦
+          let call = v.visit_from-count in
           rw (v.visited-is, v.order-is, v.stack-is, v.count-is)
-          (omega arith, order_length, stack_length, reach_skip start starts w v.if-starts-start.false)
+          (reach_more start starts w v.if-is_start.true call.ensures call.auto.visited call.auto.order call.auto.stack)
+      | else-is_start v ↦ rw (v.visited-is, v.order-is, v.stack-is, v.count-is) (reach_skip start starts w v.if-is_start.false)
     ]
 
-pub shape_of-order : goal.shape_of-order
-shape_of-order c = c.loop-start.invariant.1
-
-pub shape_of-stack : goal.shape_of-stack
-shape_of-stack c = c.loop-start.invariant.2
-
 pub returns : goal.returns
-returns c =
-    let (le, order_length, stack_length, w) = c.loop-start.invariant in
-    reach_end _ _ w le c.loop-start-test.false
+returns c = reach_end _ _ c.loop-start.invariant (omega arith) c.loop-start-test.false

@@ -1,13 +1,11 @@
--- `assessment::slots::put_ports` meets its contract: at port k the rows of those before it stand.
+-- `assessment::slots::put_ports` meets its contract: at a port the rows of those before it stand.
 -- Assumes nothing.
-use Prim.Native.Nat.{◌-◌, ◌≤◌}
+use Prim.Native.Nat.{◌-◌}
 use Rattle.assessment.specs.Places.{slot_of, status_at}
+use Rattle.assessment.specs.Rows.{first_required}
 use Rattle.assessment.proofs.Devices.{PortsPut}
 use Rattle.assessment.proofs.slots.put_ports.Given as goal
 
-abbrev pub invariant-loop-k : goal.invariant-loop-k
-invariant-loop-k l =
-    (l.k ≤ l.count) × PortsPut l.id l.first (λ port. status_at l.fed l.driven l.possible (slot_of l.member port)) l.at l.initial.out l.out l.place l.k
-
-abbrev pub decreases-loop-k : goal.decreases-loop-k
-decreases-loop-k l = l.count - l.k
+abbrev pub invariant-loop-port : goal.invariant-loop-port
+invariant-loop-port l =
+    PortsPut l.id (first_required l.kind) (λ port. status_at l.slots.fed l.slots.driven l.slots.possible (slot_of l.member port)) l.at l.initial.out l.out l.place (l.port - first_required l.kind)

@@ -1,6 +1,5 @@
 -- `assessment::slots::put_rows` meets its contract: at component p the rows of those before it stand.
 -- Assumes nothing.
-use Prim.Native.Nat.{◌-◌}
 use lib.ListN.{get_or}
 use Rattle.assessment.specs.Rows.{rows_below}
 use Rattle.assessment.specs.Places.{slot_of, status_at}
@@ -9,7 +8,4 @@ use Rattle.assessment.proofs.slots.put_rows.Given as goal
 
 abbrev pub invariant-loop-p : goal.invariant-loop-p
 invariant-loop-p l =
-    RowsPut (rows_below l.components (λ q port. status_at l.fed l.driven l.possible (slot_of (get_or l.members q 0) port))) 3 12 l.count l.initial.out l.out l.at l.p
-
-abbrev pub decreases-loop-p : goal.decreases-loop-p
-decreases-loop-p l = l.count - l.p
+    RowsPut (rows_below l.components (λ q port. status_at l.slots.fed l.slots.driven l.slots.possible (slot_of (get_or l.members q 0) port))) 3 12 l.p-end l.initial.out l.out l.at l.p

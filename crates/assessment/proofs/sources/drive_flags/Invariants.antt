@@ -1,9 +1,6 @@
 -- `assessment::sources::drive_flags` meets its contract: each flag passed is that of its component.
 -- Assumes nothing.
-use mathlib.Core.Path.{◌≡◌}
 use mathlib.Core.Bool.{◌||◌}
-use Prim.Native.Nat.{◌-◌, ◌≤◌}
-use lib.ListN.{length}
 use Rattle.lists.specs.First.{is_found}
 use Rattle.lists.specs.Records.{component}
 use Rattle.regions.specs.Graph.{marked}
@@ -12,9 +9,4 @@ use Rattle.signals.specs.Sources.{source_kind}
 use Rattle.assessment.proofs.sources.drive_flags.Given as goal
 
 abbrev pub invariant-loop-p : goal.invariant-loop-p
-invariant-loop-p l =
-    (l.p ≤ l.count) × (length l.flags ≡ length l.initial.flags)
-    × Flags l.p (λ q. is_found (source_kind (component l.components q).kind) || marked l.on_frontier q) l.flags
-
-abbrev pub decreases-loop-p : goal.decreases-loop-p
-decreases-loop-p l = l.count - l.p
+invariant-loop-p l = Flags l.p (λ q. is_found (source_kind (component l.components q).kind) || marked l.on_frontier q) l.flags

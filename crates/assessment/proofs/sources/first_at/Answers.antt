@@ -14,6 +14,3 @@ returns c =
 
 pub returns-then-components-p : goal.returns-then-components-p
 returns-then-components-p c = sym (found_past _ c.requires.components_value _ c.position_bound-p.ensures c.if-components-p.true)
-
-pub same_position-requires : goal.same_position-requires
-same_position-requires c = (c.if-components-p.false, c.requires.j_bound)

@@ -7,10 +7,6 @@ use Rattle.assessment.proofs.Positions.{before_all, before_none}
 use Rattle.assessment.proofs.sources.position_bound.Goals as goal
 use Rattle.assessment.proofs.sources.position_bound.Goals.{In-loop-low}
 
-pub loop-low-init : goal.loop-low-init
-loop-low-init c =
-    record { order = omega arith; within = omega arith; below = λ p h. absurd (omega arith); above = λ p h l. absurd (omega arith) }
-
 abbrev middle : In-loop-low → ℕ
 middle c = c.loop-low.low + (c.loop-low.high - c.loop-low.low) / 2
 
@@ -36,20 +32,3 @@ loop-low-preserved c =
       below = l.invariant.below;
       above = λ p h g. before_none c.args.components.now c.requires.components_value _ (middle (goal.at.loop-low-preserved c).In-loop-low) (sym c.before_position.ensures ∙ c.if-before_position.false) p h g;
     }
-
-pub returns : goal.returns
-returns c =
-    let l = c.loop-low in
-    record { within = omega (arith, l.invariant.order, l.invariant.within); before = l.invariant.below; from = λ p h g. l.invariant.above p (omega (arith, c.loop-low-test.false)) g }
-
-pub before_position-requires : goal.before_position-requires
-before_position-requires c = (inside c, c.requires.j_bound)
-
-pub overflow_add-low : goal.overflow_add-low
-overflow_add-low c = omega (arith, inside (goal.at.overflow_add-low c).In-loop-low)
-
-pub loop-low-smaller-then-before_position : goal.loop-low-smaller-then-before_position
-loop-low-smaller-then-before_position c = omega (arith, c.loop-low-test.true)
-
-pub loop-low-smaller : goal.loop-low-smaller
-loop-low-smaller c = omega (arith, c.loop-low-test.true)

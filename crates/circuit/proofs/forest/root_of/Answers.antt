@@ -1,6 +1,5 @@
 -- `circuit::forest::root_of` meets its contract: a parent that is a root, or whose parent is one, is what `find` would give.
 -- Assumes nothing.
-use native.Mathlib.Omega.{arith}
 use Prim.Native.Nat.{◌<◌}
 use lib.ListN.{get_or}
 use Rattle.lists.specs.Limits.{component_limit}
@@ -23,15 +22,3 @@ returns-then-parents-top c =
     let ps = c.args.parents.now in
     let rs = c.args.ranks.now in
     parent_found ps ps rs c.args.v _ c.requires.0 c.requires.1 (near_found ps rs (get_or ps c.args.v 0) (below c.before.before.before.before.before.before) c.requires.1 c.if-parents-top.true)
-
-pub offset_bounds-parents-parent : goal.offset_bounds-parents-parent
-offset_bounds-parents-parent c = omega (arith, below c.before.before.before)
-
-pub bounds-parents-parent : goal.bounds-parents-parent
-bounds-parents-parent c = omega (arith, below c.before.before.before)
-
-pub offset_bounds-parents-top : goal.offset_bounds-parents-top
-offset_bounds-parents-top c = omega (arith, top_below c.before.before.before.before.before)
-
-pub bounds-parents-top : goal.bounds-parents-top
-bounds-parents-top c = omega (arith, top_below c.before.before.before.before.before)

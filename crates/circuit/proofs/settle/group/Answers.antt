@@ -1,39 +1,22 @@
 -- `circuit::settle::group` meets its contract: settled ends serve both forests.
 -- Assumes nothing.
-use mathlib.Core.Path.{◌≡◌, sym}
+use mathlib.Core.Path.{◌≡◌, ap, ap₂, ◌∙◌}
 use native.Mathlib.Omega.{arith}
 use Prim.Native.Nat.{ℕ, ◌≤◌}
 use mathlib.Core.List.{List}
 use lib.ListN.{length}
+use lib.Seq.{length-take-le}
+use Rattle.circuit.specs.Forest.{singletons, unite_all}
+use Rattle.circuit.specs.Groups.{roots_below}
+use Rattle.circuit.proofs.Roots.{groups_laid}
 use Rattle.lists.specs.Limits.{component_limit}
 use Rattle.lists.specs.Records.{component_count, connection_count}
 use Rattle.lists.proofs.Table.{table_long}
-use Rattle.circuit.specs.Topology.{net_kinds, fragment_kinds, joins_of}
+use Rattle.circuit.specs.Topology.{net_kinds, fragment_kinds, forest_of}
 use Rattle.circuit.specs.Settled.{settled_joins, Ends}
 use Rattle.circuit.proofs.Settling.{joins_settled, ends_settled}
 use Rattle.circuit.proofs.settle.group.Goals as goal
 use Rattle.circuit.proofs.settle.group.Goals.{After-settle-2}
-
-pub settle-requires : goal.settle-requires
-settle-requires c =
-    record {
-      connections = c.requires.connections;
-      f_bound = (omega arith, c.requires.connections.few);
-    }
-
-pub settle-requires-2 : goal.settle-requires-2
-settle-requires-2 c =
-    record {
-      connections = c.requires.connections;
-      f_bound = (omega arith, c.requires.connections.few);
-    }
-
--- both arrays keep their length
-pub slice_bounds-groups-end : goal.slice_bounds-groups-end
-slice_bounds-groups-end c = sym c.settle.auto.places
-
-pub slice_bounds-groups-end-2 : goal.slice_bounds-groups-end-2
-slice_bounds-groups-end-2 c = sym c.settle-2.auto.places
 
 abbrev sources : After-settle-2 → List ℕ
 sources c = c.settle.new.places
@@ -55,45 +38,26 @@ ends c =
     ends_settled cs ps 1 (sinks c) (omega (arith, c.requires.connections.few, c.settle-2.auto.places)) (c.settle-2.ensures cs t) in
     rw (table_long t) (first, second)
 
-pub groups-net_count-requires : goal.groups-net_count-requires
-groups-net_count-requires c =
-    record {
-      connections = c.requires.connections;
-      n_le_component_limit = (c.requires.keys_len_bound.0, c.requires.keys_len_bound.1.0);
-      ends = ends (goal.at.groups-net_count-requires c).After-settle-2;
-    }
+pub groups-net_count-requires-clause-ends : goal.groups-net_count-requires-clause-ends
+groups-net_count-requires-clause-ends c = rw (length-take-le (length c.args.keys.now) c.args.nets.now c.requires.keys_len_bound.1.0) (ends (goal.at.groups-net_count-requires-clause-ends c).After-settle-2)
 
-pub slice_bounds-groups-end-3 : goal.slice_bounds-groups-end-3
-slice_bounds-groups-end-3 c = sym c.settle.auto.places
-
-pub slice_bounds-groups-end-4 : goal.slice_bounds-groups-end-4
-slice_bounds-groups-end-4 c = sym c.settle-2.auto.places
-
-pub groups-fragment_count-requires : goal.groups-fragment_count-requires
-groups-fragment_count-requires c =
-    record {
-      connections = c.requires.connections;
-      n_le_component_limit = (c.requires.keys_len_bound.0, c.requires.keys_len_bound.1.1);
-      ends = ends (goal.at.groups-fragment_count-requires c).After-settle-2;
-    }
-
-pub shape_of-nets : goal.shape_of-nets
-shape_of-nets c = c.groups-net_count.auto.out
-
-pub shape_of-fragments : goal.shape_of-fragments
-shape_of-fragments c = c.groups-fragment_count.auto.out
+pub groups-fragment_count-requires-clause-ends : goal.groups-fragment_count-requires-clause-ends
+groups-fragment_count-requires-clause-ends c = rw (length-take-le (length c.args.keys.now) c.args.fragments.now c.requires.keys_len_bound.1.1) (ends (goal.at.groups-fragment_count-requires-clause-ends c).After-settle-2)
 
 pub returns : goal.returns
 returns c cs t =
     let ps = c.args.connections.now in
     let few : component_count cs ≤ component_limit = omega (arith, table_long t, c.requires.keys_len_bound.0) in
-    let same : (top : ℕ) → settled_joins ps (sources (goal.at.returns c).After-settle-2) (sinks (goal.at.returns c).After-settle-2) top (connection_count ps) ≡ joins_of cs ps top =
-    λ top. joins_settled cs ps (sources (goal.at.returns c).After-settle-2) (sinks (goal.at.returns c).After-settle-2) top few (c.settle.ensures cs t) (c.settle-2.ensures cs t) (connection_count ps) (omega arith) in
-    let nets = c.groups-net_count.ensures in
-    let fragments = c.groups-fragment_count.ensures in
+    let now = (goal.at.returns c).After-settle-2 in
+    let same : (top : ℕ) → unite_all singletons (settled_joins ps (sources now) (sinks now) top (connection_count ps)) ≡ forest_of cs ps top =
+    λ top. ap (unite_all singletons) (joins_settled cs ps (sources now) (sinks now) top few (c.settle.ensures cs t) (c.settle-2.ensures cs t) (connection_count ps) (omega arith)) in
+    let nets = c.groups-net_count in
+    let fragments = c.groups-fragment_count in
+    let net_long : length nets.new.numbers ≡ component_count cs = nets.auto.numbers ∙ length-take-le (length c.args.keys.now) c.args.nets.now c.requires.keys_len_bound.1.0 ∙ table_long t in
+    let fragment_long : length fragments.new.numbers ≡ component_count cs = fragments.auto.numbers ∙ length-take-le (length c.args.keys.now) c.args.fragments.now c.requires.keys_len_bound.1.1 ∙ table_long t in
     record {
-      nets_laid = rw (← same net_kinds, ← table_long t) nets.numbers;
-      fragments_laid = rw (← same fragment_kinds, ← table_long t) fragments.numbers;
-      net_count_lem = rw (← same net_kinds, ← table_long t) nets.count;
-      fragment_count_lem = rw (← same fragment_kinds, ← table_long t) fragments.count;
+      nets_laid = rw (table_long t) (groups_laid _ _ _ _ _ (same net_kinds) net_long nets.ensures.numbers_lem);
+      fragments_laid = rw (table_long t) (groups_laid _ _ _ _ _ (same fragment_kinds) fragment_long fragments.ensures.numbers_lem);
+      net_count_lem = nets.ensures.count ∙ ap₂ roots_below (same net_kinds) net_long;
+      fragment_count_lem = fragments.ensures.count ∙ ap₂ roots_below (same fragment_kinds) fragment_long;
     }

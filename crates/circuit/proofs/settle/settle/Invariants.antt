@@ -2,8 +2,8 @@
 -- Assumes nothing.
 use mathlib.Core.Path.{◌≡◌}
 use mathlib.Core.List.{List}
-use Prim.Native.Nat.{ℕ, ◌+◌, ◌*◌, ◌-◌, ◌≤◌, ◌<◌}
-use lib.ListN.{length, get_or}
+use Prim.Native.Nat.{ℕ, ◌+◌, ◌*◌, ◌<◌}
+use lib.ListN.{get_or}
 use lib.IntN.{ℤ}
 use Rattle.lists.specs.Limits.{connection_width}
 use Rattle.lists.specs.Records.{natural_at}
@@ -13,8 +13,4 @@ use Rattle.circuit.proofs.settle.settle.Given as goal
 
 abbrev pub invariant-loop-k : goal.invariant-loop-k
 invariant-loop-k l =
-    (l.k ≤ l.count) × (length l.places ≡ length l.initial.places)
-    × ((cs : List ℤ) → IdTable cs l.keys → (j : ℕ) → j < l.k → get_or l.places j 0 ≡ place_or (place_of cs (natural_at l.connections (j * connection_width + l.f))))
-
-abbrev pub decreases-loop-k : goal.decreases-loop-k
-decreases-loop-k l = l.count - l.k
+    (cs : List ℤ) → IdTable cs l.keys → (j : ℕ) → j < l.k → get_or l.places j 0 ≡ place_or (place_of cs (natural_at l.connections (j * connection_width + l.f)))

@@ -1,36 +1,23 @@
--- `faces::ports::repeater_ports` meets its contract: each arm's rows are those of its facing in the table.
+-- `faces::ports::repeater_ports` meets its contract, at each facing.
 -- Assumes nothing.
-use native.Mathlib.Omega.{arith}
-use Rattle.faces.specs.Ports.{face_or}
-use Rattle.faces.proofs.Faces.{north_faced}
-use Rattle.faces.proofs.Computed.{repeater_rows}
+use mathlib.Core.Logic.{⊎_elim}
+use Rattle.faces.specs.Ports.{opposite, neither, repeater_ports}
 use Rattle.faces.proofs.ports.repeater_ports.Goals as goal
 
-pub returns-in-2 : goal.returns-in-2
-unfolding face_or
-returns-in-2 c = rw (repeater_rows, c.in-2.is, c.with_face-in-2.ensures, c.with_face.ensures)
+pub returns-in-North : goal.returns-in-North
+unfolding opposite neither repeater_ports
+returns-in-North c =
+    rw (c.signal-output.ensures, c.signal-input.ensures, c.opposite.ensures, c.signal-east.ensures, c.signal-west.ensures)
+    (⊎_elim (λ e. rw e) (λ e. rw e) c.in-North.is)
 
-pub returns-in-3 : goal.returns-in-3
-unfolding face_or
-returns-in-3 c = rw (repeater_rows, c.in-3.is, c.with_face-in-3-2.ensures, c.with_face-in-3.ensures)
+pub returns-in-East : goal.returns-in-East
+unfolding opposite neither repeater_ports
+returns-in-East c =
+    rw (c.signal-output.ensures, c.signal-input.ensures, c.opposite.ensures, c.signal-north.ensures, c.signal-south.ensures)
+    (⊎_elim (λ e. rw e) (λ e. rw e) c.in-East.is)
 
-pub returns-in-4 : goal.returns-in-4
-unfolding face_or
-returns-in-4 c = rw (repeater_rows, c.in-4.is, c.with_face-in-4-2.ensures, c.with_face-in-4.ensures)
-
-pub returns-in-5 : goal.returns-in-5
-unfolding face_or
-returns-in-5 c = rw (repeater_rows, c.in-5.is, c.with_face-in-5-2.ensures, c.with_face-in-5.ensures)
-
-pub returns-in-6 : goal.returns-in-6
-unfolding face_or
-returns-in-6 c = rw (repeater_rows, c.in-6.is, c.with_face-in-6-2.ensures, c.with_face-in-6.ensures)
-
-pub returns-in_default : goal.returns-in_default
-returns-in_default c =
-    rw (
-      repeater_rows,
-      north_faced c.args.facing (λ e. omega arith) (λ e. omega arith) (λ e. omega arith) (λ e. omega arith) (λ e. omega arith),
-      c.with_face-in_default-2.ensures,
-      c.with_face-in_default.ensures,
-    )
+pub returns-in-Up : goal.returns-in-Up
+unfolding opposite neither repeater_ports
+returns-in-Up c =
+    rw (c.signal-output.ensures, c.signal-input.ensures, c.opposite.ensures, c.signal-north.ensures, c.signal-east.ensures, c.signal-south.ensures, c.signal-west.ensures)
+    (⊎_elim (λ e. rw e) (λ e. rw e) c.in-Up.is)

@@ -1,52 +1,40 @@
 -- Answers for the goals that the search leaves.
-use borrow.Author.Rules.{rules}
 use mathlib.Core.Path.{◌≡◌, sym, ap, ◌∙◌}
-use mathlib.Core.Bool.{Bool}
-use mathlib.Core.List.{List}
-use Prim.Native.Nat.{ℕ, ◌-◌, ◌<◌}
+use Prim.Native.Nat.{◌-◌, ◌<◌, zero-le}
+use Rattle.lists.specs.First.{first_from}
 use native.Mathlib.Omega.{arith}
 use lib.ListN.{length}
-use Rattle.lists.specs.First.{first_from}
 use Rattle.lists.proofs.Search.{first_here, first_later, first_none}
-use Rattle.faces.specs.Rows.{ports_in}
+use Rattle.faces.specs.Codes.{face_code, ports_in}
 use Rattle.faces.specs.Select.{select_port}
-use Rattle.faces.proofs.Places.{ports_long, port_at_lem}
-use Rattle.faces.proofs.select.select_port.Goals as goal
+use Rattle.faces.proofs.Places.{at_place, past_ports, ports_long}
 use Rattle.faces.proofs.select.select_port.Invariants.{test}
-use Rattle.faces.proofs.select.select_port.Goals.{After-port_serves, Start}
-
-long : (s : Start) → length s.args.ports ≡ 7
-long s = search rules
-
--- all ports are searched from the first
-whole : (ports : List (List ℕ)) (count face : ℕ) (outgoing : Bool) (kind n : ℕ) → n ≡ length (ports_in ports count)
-    → first_from (test ports count face outgoing kind) 0 n ≡ select_port (ports_in ports count) face outgoing kind
-unfolding select_port
-whole ports count face outgoing kind n e = ap (first_from (test ports count face outgoing kind) 0) e
+use Rattle.faces.proofs.select.select_port.Goals as goal
+use Rattle.faces.proofs.select.select_port.Goals.{After-port_serves}
 
 pub loop-i-init : goal.loop-i-init
-loop-i-init c =
-    let a = c.args in
-    whole a.ports a.count a.face a.outgoing a.kind (c.least-end.result - 0)
-    (omega (arith, ports_long a.ports a.count, long c.before, c.least-end.ensures))
+unfolding select_port
+loop-i-init c = record { passed = zero-le; left = ap (first_from (test c.args.ports (face_code c.args.face) c.args.outgoing c.args.kind) 0) (let all : length (ports_in c.args.ports) - 0 ≡ length (ports_in c.args.ports) = omega arith in all) }
+
+pub returns-in_default : goal.returns-in_default
+returns-in_default c = sym (first_none _ _ _ (past_ports c.args.ports c.loop-i.i c.loop-i.invariant.passed c.in_default.not-Some)) ∙ c.loop-i.invariant.left
 
 -- what the call says of the port at i
 tested : (c : After-port_serves)
-    →
-    c.port_serves.result ≡ test c.args.ports c.args.count c.args.face c.args.outgoing c.args.kind c.loop-i.i
+    → (c.loop-i.i < length (ports_in c.args.ports)) × (c.port_serves.result ≡ test c.args.ports (face_code c.args.face) c.args.outgoing c.args.kind c.loop-i.i)
 tested c =
-    let below : c.loop-i.i < c.args.count = omega (arith, c.least-end.ensures, c.loop-i-test.true) in
-    cc (c.port_serves.ensures, port_at_lem c.args.ports c.args.count c.loop-i.i below)
+    let here = at_place c.args.ports c.loop-i.i c.in-Some.port c.loop-i.invariant.passed c.in-Some.is in
+    (here.0, rw here.1 c.port_serves.ensures)
 
 pub returns-then-port_serves : goal.returns-then-port_serves
 returns-then-port_serves c =
-    sym (first_here _ _ _ c.loop-i-test.true
-    (sym (tested (goal.at.returns-then-port_serves c).After-port_serves) ∙ c.if-port_serves.true)) ∙ c.loop-i.invariant
+    let t = tested (goal.at.returns-then-port_serves c).After-port_serves in
+    sym (first_here _ _ _ t.0 (sym t.1 ∙ c.if-port_serves.true)) ∙ c.loop-i.invariant.left
 
 pub loop-i-preserved : goal.loop-i-preserved
 loop-i-preserved c =
-    sym (first_later _ _ _ c.loop-i-test.true (sym (tested (goal.at.loop-i-preserved c).After-port_serves) ∙ c.if-port_serves.false))
-    ∙ c.loop-i.invariant
+    let t = tested (goal.at.loop-i-preserved c).After-port_serves in
+    record { passed = omega (arith, t.0); left = sym (first_later _ _ _ t.0 (sym t.1 ∙ c.if-port_serves.false)) ∙ c.loop-i.invariant.left }
 
 pub returns : goal.returns
-returns c = sym (first_none _ _ _ c.loop-i-test.false) ∙ c.loop-i.invariant
+returns c = sym (first_none _ _ _ (omega (arith, ports_long c.args.ports))) ∙ c.loop-i.invariant.left

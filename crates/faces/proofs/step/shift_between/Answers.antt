@@ -60,9 +60,6 @@ returns-then-not-is_coordinate c =
     ∙ c.if-not-is_coordinate.true in
     rw e
 
-pub overflow_sub-d : goal.overflow_sub-d
-overflow_sub-d c = subtracts c
-
 pub returns-in-minus1 : goal.returns-in-minus1
 returns-in-minus1 c = arm (goal.at.returns-in-minus1 c).Else-not-is_coordinate 18446744073709551615 (cc)
 

@@ -1,5 +1,6 @@
 -- `report::print::left_after_blocks` meets its contract: the first line, then four blocks.
 -- Assumes nothing.
+use Rattle.blocks.specs.declared.Block.{Block}
 use mathlib.Core.Path.{◌≡◌, refl, ap, ◌∙◌}
 use mathlib.Core.List.{List, ◌++◌}
 use Prim.Native.Nat.{ℕ}
@@ -21,10 +22,10 @@ first_long = refl
 pub returns : goal.returns
 returns c =
     let a = c.args in
-    let t₀ = block_text 0 a.components.now in
-    let t₁ = block_text 1 a.kept.now in
-    let t₂ = block_text 2 a.regions.now in
-    let t₃ = block_text 3 a.sources.now in
+    let t₀ = block_text Block.Components a.components.now in
+    let t₁ = block_text Block.Connections a.kept.now in
+    let t₂ = block_text Block.Regions a.regions.now in
+    let t₃ = block_text Block.Sources a.sources.now in
     c.left_after_block.ensures
     ∙ left_more c.left_after_block-c.result t₂ t₃ c.left_after_block-d.ensures
     ∙ left_more c.left_after_block-b.result t₁ (t₂ ++ t₃) c.left_after_block-c.ensures

@@ -1,16 +1,9 @@
 -- `signals::edges::list_keys` meets its contract. The loop's invariant: the keys before `k` are those of their port connections.
 -- Assumes nothing.
-use mathlib.Core.Path.{◌≡◌}
-use Prim.Native.Nat.{ℕ, ◌-◌, ◌≤◌, ◌<◌}
-use lib.ListN.{length, get_or}
+use Rattle.std.proofs.Common.{◌≡◌, ℕ, ◌<◌, get_or}
 use Rattle.signals.specs.Signals.{is_signal}
 use Rattle.signals.specs.Keys.{signal_key}
 use Rattle.signals.proofs.edges.list_keys.Given as goal
 
 abbrev pub invariant-loop-k : goal.invariant-loop-k
-invariant-loop-k l =
-    (l.k ≤ length l.keys) × (length l.keys ≡ length l.initial.keys)
-    × ((j : ℕ) → j < l.k → get_or l.keys j 0 ≡ signal_key (is_signal l.ports j) (get_or l.firsts j 0) (get_or l.seconds j 0) l.nowhere)
-
-abbrev pub decreases-loop-k : goal.decreases-loop-k
-decreases-loop-k l = length l.keys - l.k
+invariant-loop-k l = (j : ℕ) → j < l.k → get_or l.keys j 0 ≡ signal_key (is_signal l.ports j) (get_or l.firsts j 0) (get_or l.seconds j 0) l.nowhere

@@ -1,32 +1,14 @@
 -- Answers for the goals that the search leaves.
-use mathlib.Core.Path.{refl, ◌∙◌}
-use Prim.Native.Nat.{ℕ, ◌<◌}
-use mathlib.Core.List.{List}
-use mathlib.Core.Path.{◌≡◌}
-use native.Mathlib.Omega.{arith}
-use lib.ListN.{length, get_or, length-set}
-use Rattle.signals.specs.Flags.{Indices}
+use Rattle.std.proofs.Common.{◌<◌, length, get_or, arith, rules}
 use Rattle.signals.proofs.Marks.{counted_none, counted_most, counted_more}
 use Rattle.signals.proofs.flags.count_into.Goals as goal
 
-pub loop-p-init : goal.loop-p-init
-loop-p-init c =
-    let a = c.args in
-    (omega arith, refl, rw c.clear.ensures (counted_none a.index.now (length a.counts.now)))
-
--- there is room for the count of a turn: the list is as long as it was
-room : {n m p : ℕ} {index : List ℕ} (counts : List ℕ) → Indices n m index → p < n → length counts ≡ m → get_or index p 0 < length counts
-room {p = p} counts i h e = omega (arith, i.below p h)
+pub loop-j-init : goal.loop-j-init
+loop-j-init c = rw (c.fill.ensures.after (λ y h. search rules)) (counted_none c.args.index.now (length c.args.counts.now))
 
 -- a count is at most the indices passed
 pub overflow_add-counts : goal.overflow_add-counts
-overflow_add-counts c =
-    let l = c.loop-p in
-    let there = room l.counts c.requires c.loop-p-test.true (l.invariant.1 ∙ c.clear.auto.numbers) in
-    omega (arith, c.loop-p-test.true, c.ranges.n.fits, counted_most _ l.p l.invariant.2 there)
+overflow_add-counts c = omega (arith, counted_most _ _ c.loop-j.invariant (let there : get_or c.args.index.now c.loop-j.j-index 0 < length c.loop-j.counts = search rules in there))
 
-pub loop-p-preserved : goal.loop-p-preserved
-loop-p-preserved c =
-    let l = c.loop-p in
-    let there = room l.counts c.requires c.loop-p-test.true (l.invariant.1 ∙ c.clear.auto.numbers) in
-    (omega (arith, c.loop-p-test.true), simp length-set l.invariant.1, counted_more _ l.p l.invariant.2 there)
+pub loop-j-preserved : goal.loop-j-preserved
+loop-j-preserved c = counted_more _ _ c.loop-j.invariant (search rules)

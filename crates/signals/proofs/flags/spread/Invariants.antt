@@ -1,14 +1,7 @@
--- `signals::flags::spread` meets its contract: each flag passed is that of its index.
+-- `signals::flags::spread` meets its contract: each value passed is that of its index.
 -- Assumes nothing.
-use mathlib.Core.Path.{◌≡◌}
-use Prim.Native.Nat.{◌-◌, ◌≤◌}
-use lib.ListN.{length, get_or}
-use Rattle.regions.specs.Graph.{marked}
-use Rattle.signals.specs.Flags.{Flags}
+use Rattle.std.proofs.Common.{◌≡◌, ℕ, ◌<◌, get_or}
 use Rattle.signals.proofs.flags.spread.Given as goal
 
 abbrev pub invariant-loop-p : goal.invariant-loop-p
-invariant-loop-p l = (l.p ≤ length l.index) × (length l.out ≡ length l.initial.out) × Flags l.p (λ q. marked l.flags (get_or l.index q 0)) l.out
-
-abbrev pub decreases-loop-p : goal.decreases-loop-p
-decreases-loop-p l = length l.index - l.p
+invariant-loop-p g l = (k : ℕ) (d : _) → k < l.p → get_or l.out k d ≡ get_or l.values (get_or l.index k 0) d

@@ -1,39 +1,49 @@
 -- `signals::inferred::few_neighbours` meets its contract: the neighbours of both rows are seen.
 -- Assumes nothing.
-use mathlib.Core.Path.{refl, subst}
-use mathlib.Core.Bool.{Bool, false, ◌&&◌, ◌||◌}
-use Prim.Native.Nat.{ℕ}
-use lib.Dec.{eqb}
-use lib.ListN.{length, get_or}
+use Rattle.std.proofs.Common.{◌≡◌, Bool, true, false, ◌&&◌, ◌||◌, List, ℕ, length, get_or, refl}
+use lib.Dec.{eqb, leb}
+use Rattle.sets.specs.Members.{count_below}
 use Rattle.regions.specs.Keys.{edges}
-use Rattle.signals.specs.Seen.{SeenOf}
+use Rattle.signals.specs.Seen.{SeenOf, near}
+use Rattle.signals.specs.declared.inferred.Seen.{Seen}
+use Rattle.signals.specs.declared.inferred.Seen.TheVariants.{None, One, Many}
 use Rattle.signals.proofs.Neighbours.{both_rows, few_none, few_one, few_many}
 use Rattle.signals.proofs.inferred.few_neighbours.Goals as goal
-use Rattle.signals.proofs.inferred.few_neighbours.Goals.{After-see_row-both}
 
--- a neighbour along an edge, either way
-abbrev near : After-see_row-both → ℕ → Bool
-near c j =
-    let a = c.args in
-    let labels = a.labels.now in
-    eqb (get_or labels j 0) (get_or labels a.m 0) && (edges (length labels) a.forward.now a.m j || edges (length labels) a.backward.now a.m j)
+-- what was seen in both rows tells whether few are near
+module _ (forward backward labels : List ℕ) (m : ℕ) where
+  abbrev same : ℕ → Bool
+  same j = eqb (get_or labels j 0) (get_or labels m 0)
 
-seen : (c : After-see_row-both) → SeenOf (length c.args.labels.now) (near c) c.see_row-both.result
-seen c =
-    let a = c.args in
-    let labels = a.labels.now in
-    both_rows (length labels) (λ j. eqb (get_or labels j 0) (get_or labels a.m 0))
-    (edges (length labels) a.forward.now a.m) (edges (length labels) a.backward.now a.m)
-    c.see_row-both.result (c.see_row-both.ensures _ (c.see_row-first.ensures (λ j. false) (λ j h. refl)))
+  abbrev Both : Seen → Type 0
+  Both = SeenOf (length labels) (λ j. (false || (same j && edges (length labels) forward m j)) || (same j && edges (length labels) backward m j))
+
+  abbrev few : Bool
+  few = leb (count_below (near forward backward labels m) (length labels)) 1
+
+  seen : (s : Seen) → Both s → SeenOf (length labels) (near forward backward labels m) s
+  seen = both_rows (length labels) same (edges (length labels) forward m) (edges (length labels) backward m)
+
+  none : Both None → true ≡ few
+  none h = few_none (length labels) (near forward backward labels m) (seen None h)
+
+  one : (i : ℕ) → Both (One i) → true ≡ few
+  one i h = few_one (length labels) (near forward backward labels m) i (seen (One i) h)
+
+  many : Both Many → false ≡ few
+  many h = few_many (length labels) (near forward backward labels m) (seen Many h)
 
 pub returns-in-None : goal.returns-in-None
 returns-in-None c =
-    few_none _ (near (goal.at.returns-in-None c).After-see_row-both) (subst (SeenOf _ (near (goal.at.returns-in-None c).After-see_row-both)) c.in-None.is (seen (goal.at.returns-in-None c).After-see_row-both))
+    let net = c.args.network.now in
+    none net.forward.keys.now net.backward.keys.now net.labels.now c.args.m (c.in-None.ensures _ (c.see_row-first.ensures (λ j. false) (λ j h. refl)))
 
 pub returns-in-One : goal.returns-in-One
 returns-in-One c =
-    few_one _ (near (goal.at.returns-in-One c).After-see_row-both) _ (subst (SeenOf _ (near (goal.at.returns-in-One c).After-see_row-both)) c.in-One.is (seen (goal.at.returns-in-One c).After-see_row-both))
+    let net = c.args.network.now in
+    one net.forward.keys.now net.backward.keys.now net.labels.now c.args.m _ (c.in-One.ensures _ (c.see_row-first.ensures (λ j. false) (λ j h. refl)))
 
 pub returns-in-Many : goal.returns-in-Many
 returns-in-Many c =
-    few_many _ (near (goal.at.returns-in-Many c).After-see_row-both) (subst (SeenOf _ (near (goal.at.returns-in-Many c).After-see_row-both)) c.in-Many.is (seen (goal.at.returns-in-Many c).After-see_row-both))
+    let net = c.args.network.now in
+    many net.forward.keys.now net.backward.keys.now net.labels.now c.args.m (c.in-Many.ensures _ (c.see_row-first.ensures (λ j. false) (λ j h. refl)))

@@ -1,51 +1,51 @@
 -- Answers for the goals that the search leaves.
-use native.Mathlib.Omega.{arith}
-use lib.ListN.{length}
+use Rattle.std.proofs.Common.{◌≡◌, ℕ, ◌+◌, ◌-◌, ◌/◌, ◌<◌, List, length, get_or, take, drop, add-zero, arith}
+use Rattle.std.proofs.lemmas.Grind.{common_steps}
 use borrow.Author.Tests.{eq-eqb, ne_eqb}
+use Rattle.tables.specs.Pairs.{span}
 use Rattle.signals.proofs.Neighbours.{passed, row_none, row_below, row_key, row_other, row_all}
 use Rattle.signals.proofs.inferred.see_row.Goals as goal
 use Rattle.signals.proofs.inferred.see_row.Goals.{then-labels-j, else-labels-j}
 
-pub overflow_mul-m : goal.overflow_mul-m
-overflow_mul-m c = omega (arith, c.requires.0.nodes, c.requires.1)
+-- a key of the end of the table stands in the table
+key_at : (keys : List ℕ) (at i : ℕ) → i < length (take (length keys - at) (drop at keys))
+    → (at + i < length keys) × (get_or (take (length keys - at) (drop at keys)) i 0 ≡ get_or keys (at + i) 0)
+key_at keys at i h = (grind (arith, common_steps), grind (arith, common_steps))
 
-pub loop-at-init : goal.loop-at-init
-loop-at-init c =
-    let low = c.lower_bound_in-at.ensures in
-    (omega arith, low.within, λ test. row_none c.args.keys.now c.args.labels.now c.args.m c.requires.0 c.requires.1 low test c.args.seen)
+tail_long : (keys : List ℕ) (at : ℕ) → length (take (length keys - at) (drop at keys)) ≡ length keys - at
+tail_long keys at = grind (arith, common_steps)
+
+pub loop-key-init : goal.loop-key-init
+loop-key-init c test = rw add-zero (row_none c.args.table.now.keys.now c.args.labels.now c.args.m c.requires.0 c.requires.1 c.lower_bound_in-at.ensures test c.args.seen)
 
 pub returns-then-key-m : goal.returns-then-key-m
 returns-then-key-m c test seen =
-    let l = c.loop-at in
-    row_all c.args.keys.now c.args.labels.now c.args.m c.requires.0 c.requires.1
-    c.lower_bound_in-at.ensures l.at l.invariant.0 (λ h. c.if-key-m.true) test l.found (l.invariant.2 test seen)
+    let at = c.lower_bound_in-at.result in
+    let (inside, is) = key_at c.args.table.now.keys.now at c.loop-key.key-index c.loop-key-test.true in
+    row_all c.args.table.now.keys.now c.args.labels.now c.args.m c.requires.0 c.requires.1
+    c.lower_bound_in-at.ensures (at + c.loop-key.key-index) (omega arith) (λ h. rw is at c.if-key-m.true) test c.loop-key.found (c.loop-key.invariant test seen)
 
--- the neighbour of a turn is a node
-pub bounds-labels-j : goal.bounds-labels-j
-bounds-labels-j c =
-    row_below c.args.keys.now c.args.labels.now c.args.m c.requires.0 c.requires.1 c.loop-at.at c.loop-at-test.true c.if-key-m.false
-
-pub loop-at-preserved : goal.loop-at-preserved
-loop-at-preserved c =
-    let l = c.loop-at in
-    let keys = c.args.keys.now in
+pub loop-key-preserved : goal.loop-key-preserved
+loop-key-preserved c test seen =
+    let l = c.loop-key in
+    let keys = c.args.table.now.keys.now in
     let labels = c.args.labels.now in
-    let below = row_below keys labels c.args.m c.requires.0 c.requires.1 l.at c.loop-at-test.true c.if-key-m.false in (
-      omega arith,
-      omega (arith, c.loop-at-test.true),
-      λ test seen. elim c.if-labels-j.branch [
-        | then-labels-j w ↦ rw w.found-is
-            (row_key keys labels c.args.m c.requires.0 c.requires.1 l.at c.loop-at-test.true c.if-key-m.false
-            (eq-eqb _ _ w.if-labels-j.true) test w.see-found.result
-            (w.see-found.ensures (length labels) (passed keys labels c.args.m l.at test) below (l.invariant.2 test seen)))
-        | else-labels-j w ↦ rw w.found-is
-            (row_other keys labels c.args.m c.requires.0 c.requires.1 l.at c.loop-at-test.true c.if-key-m.false
-            (ne_eqb _ _ w.if-labels-j.false) test l.found (l.invariant.2 test seen))
-      ],
-    )
+    let at = c.lower_bound_in-at.result + l.key-index in
+    let (inside, is) = key_at keys c.lower_bound_in-at.result l.key-index c.loop-key-test.true in
+    let here : get_or keys at 0 / span ≡ c.args.m = rw is at c.if-key-m.false in
+    let below = row_below keys labels c.args.m c.requires.0 c.requires.1 at inside here in
+    let next : c.lower_bound_in-at.result + (l.key-index + 1) ≡ at + 1 = omega arith in
+    elim c.if-labels-j.branch [
+      | then-labels-j w ↦ rw (next, w.found-is)
+          (row_key keys labels c.args.m c.requires.0 c.requires.1 at inside here (eq-eqb _ _ (rw is at w.if-labels-j.true)) test w.see-found.result
+          (rw is at (w.see-found.ensures (length labels) (passed keys labels c.args.m at test)) below (l.invariant test seen)))
+      | else-labels-j w ↦ rw (next, w.found-is)
+          (row_other keys labels c.args.m c.requires.0 c.requires.1 at inside here (ne_eqb _ _ (rw is at w.if-labels-j.false)) test l.found (l.invariant test seen))
+    ]
 
 pub returns : goal.returns
 returns c test seen =
-    let l = c.loop-at in
-    row_all c.args.keys.now c.args.labels.now c.args.m c.requires.0 c.requires.1
-    c.lower_bound_in-at.ensures l.at l.invariant.0 (λ h. absurd (omega (arith, c.loop-at-test.false))) test l.found (l.invariant.2 test seen)
+    let l = c.loop-key in
+    let at = c.lower_bound_in-at.result in
+    row_all c.args.table.now.keys.now c.args.labels.now c.args.m c.requires.0 c.requires.1
+    c.lower_bound_in-at.ensures (at + l.key-index) (omega arith) (λ h. absurd (omega (arith, tail_long c.args.table.now.keys.now at))) test l.found (l.invariant test seen)

@@ -1,6 +1,6 @@
 -- `signals::stages::build_tables` meets its contract: the settled ends can be sorted as pairs, and turned round.
 -- Assumes nothing.
-use mathlib.Core.Path.{◌≡◌, ◌∙◌}
+use mathlib.Core.Path.{◌≡◌}
 use mathlib.Core.List.{List}
 use Prim.Native.Nat.{ℕ, ◌+◌, ◌≤◌, ◌<◌}
 use native.Mathlib.Omega.{arith}
@@ -15,16 +15,10 @@ use Rattle.signals.proofs.Graph.{settled_small, sortable_members}
 use Rattle.signals.proofs.Turned.{keys_below, turned_keys_of}
 use Rattle.signals.proofs.stages.build_tables.Goals as goal
 
-pub list_keys-requires : goal.list_keys-requires
-list_keys-requires c =
-    let few = c.requires.port_connections.1.1.0 in
-    let ends = c.requires.port_connections.1.1.1 in record {
-      port_connections = c.requires.port_connections.0;
-      sortable = (
-        sortable_members few ends.source_members ends.sink_members ends.sources_long ends.sinks_long,
-        c.requires.forward_len.0,
-      );
-    }
+pub list_keys-requires-clause-sortable : goal.list_keys-requires-clause-sortable
+list_keys-requires-clause-sortable c =
+    let (few, ends) = c.requires.port_connections.1.1 in
+    (sortable_members few ends.source_members ends.sink_members ends.sources_long ends.sinks_long, c.requires.forward_len.0)
 
 -- both ends of each connection are at most the limit
 low : (ps : List ℤ) (sources sinks : List ℕ) (cs : List ℤ) → component_count cs ≤ component_limit → SettledEnds cs ps sources sinks
@@ -38,37 +32,20 @@ below ps sources sinks cs few ends m e =
     keys_below m (omega arith) (omega arith) ps sources sinks
     (λ k h. omega (arith, (low ps sources sinks cs few ends k h).0)) (λ k h. omega (arith, (low ps sources sinks cs few ends k h).1))
 
-pub sort_edges-requires : goal.sort_edges-requires
-sort_edges-requires c =
+pub sort_edges-requires-clause-counts_len_bound : goal.sort_edges-requires-clause-counts_len_bound
+sort_edges-requires-clause-counts_len_bound c =
     let a = c.args in
-    let (cs, small) = c.requires.port_connections.1 in
-    record {
-      keys_in_bounds = omega (arith, c.list_keys.auto.keys, c.requires.forward_len.0, c.requires.port_connections.0.few);
-      counts_len_bound = (
-        omega (arith, c.told-forward_ends),
-        rw c.list_keys.ensures (below a.ports.now a.sources.now a.sinks.now cs small.0 small.1 _ c.told-forward_ends),
-      );
-    }
+    let (cs, small) = c.requires.port_connections.1 in (
+      omega (arith, c.told-forward_ends),
+      rw c.list_keys.ensures (below a.ports.now a.sources.now a.sinks.now cs small.0 small.1 _ c.told-forward_ends),
+    )
 
-pub turned_keys-requires : goal.turned_keys-requires
-turned_keys-requires c =
+pub turned_keys-requires-clause-ascending : goal.turned_keys-requires-clause-ascending
+turned_keys-requires-clause-ascending c =
     let a = c.args in
     let (cs, small) = c.requires.port_connections.1 in
-    let long = c.sort_edges.auto.keys ∙ c.list_keys.auto.keys ∙ c.requires.forward_len.0 in
     let sorted = rw c.list_keys.ensures at c.sort_edges.ensures in
-    record {
-      out_len = (
-        omega (arith, long, c.requires.forward_len.1),
-        omega (arith, long, c.requires.port_connections.0.few, c.sort_edges.auto.spare),
-      );
-      ascending = (
-        sorted.ascending,
-        (
-          omega (arith, c.told-backward_ends),
-          below_rearranged sorted.rearranged (below a.ports.now a.sources.now a.sinks.now cs small.0 small.1 _ c.told-backward_ends),
-        ),
-      );
-    }
+    (sorted.ascending, (omega (arith, c.told-backward_ends), below_rearranged sorted.rearranged (below a.ports.now a.sources.now a.sinks.now cs small.0 small.1 _ c.told-backward_ends)))
 
 pub returns : goal.returns
 returns c cs ends =

@@ -1,13 +1,13 @@
 -- Answers for the goals that the search leaves.
 use Rattle.std.specs.Prelude.{None}
-use mathlib.Core.Path.{◌≡◌, refl, sym, ap, ◌∙◌}
+use mathlib.Core.Path.{◌≡◌, sym, ap, ◌∙◌}
 use mathlib.Core.Logic.{⊎_elim}
 use mathlib.Core.List.{List}
 use Prim.Native.Nat.{ℕ, ◌+◌, ◌≤◌, ◌<◌}
 use native.Mathlib.Nat.{eq-or-lt_of_le}
 use native.Mathlib.Omega.{arith}
 use lib.IntN.{ℤ}
-use lib.ListN.{length, get_or, set, length-set}
+use lib.ListN.{length, get_or, set}
 use lib.Seq.{get_or-set_same, get_or-set_other}
 use Rattle.tables.specs.Laws.{same?}
 use Rattle.lists.specs.Records.{component_count}
@@ -33,34 +33,17 @@ placed cs members m r once below is room before p h l =
 pub bounds-members-place_at : goal.bounds-members-place_at
 bounds-members-place_at c =
     let (cs, t) = c.requires.0 in
-    omega (arith, (c.place_at.ensures cs t).below, table_long t, c.loop-m.invariant.1, c.requires.1)
+    omega (arith, (c.place_at.ensures cs t).below, table_long t)
 
 pub loop-m-preserved : goal.loop-m-preserved
-loop-m-preserved c =
-    let l = c.loop-m in (
-      omega (arith, c.loop-m-test.true),
-      simp length-set l.invariant.1,
-      λ cs t once.
-          let place = c.place_at.ensures cs t in
-          placed cs l.members l.m c.place_at.result once place.below (place.member once)
-          (omega (arith, place.below, table_long t, l.invariant.1, c.requires.1)) (l.invariant.2 cs t once),
-    )
+loop-m-preserved c cs t once =
+    let l = c.loop-m in
+    let place = c.place_at.ensures cs t in
+    placed cs l.members l.m c.place_at.result once place.below (place.member once) (omega (arith, place.below, table_long t)) (l.invariant cs t once)
 
 pub returns : goal.returns
 returns c cs t once =
-    let l = c.loop-m in
     record {
-      long = omega (arith, table_long t, l.invariant.1, c.requires.1);
-      at = λ p h. l.invariant.2 cs t once p h (omega (arith, member_below cs p h, table_long t, c.loop-m-test.false));
+      long = omega (arith, table_long t);
+      at = λ p h. c.loop-m.invariant cs t once p h (omega (arith, member_below cs p h, table_long t));
     }
-
-pub loop-m-init : goal.loop-m-init
-loop-m-init c = (omega arith, refl, λ cs t once p h l. absurd (omega arith))
-
-pub offset_bounds-members-place_at : goal.offset_bounds-members-place_at
-offset_bounds-members-place_at c =
-    let (cs, t) = c.requires.0 in
-    omega (arith, (c.place_at.ensures cs t).below, table_long t, c.loop-m.invariant.1, c.requires.1, c.well_formed.1.0)
-
-pub shape_of-members : goal.shape_of-members
-shape_of-members c = c.loop-m.invariant.1
