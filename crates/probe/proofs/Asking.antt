@@ -21,7 +21,7 @@ or_small (Err r) b p q = p
 
 row_small : (found : Bool) → Small (refuse Fault.NoVerdictRow None (too_short found))
 row_small true = tt
-row_small false = (omega arith, (omega arith, omega arith))
+row_small false = omega arith
 
 pub input_small : (cs ps fs : List ℤ) (id port stack : ℕ) → Small (input_refusal cs ps fs id port stack)
 input_small cs ps fs id port stack =

@@ -16,6 +16,11 @@ abbrev pub answer_of : Option ℕ → ℕ
 answer_of (Some k) = suc k
 answer_of None = 0
 
+-- how many components there are where they are accepted
+abbrev pub count_among : Result ⊤ Refusal → List ℤ → Option ℕ
+count_among (Ok tt) cs = Some (component_count cs)
+count_among (Err refusal) cs = None
+
 -- the list place of an id where the components are accepted
 abbrev pub place_among : Result ⊤ Refusal → List ℤ → ℕ → Option ℕ
 place_among (Ok tt) cs id = place_of cs id

@@ -14,8 +14,5 @@ pub extern "C" fn probe_fragment_net(
 ) -> u64
     ensures { result ≡ as_number (ltb net component_limit && shares_member nets.now fragments.now fragment net) }
 {
-    if sets::contains(circuit::fragment_nets(nets, fragments, fragment), net) {
-        return 1;
-    }
-    0
+    u64::from(sets::contains(circuit::fragment_nets(nets, fragments, fragment), net))
 }

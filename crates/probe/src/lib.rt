@@ -6,13 +6,40 @@ mod ports;
 mod query;
 mod sheets;
 
-ghost use Rattle.std.specs.Prelude.{◌≡◌, true, []};
-ghost use Rattle.checks.specs.Refusals.{grouping_lists, grouping_refusal, ports_refusal, liveness_refusal, query_refusal, sheet_refusal, packed};
-ghost use Rattle.probe.specs.Places.{IsPlace, answer_of, place_among, MemberAnswer};
+ghost use Rattle.std.specs.Prelude.{◌≡◌, ℕ, Some, true, [], take};
+ghost use Rattle.lists.specs.Ids.{IdTable};
+ghost use Rattle.checks.specs.Refusals.{grouping_lists, liveness_lists, grouping_refusal, ports_refusal, liveness_refusal, query_refusal, sheet_refusal, packed};
+ghost use Rattle.probe.specs.Places.{IsPlace, answer_of, count_among, place_among, MemberAnswer};
 
 use checks::refusals::{grouping_lists, liveness_lists, pack, room_for};
 use lists::ids::{place_at, place_of};
 use lists::{COMPONENT, COMPONENTS, CONNECTION, CONNECTIONS, PORT};
+
+// What the checks of a grouping's lists say, as one number.
+fn pack_grouping(components: &[i64], connections: &[i64], frontiers: &[i64], enough: bool) -> u64
+    ensures { result ≡ packed (grouping_lists components.now connections.now frontiers.now enough) }
+{
+    let mut keys = [0u64; COMPONENTS];
+    pack(grouping_lists(components, connections, frontiers, enough, &mut keys))
+}
+
+// What the checks of a liveness entry's lists say, as one number.
+fn pack_liveness(components: &[i64], ports: &[i64], frontiers: &[i64], enough: bool) -> u64
+    ensures { result ≡ packed (liveness_lists components.now ports.now frontiers.now enough) }
+{
+    let mut keys = [0u64; COMPONENTS];
+    let mut source_at = [0usize; CONNECTIONS];
+    let mut sink_at = [0usize; CONNECTIONS];
+    pack(liveness_lists(
+        components,
+        ports,
+        frontiers,
+        enough,
+        &mut keys,
+        &mut source_at,
+        &mut sink_at,
+    ))
+}
 
 #[unsafe(no_mangle)]
 pub extern "C" fn probe_grouping_refusal(
@@ -23,31 +50,17 @@ pub extern "C" fn probe_grouping_refusal(
 ) -> u64
     ensures { result ≡ packed (grouping_refusal components.now connections.now nets fragments) }
 {
-    let mut keys = [0u64; COMPONENTS];
     let count = components.len() / COMPONENT;
     let enough = room_for(count, 1, nets) & room_for(count, 1, fragments);
-    pack(grouping_lists(
-        components,
-        connections,
-        &connections[..0],
-        enough,
-        &mut keys,
-    ))
+    pack_grouping(components, connections, &connections[..0], enough)
 }
 
 #[unsafe(no_mangle)]
 pub extern "C" fn probe_ports_refusal(components: &[i64], connections: &[i64], ports: usize) -> u64
     ensures { result ≡ packed (ports_refusal components.now connections.now ports) }
 {
-    let mut keys = [0u64; COMPONENTS];
     let enough = room_for(connections.len() / CONNECTION, PORT, ports);
-    pack(grouping_lists(
-        components,
-        connections,
-        &connections[..0],
-        enough,
-        &mut keys,
-    ))
+    pack_grouping(components, connections, &connections[..0], enough)
 }
 
 #[unsafe(no_mangle)]
@@ -62,22 +75,11 @@ pub extern "C" fn probe_liveness_refusal(
 ) -> u64
     ensures { result ≡ packed (liveness_refusal components.now ports.now frontiers.now regions sources inputs stack) }
 {
-    let mut keys = [0u64; COMPONENTS];
     let count = components.len() / COMPONENT;
     let enough = room_for(count, 1, regions)
         & (room_for(count * 2, 2, sources)
             & (room_for(count * 4, 3, inputs) & room_for(count, 2, stack)));
-    let mut source_at = [0usize; CONNECTIONS];
-    let mut sink_at = [0usize; CONNECTIONS];
-    pack(liveness_lists(
-        components,
-        ports,
-        frontiers,
-        enough,
-        &mut keys,
-        &mut source_at,
-        &mut sink_at,
-    ))
+    pack_liveness(components, ports, frontiers, enough)
 }
 
 #[unsafe(no_mangle)]
@@ -89,19 +91,8 @@ pub extern "C" fn probe_query_refusal(
 ) -> u64
     ensures { result ≡ packed (query_refusal components.now ports.now frontiers.now stack) }
 {
-    let mut keys = [0u64; COMPONENTS];
     let enough = room_for(components.len() / COMPONENT, 2, stack);
-    let mut source_at = [0usize; CONNECTIONS];
-    let mut sink_at = [0usize; CONNECTIONS];
-    pack(liveness_lists(
-        components,
-        ports,
-        frontiers,
-        enough,
-        &mut keys,
-        &mut source_at,
-        &mut sink_at,
-    ))
+    pack_liveness(components, ports, frontiers, enough)
 }
 
 #[unsafe(no_mangle)]
@@ -112,8 +103,7 @@ pub extern "C" fn probe_sheet_refusal(
 ) -> u64
     ensures { result ≡ packed (sheet_refusal components.now connections.now frontiers.now) }
 {
-    let mut keys = [0u64; COMPONENTS];
-    pack(grouping_lists(components, connections, frontiers, true, &mut keys))
+    pack_grouping(components, connections, frontiers, true)
 }
 
 // One more than a place, or 0 for none.
@@ -121,13 +111,20 @@ fn answer(found: Option<usize>) -> u64
     requires { IsPlace found }
     ensures { result ≡ answer_of found }
 {
-    match found {
-        Some(place) => place as u64 + 1,
-        None => 0,
-    }
+    found.map_or(0, |place| place as u64 + 1)
 }
 
 const GREATEST_ID: u64 = 4294967295;
+
+// The table of ids at the front of `keys`, and how many these are, where the checks accept the components.
+fn accepted_ids(components: &[i64], keys: &mut [u64; COMPONENTS]) -> Option<usize>
+    ensures count { result ≡ count_among (grouping_lists components.now [] [] true) components.now }
+    ensures table { (n : ℕ) → result ≡ Some n → IdTable components.now (take n keys.new) }
+{
+    let none = &components[..0];
+    grouping_lists(components, none, none, true, keys).ok()?;
+    Some(components.len() / COMPONENT)
+}
 
 // The list place of an id among components that the checks accept, or nothing.
 fn find(components: &[i64], id: u64) -> Option<usize>
@@ -135,20 +132,10 @@ fn find(components: &[i64], id: u64) -> Option<usize>
     ensures place { IsPlace result }
 {
     let mut keys = [0u64; COMPONENTS];
-    let checked = grouping_lists(
-        components,
-        &components[..0],
-        &components[..0],
-        true,
-        &mut keys,
-    );
-    let Ok(()) = checked else {
-        return None;
-    };
+    let count = accepted_ids(components, &mut keys)?;
     if GREATEST_ID < id {
         return None;
     }
-    let count = components.len() / COMPONENT;
     place_of(&keys[..count], id)
 }
 
@@ -159,24 +146,22 @@ pub extern "C" fn probe_place_of(components: &[i64], id: u64) -> u64
     answer(find(components, id))
 }
 
+// The list place of the component with the k-th smallest id, where the components are accepted and there are so many.
+fn find_member(components: &[i64], k: usize) -> Option<usize>
+    ensures member { MemberAnswer (grouping_lists components.now [] [] true) components.now k (answer_of result) }
+    ensures place { IsPlace result }
+{
+    let mut keys = [0u64; COMPONENTS];
+    let count = accepted_ids(components, &mut keys)?;
+    if count <= k {
+        return None;
+    }
+    Some(place_at(&keys[..count], k))
+}
+
 #[unsafe(no_mangle)]
 pub extern "C" fn probe_place_of_member(components: &[i64], k: usize) -> u64
     ensures { MemberAnswer (grouping_lists components.now [] [] true) components.now k result }
 {
-    let mut keys = [0u64; COMPONENTS];
-    let checked = grouping_lists(
-        components,
-        &components[..0],
-        &components[..0],
-        true,
-        &mut keys,
-    );
-    let Ok(()) = checked else {
-        return 0;
-    };
-    let count = components.len() / COMPONENT;
-    if count <= k {
-        return 0;
-    }
-    place_at(&keys[..count], k) as u64 + 1
+    answer(find_member(components, k))
 }

@@ -7,7 +7,7 @@ ghost use Rattle.probe.specs.Ports.{place_code, Sent};
 use checks::refusals::pack;
 use faces::ports::{port_count, ports_for};
 use faces::step::facing_between;
-use scene::connections::{port_connections};
+use scene::connections::port_connections;
 
 #[unsafe(no_mangle)]
 pub extern "C" fn probe_port_count(kind: u64, facing: u64, support: u64, conducts: u64) -> usize
@@ -16,13 +16,7 @@ pub extern "C" fn probe_port_count(kind: u64, facing: u64, support: u64, conduct
     port_count(kind, facing, support, conducts)
 }
 
-fn wide(x: u8) -> u64
-    ensures { (result ≡ x) × (result < 256) }
-{
-    x as u64
-}
-
-// Role, face and channel of a place as one number, 0 past the seventh.
+// Role, face and channel of a place as one number, 0 past the last.
 #[unsafe(no_mangle)]
 pub extern "C" fn probe_port(
     kind: u64,
@@ -33,12 +27,11 @@ pub extern "C" fn probe_port(
 ) -> u64
     ensures { result ≡ place_code (ports_for kind facing support conducts) place }
 {
-    if 7 <= place {
-        return 0;
-    }
     let rows = ports_for(kind, facing, support, conducts);
-    let row = rows[place];
-    wide(row[0]) + 256 * wide(row[1]) + 65536 * wide(row[2])
+    let Some(row) = rows.get(place) else {
+        return 0;
+    };
+    u64::from(row[0]) + 256 * u64::from(row[1]) + 65536 * u64::from(row[2])
 }
 
 #[unsafe(no_mangle)]
@@ -64,8 +57,7 @@ pub extern "C" fn probe_port_connections(
 ) -> u64
     ensures { Sent components.now connections.now out.old out.new result }
 {
-    let selected = port_connections(components, connections, out);
-    match selected {
+    match port_connections(components, connections, out) {
         Ok(count) => 65536 * count as u64,
         Err(refusal) => pack(Err(refusal)),
     }

@@ -23,16 +23,45 @@ pub extern "C" fn probe_input_refusal(
     ensures value { result ≡ packed (input_refusal components.now ports.now frontiers.now id port (length stack.old)) }
     ensures stack_after { stack.new ≡ work_of (input_refusal components.now ports.now frontiers.now id port (length stack.old)) stack.old }
 {
-    let found = required_input(components, ports, frontiers, id, port, stack);
-    let checked = found.checked;
-    pack(checked)
+    pack(required_input(components, ports, frontiers, id, port, stack).checked)
 }
 
-fn word(set: ComponentSet, k: usize) -> u64
-    requires { k < word_count }
-    ensures { result ≡ get_or set.words k 0 }
+// A word of each of the two sets.
+#[derive(Clone, Copy)]
+struct SourceWords {
+    immediate: u64,
+    inferred: u64,
+}
+
+// Word k of the set of immediate sources and of the set of inferred inputs, 0 past the last.
+fn source_words(
+    components: &[i64],
+    ports: &[i64],
+    frontiers: &[i64],
+    id: u64,
+    port: u64,
+    k: usize,
+    stack: &mut [usize],
+) -> SourceWords
+    ensures immediate { k < word_count → WordOf components.now ports.now frontiers.now id port (length stack.old)
+        (λ p a. is_immediate components.now ports.now p port a) k result.immediate }
+    ensures inferred { k < word_count → WordOf components.now ports.now frontiers.now id port (length stack.old)
+        (λ p a. is_inferred_for components.now ports.now frontiers.now p port a) k result.inferred }
+    ensures past { word_count ≤ k → (result.immediate ≡ 0) × (result.inferred ≡ 0) }
+    ensures stack_after { (k < word_count → stack.new ≡ work_of (input_refusal components.now ports.now frontiers.now id port (length stack.old)) stack.old)
+        × (word_count ≤ k → stack.new ≡ stack.old) }
 {
-    set.words[k]
+    if WORDS <= k {
+        return SourceWords {
+            immediate: 0,
+            inferred: 0,
+        };
+    }
+    let found = required_input(components, ports, frontiers, id, port, stack);
+    SourceWords {
+        immediate: found.immediate.words[k],
+        inferred: found.inferred.words[k],
+    }
 }
 
 // Word k of the set of immediate sources, 0 past the last.
@@ -52,11 +81,7 @@ pub extern "C" fn probe_immediate_word(
     ensures stack_after { (k < word_count → stack.new ≡ work_of (input_refusal components.now ports.now frontiers.now id port (length stack.old)) stack.old)
         × (word_count ≤ k → stack.new ≡ stack.old) }
 {
-    if WORDS <= k {
-        return 0;
-    }
-    let found = required_input(components, ports, frontiers, id, port, stack);
-    word(found.immediate, k)
+    source_words(components, ports, frontiers, id, port, k, stack).immediate
 }
 
 // Word k of the set of inferred inputs, 0 past the last.
@@ -76,9 +101,5 @@ pub extern "C" fn probe_inferred_word(
     ensures stack_after { (k < word_count → stack.new ≡ work_of (input_refusal components.now ports.now frontiers.now id port (length stack.old)) stack.old)
         × (word_count ≤ k → stack.new ≡ stack.old) }
 {
-    if WORDS <= k {
-        return 0;
-    }
-    let found = required_input(components, ports, frontiers, id, port, stack);
-    word(found.inferred, k)
+    source_words(components, ports, frontiers, id, port, k, stack).inferred
 }

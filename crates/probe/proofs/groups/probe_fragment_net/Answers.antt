@@ -3,12 +3,13 @@
 use borrow.Author.Rules.{rules}
 use borrow.Author.Tests.{ltb-true, ltb-false}
 use native.Mathlib.Omega.{arith}
-use mathlib.Core.Path.{◌≡◌, refl, sym, ap, ◌∙◌}
+use mathlib.Core.Path.{◌≡◌, refl, ap, ◌∙◌}
 use mathlib.Core.Bool.{Bool, true, false, ◌&&◌}
 use mathlib.Core.List.{List}
 use Prim.Native.Nat.{ℕ, ◌<◌}
 use lib.Dec.{ltb}
 use lib.ListN.{length}
+use mir.Val.{bool_byte}
 use Rattle.sets.specs.Members.{word_count, member_of}
 use Rattle.sets.proofs.Words.{member_past}
 use Rattle.lists.specs.Limits.{component_limit}
@@ -23,12 +24,13 @@ held words shares net long same = go (ltb net component_limit) refl
     go true e = same net (ltb-true net component_limit e)
     go false e = member_past words net (let past = ltb-false net component_limit e in omega arith)
 
-pub returns-then-contains : goal.returns-then-contains
-returns-then-contains c =
-    let found = c.fragment_nets in
-    sym (ap as_number (sym (held found.result.words _ _ (search rules) found.ensures) ∙ sym c.contains.ensures ∙ c.if-contains.true))
+as_one : (b : Bool) → bool_byte b ≡ as_number b
+as_one true = refl
+as_one false = refl
 
 pub returns : goal.returns
 returns c =
     let found = c.fragment_nets in
-    sym (ap as_number (sym (held found.result.words _ _ (search rules) found.ensures) ∙ sym c.contains.ensures ∙ c.if-contains.false))
+    c.from.ensures
+    ∙ as_one c.contains.result
+    ∙ ap as_number (c.contains.ensures ∙ held found.result.words _ _ (search rules) found.ensures)

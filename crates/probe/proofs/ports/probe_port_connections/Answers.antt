@@ -1,37 +1,36 @@
 -- `probe::ports::probe_port_connections` meets its contract.
 -- Assumes nothing.
 use Rattle.std.specs.Prelude.{⊤, Result, Ok, Err}
-use mathlib.Core.Path.{◌≡◌, sym, ap, ◌∙◌, subst}
+use mathlib.Core.Path.{◌≡◌, sym, ap, ◌∙◌}
 use mathlib.Core.List.{[]}
 use Prim.Native.Nat.{ℕ, ◌*◌, ◌≤◌}
 use native.Mathlib.Omega.{arith}
 use lib.ListN.{length}
 use Rattle.lists.specs.Limits.{connection_limit}
-use Rattle.checks.specs.Refusals.{ports_refusal, Small}
+use Rattle.checks.specs.Refusals.{ports_refusal}
 use Rattle.lists.specs.declared.Refusal.{Refusal}
 use Rattle.checks.proofs.Small.{grouping_small}
 use Rattle.checks.proofs.Accepted.{grouping_accept}
 use Rattle.scene.specs.Kept.{kept_count}
 use Rattle.scene.specs.Answer.{answer_of}
 use Rattle.scene.proofs.KeptWithin.{kept_few}
-use Rattle.probe.proofs.Selected.{kept_accepted, refused_is}
+use Rattle.probe.proofs.Selected.{RefusedAs, kept_accepted, refused_as}
 use Rattle.probe.proofs.ports.probe_port_connections.Goals as goal
-use Rattle.probe.proofs.ports.probe_port_connections.Goals.{After-port_connections-selected}
+use Rattle.probe.proofs.ports.probe_port_connections.Goals.{After-port_connections}
 
-abbrev refusal : After-port_connections-selected → Result ⊤ Refusal
+abbrev refusal : After-port_connections → Result ⊤ Refusal
 refusal c = ports_refusal c.args.components.now c.args.connections.now (length c.args.out.now)
 
 -- what an answer says of the checks
-when-kept : (c : After-port_connections-selected) (m : ℕ) → c.port_connections-selected.result ≡ Ok m
+when-kept : (c : After-port_connections) (m : ℕ) → c.port_connections.result ≡ Ok m
     → (refusal c ≡ Ok tt) × (m ≡ kept_count c.args.components.now c.args.connections.now)
-when-kept c m e = kept_accepted (refusal c) _ m (ap answer_of (sym e) ∙ c.port_connections-selected.ensures.answer)
+when-kept c m e = kept_accepted (refusal c) _ m (ap answer_of (sym e) ∙ c.port_connections.ensures.answer)
 
-when-refused : (c : After-port_connections-selected) (x : Refusal)
-    → c.port_connections-selected.result ≡ Err x → refusal c ≡ Err x
-when-refused c x e = refused_is (refusal c) _ x (ap answer_of (sym e) ∙ c.port_connections-selected.ensures.answer)
+when-refused : (c : After-port_connections) (x : Refusal) → c.port_connections.result ≡ Err x → RefusedAs (refusal c) x
+when-refused c x e = refused_as (refusal c) _ x (ap answer_of (sym e) ∙ c.port_connections.ensures.answer)
 
 -- few enough rows
-few : (c : After-port_connections-selected) (m : ℕ) → c.port_connections-selected.result ≡ Ok m → m ≤ connection_limit
+few : (c : After-port_connections) (m : ℕ) → c.port_connections.result ≡ Ok m → m ≤ connection_limit
 few c m e =
     let w = when-kept c m e in
     let cs = c.args.components.now in
@@ -39,19 +38,18 @@ few c m e =
     omega (arith, w.1, kept_few cs ps, (grouping_accept cs ps [] _ w.0).connections.few)
 
 pub overflow_mul-result : goal.overflow_mul-result
-overflow_mul-result c = omega (arith, few (goal.at.overflow_mul-result c).After-port_connections-selected _ c.in-Ok.is)
+overflow_mul-result c = omega (arith, few (goal.at.overflow_mul-result c).After-port_connections _ c.in-Ok.is)
 
 pub pack-requires : goal.pack-requires
 pack-requires c =
-    subst (λ (k : Result ⊤ Refusal). Small k) (when-refused (goal.at.pack-requires c).After-port_connections-selected _ c.in-Err.is)
-    (grouping_small c.args.components.now c.args.connections.now [] _)
+    (when-refused (goal.at.pack-requires c).After-port_connections _ c.in-Err.is).small (grouping_small c.args.components.now c.args.connections.now [] _)
 
 pub returns-in-Ok : goal.returns-in-Ok
 returns-in-Ok c =
-    let w = when-kept (goal.at.returns-in-Ok c).After-port_connections-selected _ c.in-Ok.is in
-    record { answer = rw w.0 (ap (λ (n : ℕ). 65536 * n) w.1); left = c.port_connections-selected.ensures.left }
+    let w = when-kept (goal.at.returns-in-Ok c).After-port_connections _ c.in-Ok.is in
+    record { answer = rw w.0 (ap (λ (n : ℕ). 65536 * n) w.1); left = c.port_connections.ensures.left }
 
 pub returns-in-Err : goal.returns-in-Err
 returns-in-Err c =
-    let w = when-refused (goal.at.returns-in-Err c).After-port_connections-selected _ c.in-Err.is in
-    record { answer = rw w c.pack.ensures; left = c.port_connections-selected.ensures.left }
+    let w = when-refused (goal.at.returns-in-Err c).After-port_connections _ c.in-Err.is in
+    record { answer = c.pack.ensures ∙ w.packs _; left = c.port_connections.ensures.left }

@@ -10,12 +10,12 @@ use Rattle.probe.proofs.query.probe_input_refusal.Goals as goal
 pub pack-requires : goal.pack-requires
 pack-requires c =
     let a = c.args in
-    subst (λ (x : Result ⊤ Refusal). Small x) (sym c.required_input-found.ensures.by.answer)
+    subst (λ (x : Result ⊤ Refusal). Small x) (sym c.required_input.ensures.by.answer)
     (input_small a.components.now a.ports.now a.frontiers.now a.id a.port _)
 
 pub returns : goal.returns
 returns c =
     record {
-      value = c.pack.ensures ∙ ap packed c.required_input-found.ensures.by.answer;
-      stack_after = c.required_input-found.ensures.by.stack_left;
+      value = c.pack.ensures ∙ ap packed c.required_input.ensures.by.answer;
+      stack_after = c.required_input.ensures.by.stack_left;
     }
