@@ -6,8 +6,11 @@
 --     found_none
 -- Assumes nothing.
 use Rattle.std.specs.Prelude.{Some, None}
+use Rattle.std.proofs.Common.{Less, Equal, Greater}
+use Rattle.std.specs.Ordering.{int_eq, int_cmp, is_lt, is_some_and, partial_ordering_then}
+use Rattle.std.proofs.lemmas.Bool.Decides.{Decides-int_eq}
 use mathlib.Core.Path.{◌≡◌, refl, sym, ap, ◌∙◌, subst}
-use mathlib.Core.Bool.{Bool, true, false, not, ◌&&◌, ◌||◌}
+use mathlib.Core.Bool.{Bool, true, false, not, cond, ◌&&◌, ◌||◌}
 use mathlib.Core.Logic.{⊎_elim}
 use mathlib.Core.List.{List}
 use Prim.Native.Nat.{ℕ, zero, suc, ◌≤◌, ◌<◌}
@@ -23,6 +26,7 @@ use Rattle.lists.specs.Records.{Component, Position, component, component_count}
 use Rattle.lists.proofs.Search.{never, both, or_false, first_is, first_nothing}
 use Rattle.lists.proofs.Signed.{eq_z_same, eq_z_self}
 use Rattle.lists.proofs.Ordering.{then_cases, then_less, then_rest, then_step, ascending_at}
+use Rattle.signals.proofs.Tested.{same_truth}
 use Rattle.signals.specs.Sources.{same_position, before_position, first_at, Parted}
 
 -- ---- a component and a position
@@ -64,6 +68,38 @@ then_same c position p q =
   where
     last : (eq_z c.z position.z && true) ≡ true → eq_z c.z position.z ≡ true
     last e = (both (eq_z c.z position.z) true e).0
+
+-- ---- as the tuples of a position compare
+
+equal_is : (a b : ℤ) → int_eq a b ≡ eq_z a b
+equal_is a b =
+    same_truth (int_eq a b) (eq_z a b)
+    (λ e. let same = (Decides-int_eq a b).0 e in rw same (eq_z_self b))
+    (λ e. (Decides-int_eq a b).1 (eq_z_same a b e))
+
+pub equal_tuples : (a b c x y z : ℤ) → ((int_eq a x && int_eq b y) && int_eq c z) ≡ (eq_z a x && (eq_z b y && eq_z c z))
+equal_tuples a b c x y z = rw (equal_is a x, equal_is b y, equal_is c z) (and_three (eq_z a x) (eq_z b y) (eq_z c z))
+  where
+    and_three : (s t u : Bool) → ((s && t) && u) ≡ (s && (t && u))
+    and_three true t u = refl
+    and_three false t u = refl
+
+less_by : (p q r s t u : Bool)
+    → is_some_and is_lt (partial_ordering_then (partial_ordering_then (Some (cond p Less (cond q Greater Equal))) (Some (cond r Less (cond s Greater Equal))))
+    (Some (cond t Less (cond u Greater Equal))))
+    ≡ (p || (not q && (r || (not s && t))))
+less_by true q r s t u = refl
+less_by false true r s t u = refl
+less_by false false true s t u = refl
+less_by false false false true t u = refl
+less_by false false false false true u = refl
+less_by false false false false false true = refl
+less_by false false false false false false = refl
+
+pub less_tuples : (a b c x y z : ℤ)
+    → is_some_and is_lt (partial_ordering_then (partial_ordering_then (Some (int_cmp a x)) (Some (int_cmp b y))) (Some (int_cmp c z)))
+    ≡ less_then a x (less_then b y (lt_z c z))
+less_tuples a b c x y z = less_by (lt_z a x) (lt_z x a) (lt_z b y) (lt_z y b) (lt_z c z) (lt_z z c)
 
 -- ---- the components of an accepted list
 

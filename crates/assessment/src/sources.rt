@@ -12,7 +12,7 @@ ghost use Rattle.signals.specs.Flags.{Flags, FirstFlagged};
 ghost use Rattle.std.specs.Option.{option_map};
 ghost use Rattle.assessment.specs.Rows.{source_number};
 
-use lists::numbers::{natural_at, number_less, number_same};
+use lists::numbers::natural_at;
 use lists::{COMPONENT, FRONTIER};
 
 // Why a component is a source, in the order of its numbers in source rows.
@@ -50,9 +50,8 @@ fn same_position(components: &[i64], frontiers: &[i64], p: usize, j: usize) -> b
 {
     let a = p * COMPONENT;
     let b = j * FRONTIER;
-    number_same(components, a + 1, frontiers, b)
-        & (number_same(components, a + 2, frontiers, b + 1)
-            & number_same(components, a + 3, frontiers, b + 2))
+    (components[a + 1], components[a + 2], components[a + 3])
+        == (frontiers[b], frontiers[b + 1], frontiers[b + 2])
 }
 
 // Whether component p stands before the position of frontier j, by x, then y, then z.
@@ -62,11 +61,8 @@ fn before_position(components: &[i64], frontiers: &[i64], p: usize, j: usize) ->
 {
     let a = p * COMPONENT;
     let b = j * FRONTIER;
-    number_less(components, a + 1, frontiers, b)
-        | (!number_less(frontiers, b, components, a + 1)
-            & (number_less(components, a + 2, frontiers, b + 1)
-                | (!number_less(frontiers, b + 1, components, a + 2)
-                    & number_less(components, a + 3, frontiers, b + 2))))
+    (components[a + 1], components[a + 2], components[a + 3])
+        < (frontiers[b], frontiers[b + 1], frontiers[b + 2])
 }
 
 // The first component that does not stand before the position of frontier j, or their number. The components ascend.
