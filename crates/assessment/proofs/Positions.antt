@@ -1,7 +1,8 @@
 -- Components that ascend, by their positions.
 --     before_then                     a component stands before a position, or at it and `rest` decides
 --     earlier                        so does each that is listed earlier
---     before_all, before_none        the components on either side of one
+--     equal_tuples, less_tuples      the tuples of a position compare so
+--     records_part, parted_at        where the records of a list part, as arrays
 --     found_first, found_past,       the first component at a position, where they part
 --     found_none
 -- Assumes nothing.
@@ -12,15 +13,20 @@ use Rattle.std.proofs.lemmas.Bool.Decides.{Decides-int_eq}
 use mathlib.Core.Path.{◌≡◌, refl, sym, ap, ◌∙◌, subst}
 use mathlib.Core.Bool.{Bool, true, false, not, cond, ◌&&◌, ◌||◌}
 use mathlib.Core.Logic.{⊎_elim}
-use mathlib.Core.List.{List}
-use Prim.Native.Nat.{ℕ, zero, suc, ◌≤◌, ◌<◌}
-use native.Mathlib.Nat.{eq-or-lt_of_le}
+use mathlib.Core.List.{List, []}
+use Prim.Native.Nat.{ℕ, zero, suc, ◌+◌, ◌*◌, ◌≤◌, ◌<◌}
+use native.Mathlib.Nat.{eq-or-lt_of_le, suc-mul}
+use lib.ListN.{length, get_or, drop}
+use Rattle.std.specs.Prelude.{pos}
+use Rattle.std.specs.Simd.{first_chunks}
+use Rattle.std.specs.List.Sorted.{IsPartitionedBy, IsPartitionPoint}
+use Rattle.std.proofs.lemmas.List.{get_or-take, get_or-drop}
 use native.Mathlib.Omega.{arith}
 use lib.IntN.{ℤ}
 use lib.Signed.{lt_z}
 use Rattle.tables.specs.Laws.{order?}
 use Rattle.lists.specs.Limits.{component_width}
-use Rattle.lists.specs.Signed.{eq_z, less_then}
+use Rattle.lists.specs.Signed.{at, eq_z, less_then}
 use Rattle.lists.specs.Order.{record_before, first_not_ascending, component_order}
 use Rattle.lists.specs.Records.{Component, Position, component, component_count}
 use Rattle.lists.proofs.Search.{never, both, or_false, first_is, first_nothing}
@@ -101,6 +107,22 @@ pub less_tuples : (a b c x y z : ℤ)
     ≡ less_then a x (less_then b y (lt_z c z))
 less_tuples a b c x y z = less_by (lt_z a x) (lt_z x a) (lt_z b y) (lt_z y b) (lt_z c z) (lt_z z c)
 
+-- ---- a record as an array
+
+-- field f of the k-th of m arrays of n
+field_of : (n m : ℕ) (xs : List ℤ) (k f : ℕ) (d : List ℤ) → k < m → f < n → at (get_or (first_chunks n m xs) k d) f ≡ at xs (k * n + f)
+field_of n zero xs k f d h l = absurd (omega arith)
+field_of n (suc m) xs zero f d h l =
+    let place : f ≡ 0 * n + f = omega arith in
+    get_or-take n xs f (pos 0) l ∙ ap (at xs) place
+field_of n (suc m) xs (suc k) f d h l =
+    let place : n + (k * n + f) ≡ suc k * n + f = omega (arith, suc-mul k n) in
+    field_of n m (drop n xs) k f d (omega arith) l ∙ get_or-drop n xs (k * n + f) (pos 0) ∙ ap (at xs) place
+
+same_before : {a b c x y z : ℤ} (position : Position) → a ≡ x → b ≡ y → c ≡ z
+    → less_then a position.x (less_then b position.y (lt_z c position.z)) ≡ less_then x position.x (less_then y position.y (lt_z z position.z))
+same_before position e f g = rw (e, f, g)
+
 -- ---- the components of an accepted list
 
 module _ (cs : List ℤ) (ascending : first_not_ascending component_order component_width cs ≡ None) (position : Position) where
@@ -126,12 +148,25 @@ module _ (cs : List ℤ) (ascending : first_not_ascending component_order compon
     pub before_all : before_position (component cs q) position ≡ true → (p : ℕ) → p ≤ q → before_position (component cs p) position ≡ true
     before_all e p h = before_is (component cs p) position ∙ earlier false p q h l (sym (before_is (component cs q) position) ∙ e)
 
-  pub before_none : (q : ℕ) → before_position (component cs q) position ≡ false → (p : ℕ) → q ≤ p → p < component_count cs → before_position (component cs p) position ≡ false
-  before_none q e p h l = go (before_position (component cs p) position) refl
-    where
-      go : (t : Bool) → before_position (component cs p) position ≡ t → t ≡ false
-      go true f = never (sym e ∙ before_all p l f q h)
-      go false f = refl
+  -- the records as arrays, in which a search looks for the place
+  module _ {records : List (List ℤ)} (split : records ≡ first_chunks component_width (component_count cs) cs) where
+    before_record : (k : ℕ) (d : List ℤ) → k < component_count cs → before_position (component (get_or records k d) 0) position ≡ before_position (component cs k) position
+    before_record k d h =
+        let field = λ (f : ℕ) (l : f < component_width). ap (λ (rs : List (List ℤ)). at (get_or rs k d) f) split ∙ field_of component_width (component_count cs) cs k f d h l in
+        same_before position (field 1 (omega arith)) (field 2 (omega arith)) (field 3 (omega arith))
+
+    pub records_part : length records ≡ component_count cs → IsPartitionedBy (λ r. before_position (component r 0) position) records
+    records_part long i j d h l e =
+        let there : j < component_count cs = omega arith in
+        before_record i d (omega arith) ∙ before_all j there (sym (before_record j d there) ∙ e) i h
+
+    pub parted_at : (r : ℕ) → r ≤ length records → length records ≡ component_count cs
+        → IsPartitionPoint (λ r. before_position (component r 0) position ≡ true) (λ r. before_position (component r 0) position ≡ false) records r → Parted cs position r
+    parted_at r le long point = record {
+      within = omega arith;
+      before = λ p h. sym (before_record p [] (omega arith)) ∙ point.0 p [] (omega arith) h;
+      from = λ p h l. sym (before_record p [] l) ∙ point.1 p [] h (omega arith);
+    }
 
   module _ {r : ℕ} (parted : Parted cs position r) where
     -- no component before them is at the position

@@ -11,7 +11,7 @@ use Rattle.assessment.proofs.sources.before_position.Goals as goal
 
 pub returns : goal.returns
 returns c =
-    let here = component c.args.components.now c.args.p in
+    let here = component c.args.here.now 0 in
     let there = frontier c.args.frontiers.now c.args.j in
     let a : SFits w64 here.x = search rules in
     let b : SFits w64 here.y = search rules in
