@@ -1,6 +1,6 @@
 -- An accepted scene, and what the stages of its analysis leave in their arrays.
 -- Assumes nothing: these are definitions.
-use Rattle.std.specs.Prelude.{None, Ok}
+use Rattle.std.specs.Prelude.{None}
 use Rattle.std.specs.Prelude.{ℕ, ◌*◌, ◌≤◌, ◌≡◌, Bool, List, length, ℤ}
 use Rattle.sets.specs.Members.{SetOf}
 use Rattle.lists.specs.Limits.{component_limit, connection_limit, component_width}
@@ -116,7 +116,6 @@ pub record RowsRoom (cs : List ℤ) (regions sources inputs stack : List ℕ) : 
 
 -- the counts as given, and the sets of the flags
 pub record AnswerBy (n count sources inputs : ℕ) (driven possible hasDriven : List Bool) (cyclic : ℕ → Bool) (r : Analysis) : Type 0 where
-  pub checked_is : r.checked ≡ Ok tt
   pub regions_is : r.regions ≡ count
   pub sources_is : r.sources ≡ sources
   pub inputs_is : r.inputs ≡ inputs

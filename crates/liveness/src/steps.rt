@@ -168,7 +168,6 @@ fn answer(
     let mut cyclic = [false; COMPONENTS];
     find_cyclic(forward, labels, &mut cyclic);
     Analysis {
-        checked: Ok(()),
         regions: count,
         sources: counts.sources,
         inputs: counts.inputs,
@@ -202,7 +201,7 @@ fn report(
     requires scene { Scene components.now ports.now }
     requires prepared { Prepared components.now ports.now source_at.now sink_at.now forward.now backward.now labels.now members.now region_at.now }
     requires count_value { (count ≡ region_count components.now ports.now) × (RowsRoom components.now regions.old sources.old inputs.old stack.old × Zeros stack.old) }
-    ensures { AnalyzedBy (Ok tt) components.now ports.now frontiers.now regions.old regions.new sources.old sources.new inputs.old inputs.new stack.old stack.new result }
+    ensures { AnalyzedBy (Ok tt) components.now ports.now frontiers.now regions.old regions.new sources.old sources.new inputs.old inputs.new stack.old stack.new (Ok result) }
 {
     let n = labels.len();
     let mut on_frontier = [false; COMPONENTS];
@@ -274,7 +273,7 @@ fn analyze_in(
     requires scene { Scene components.now ports.now × (IdTable components.now keys.now × SettledEnds components.now ports.now source_at.now sink_at.now) }
     requires prepared_room { PreparedRoom components.now ports.now forward.old backward.old labels.old members.old region_at.old stack.old }
     requires rows_room { RowsRoom components.now regions.old sources.old inputs.old stack.old }
-    ensures { AnalyzedBy (Ok tt) components.now ports.now frontiers.now regions.old regions.new sources.old sources.new inputs.old inputs.new stack.old stack.new result }
+    ensures { AnalyzedBy (Ok tt) components.now ports.now frontiers.now regions.old regions.new sources.old sources.new inputs.old inputs.new stack.old stack.new (Ok result) }
 {
     let count = prepare(
         keys,
@@ -327,7 +326,7 @@ pub fn analyze(
 ) -> Analysis
     requires scene { Scene components.now ports.now × (IdTable components.now keys.now × SettledEnds components.now ports.now source_at.now sink_at.now) }
     requires rows_room { RowsRoom components.now regions.old sources.old inputs.old stack.old }
-    ensures { AnalyzedBy (Ok tt) components.now ports.now frontiers.now regions.old regions.new sources.old sources.new inputs.old inputs.new stack.old stack.new result }
+    ensures { AnalyzedBy (Ok tt) components.now ports.now frontiers.now regions.old regions.new sources.old sources.new inputs.old inputs.new stack.old stack.new (Ok result) }
 {
     let n = keys.len();
     let m = ports.len() / PORT;

@@ -16,7 +16,6 @@ find_cyclic-requires c =
 pub returns : goal.returns
 returns c =
     record {
-      checked_is = refl;
       regions_is = refl;
       sources_is = refl;
       inputs_is = refl;

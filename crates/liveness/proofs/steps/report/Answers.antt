@@ -151,21 +151,23 @@ returns c =
     c.mark.auto.potential ∙ e.potential_is in
     let verdict-rows = c.write_verdicts.ensures (fs s) record { drive_is = live; potential_is = may } in
     record {
-      answer = a.checked_is;
+      answer = refl;
+      analysis = record {
+        region_count_lem = a.regions_is ∙ c.requires.count_value.0;
+        source_count = ap (λ (k : ℕ). k * 2) a.sources_is ∙ c.put_sources.ensures.count ∙ ap length source-rows;
+        input_count = ap (λ (k : ℕ). k * 3) a.inputs_is ∙ verdict-rows.count;
+        drive_set = set_all (all s) live a.drive_set;
+        potential_set = set_all (all s) may a.potential_set;
+        cyclic_set = set_same c.requires.count_value.0
+            (λ r. ap (λ (l : List ℕ). cyclic_at c.args.forward.now l r) p.labels_are
+            ∙ cyclic_is (cs s) (ps s) c.args.forward.now (graph c.requires.scene p) (few s) t.source_members t.sink_members
+            (ends_within (cs s) (ps s) c.requires.scene.ends) t.forward_keys r) a.cyclic_set;
+        has_drive_set = set_same c.requires.count_value.0 (λ r. refl) (set_where (count_small s) a.has_drive_set e.region_flags);
+      };
       regions_left = c.put_regions.ensures ∙ ap (λ (l : List ℕ). laid l c.args.regions.now) region_rows_lem;
       sources_left = c.put_sources.ensures.is ∙ ap (λ (l : List ℕ). laid l c.args.sources.now) source-rows;
       inputs_left = verdict-rows.is;
       stack_left = zeros_cleared _ c.requires.count_value.1.1;
-      region_count_lem = a.regions_is ∙ c.requires.count_value.0;
-      source_count = ap (λ (k : ℕ). k * 2) a.sources_is ∙ c.put_sources.ensures.count ∙ ap length source-rows;
-      input_count = ap (λ (k : ℕ). k * 3) a.inputs_is ∙ verdict-rows.count;
-      drive_set = set_all (all s) live a.drive_set;
-      potential_set = set_all (all s) may a.potential_set;
-      cyclic_set = set_same c.requires.count_value.0
-          (λ r. ap (λ (l : List ℕ). cyclic_at c.args.forward.now l r) p.labels_are
-          ∙ cyclic_is (cs s) (ps s) c.args.forward.now (graph c.requires.scene p) (few s) t.source_members t.sink_members
-          (ends_within (cs s) (ps s) c.requires.scene.ends) t.forward_keys r) a.cyclic_set;
-      has_drive_set = set_same c.requires.count_value.0 (λ r. refl) (set_where (count_small s) a.has_drive_set e.region_flags);
     }
 
 pub slice_bounds-drive-end : goal.slice_bounds-drive-end
