@@ -1,5 +1,4 @@
 // The sets of many ports of one accepted scene, which is prepared once: for each region, the inferred inputs upstream of it stand in a table.
-ghost use Rattle.std.specs.Prelude.{Ok};
 ghost use Rattle.std.specs.Prelude.{◌≡◌, List, ℕ, ◌*◌, ◌^◌, ◌≤◌, ◌<◌, length, ℤ};
 ghost use Rattle.tables.specs.Order.{Ascending};
 ghost use Rattle.lists.specs.Limits.{component_limit};
@@ -10,9 +9,9 @@ ghost use Rattle.regions.specs.Search.{Zeros};
 ghost use Rattle.signals.specs.Flags.{Indices};
 ghost use Rattle.assessment.specs.Rows.{SlotWithin};
 ghost use Rattle.assessment.specs.Upstream.{table_words};
-ghost use Rattle.inputs.specs.Query.{row_place};
+ghost use Rattle.inputs.specs.Query.{row_place, PortSets};
 ghost use Rattle.liveness.specs.Scene.{Scene};
-ghost use Rattle.inputs.specs.Inputs.{Ready, SlotSets, PortSets};
+ghost use Rattle.inputs.specs.Inputs.{Ready, SlotSets};
 
 use super::InputSources;
 use super::query::{find_inputs, no_sources};
@@ -68,17 +67,6 @@ pub fn make_ready(
     upstream_rows(&pairs[..count], labels, &inferred[..n], upstream);
 }
 
-// Two sets as an answer.
-fn answer_of(immediate: ComponentSet, inferred: ComponentSet) -> InputSources
-    ensures { (result.checked ≡ Ok tt) × ((result.immediate ≡ immediate) × (result.inferred ≡ inferred)) }
-{
-    InputSources {
-        checked: Ok(()),
-        immediate,
-        inferred,
-    }
-}
-
 // The nodes that feed a slot, and all members of the rows of their regions.
 fn slot_sources(fed: &[u64], slot: usize, labels: &[usize], upstream: &[u64]) -> InputSources
     requires ascending { Ascending fed.now × ((slot < 2 ^ 32) × SlotWithin fed.now slot (length labels.now)) }
@@ -87,18 +75,20 @@ fn slot_sources(fed: &[u64], slot: usize, labels: &[usize], upstream: &[u64]) ->
 {
     let mut immediate = sets::empty();
     let mut inferred = sets::empty();
-    let mut at = tables::lower_bound(fed, slot as u64 * SPAN);
-    while at < fed.len() {
+    let first = tables::lower_bound(fed, slot as u64 * SPAN);
+    for at in first..fed.len() {
         let key = fed[at];
         if key / SPAN != slot as u64 {
-            return answer_of(immediate, inferred);
+            break;
         }
         let source = (key % SPAN) as usize;
         immediate = sets::insert(immediate, source);
         inferred = add_row(inferred, upstream, labels[source]);
-        at += 1;
     }
-    answer_of(immediate, inferred)
+    InputSources {
+        immediate,
+        inferred,
+    }
 }
 
 // The sets of a port by the id of its component, empty where it has no verdict row.
@@ -116,8 +106,7 @@ pub fn asked_sources(
     ensures { (ps fs : List ℤ) → Ready components.now ps fs fed.now labels.now upstream.now →
         PortSets components.now ps fs (row_place components.now id port) port result }
 {
-    let place = row_place(keys, components, id, port);
-    match place {
+    match row_place(keys, components, id, port) {
         Some(_) => slot_sources(
             fed,
             member_of(keys, id) * PORTS + port as usize,

@@ -1,6 +1,6 @@
 // The input query: the immediate sources of a port, and the inferred inputs among these and all upstream of them.
 ghost use Rattle.lists.specs.declared.Fault.{Fault};
-ghost use Rattle.std.specs.Prelude.{Option, Some, None, Ok, Err};
+ghost use Rattle.std.specs.Prelude.{Some, None, Ok};
 ghost use Rattle.std.specs.Prelude.{◌≡◌, List, ℕ, ◌*◌, ◌^◌, ◌≤◌, ◌<◌, length, ℤ};
 ghost use Rattle.tables.specs.Order.{Ascending, member};
 ghost use Rattle.tables.specs.Pairs.{pair, span};
@@ -13,7 +13,7 @@ ghost use Rattle.regions.specs.Search.{Zeros};
 ghost use Rattle.regions.specs.Keys.{edges};
 ghost use Rattle.signals.specs.Regions.{is_inferred};
 ghost use Rattle.signals.specs.Drive.{members_where};
-ghost use Rattle.inputs.specs.Query.{row_place, InputsBy};
+ghost use Rattle.inputs.specs.Query.{row_place, PortSets, InputsBy};
 ghost use Rattle.signals.specs.Flags.{Flags};
 ghost use Rattle.assessment.specs.Rows.{slot_fed, SlotWithin};
 ghost use Rattle.liveness.specs.Scene.{Scene, PreparedScene};
@@ -43,14 +43,13 @@ fn immediate_flags(keys: &[u64], slot: usize, flags: &mut [bool])
     ensures { Flags (length flags.old) (λ a. member (pair slot a) keys.now) flags.new }
 {
     regions::clear_flags(flags);
-    let mut at = tables::lower_bound(keys, slot as u64 * SPAN);
-    while at < keys.len() {
+    let first = tables::lower_bound(keys, slot as u64 * SPAN);
+    for at in first..keys.len() {
         let key = keys[at];
         if key / SPAN != slot as u64 {
             return;
         }
         flags[(key % SPAN) as usize] = true;
-        at += 1;
     }
 }
 
@@ -80,12 +79,11 @@ fn upstream_inputs(
     sets::of_flags(n, &both)
 }
 
-// The answer where the port asked for has no verdict row, or none feeds it: empty sets.
+// The sources where the port asked for has no verdict row, or none feeds it.
 pub(crate) fn no_sources() -> InputSources
-    ensures { (cs ps fs : List ℤ) (port : ℕ) (stack : List ℕ) → Zeros stack → InputsBy (Ok tt) cs ps fs None port stack stack result }
+    ensures { (cs ps fs : List ℤ) (port : ℕ) → PortSets cs ps fs None port result }
 {
     InputSources {
-        checked: Ok(()),
         immediate: sets::empty(),
         inferred: sets::empty(),
     }
@@ -111,7 +109,7 @@ pub(crate) fn row_sources(
     requires by_index { (cs ps fs : List ℤ) × (p port : ℕ) × (Walkable cs ps fs fed.now backward.now inferred.now × SlotOf cs ps p port fed.now slot) }
     requires inferred_in_bounds { (2 * length inferred.now ≤ length stack.old) × Zeros stack.old }
     ensures { (cs ps fs : List ℤ) (p port : ℕ) → Walkable cs ps fs fed.now backward.now inferred.now → SlotOf cs ps p port fed.now slot →
-        InputsBy (Ok tt) cs ps fs (Some p) port stack.old stack.new result }
+        PortSets cs ps fs (Some p) port result × Zeros stack.new }
 {
     if !is_fed(fed, slot) {
         return no_sources();
@@ -120,7 +118,6 @@ pub(crate) fn row_sources(
     let mut immediate = [false; COMPONENTS];
     immediate_flags(fed, slot, &mut immediate[..n]);
     InputSources {
-        checked: Ok(()),
         immediate: sets::of_flags(n, &immediate[..n]),
         inferred: upstream_inputs(backward, &immediate[..n], inferred, stack),
     }
@@ -279,7 +276,7 @@ fn input_sources(
 ) -> InputSources
     requires scene { Scene components.now ports.now × (IdTable components.now keys.now × SettledEnds components.now ports.now source_at.now sink_at.now) }
     requires p_bound { (p < component_count components.now) × ((port < 2 ^ 8) × (2 * component_count components.now ≤ length stack.old)) }
-    ensures { InputsBy (Ok tt) components.now ports.now frontiers.now (Some p) port stack.old stack.new result }
+    ensures { InputsBy (Ok tt) components.now ports.now frontiers.now (Some p) port stack.old stack.new (Ok result) }
 {
     let n = keys.len();
     let m = ports.len() / PORT;
@@ -302,17 +299,6 @@ fn input_sources(
     row_sources(&fed[..m], &backward[..m], slot, &inferred[..n], stack)
 }
 
-// The answer beside a refusal: empty sets.
-pub(crate) fn refused_input(refusal: Refusal) -> InputSources
-    ensures { (cs ps fs : List ℤ) (place : Option ℕ) (port : ℕ) (stack : List ℕ) → InputsBy (Err refusal) cs ps fs place port stack stack result }
-{
-    InputSources {
-        checked: Err(refusal),
-        immediate: sets::empty(),
-        inferred: sets::empty(),
-    }
-}
-
 // The query of an accepted scene, given its table of ids and its settled ends; 8 where the port asked for has no verdict row.
 pub(crate) fn query_scene(
     keys: &[u64],
@@ -324,14 +310,13 @@ pub(crate) fn query_scene(
     id: u64,
     port: u64,
     stack: &mut [usize],
-) -> InputSources
+) -> Result<InputSources, Refusal>
     requires scene { Scene components.now ports.now × (IdTable components.now keys.now × SettledEnds components.now ports.now source_at.now sink_at.now) }
     requires components_in_bounds { 2 * component_count components.now ≤ length stack.old }
     ensures { InputsBy (refuse Fault.NoVerdictRow None (too_short (is_found (row_place components.now id port)))) components.now ports.now frontiers.now (row_place components.now id port) port stack.old stack.new result }
 {
-    let place = row_place(keys, components, id, port);
-    match place {
-        Some(p) => input_sources(
+    match row_place(keys, components, id, port) {
+        Some(p) => Ok(input_sources(
             keys,
             components,
             ports,
@@ -341,8 +326,8 @@ pub(crate) fn query_scene(
             p,
             port as usize,
             stack,
-        ),
-        None => refused_input(Refusal {
+        )),
+        None => Err(Refusal {
             fault: Fault::NoVerdictRow,
             list: None,
             item: 0,

@@ -15,10 +15,11 @@ use Rattle.lists.proofs.Table.{table_long}
 use Rattle.lists.proofs.Search.{record_within}
 use Rattle.lists.proofs.Fields.{first_non_neg}
 use Rattle.lists.proofs.Members.{member_below}
+use Rattle.regions.proofs.Fill.{zeros_cleared}
 use Rattle.signals.specs.Keys.{slot}
 use Rattle.signals.proofs.Lent.{front, front_long, front_length}
 use Rattle.inputs.specs.Inputs.{SlotOf, Walkable}
-use Rattle.inputs.proofs.Inputs.{walk_as, id_small, inputs_stack}
+use Rattle.inputs.proofs.Inputs.{walk_as, id_small}
 use Rattle.inputs.proofs.query.input_sources.Goals as goal
 use Rattle.inputs.proofs.query.input_sources.Goals.{Start}
 
@@ -127,7 +128,12 @@ returns c =
     let w = c.walk_tables in
     let m = member_is s (c.member_of.ensures (cs s) s.requires.scene.1.0) c.natural_at.ensures in
     let walk = walk_is s w.auto.fed w.auto.backward w.auto.inferred w.ensures.0 in
-    inputs_stack w.auto.stack (c.row_sources.ensures (cs s) a.ports.now a.frontiers.now a.p a.port walk (slot_at s m walk))
+    let sources = c.row_sources.ensures (cs s) a.ports.now a.frontiers.now a.p a.port walk (slot_at s m walk) in
+    record {
+      answer = refl;
+      sets = sources.0;
+      stack_left = zeros_cleared _ sources.1 ∙ ap (λ (k : ℕ). replicate k 0) (c.row_sources.auto.stack ∙ w.auto.stack);
+    }
 
 pub slice_bounds-fed-end : goal.slice_bounds-fed-end
 slice_bounds-fed-end c =
