@@ -34,9 +34,7 @@ pub(crate) fn infer(
         (inferred_by components.now members.now region_at.now has_drive.now fed.now forward.now backward.now labels.now)
         flags.new }
 {
-    let count = components.len() / COMPONENT;
-    let mut p: usize = 0;
-    while p < count {
+    for p in 0..components.len() / COMPONENT {
         let region = region_at[p];
         let quiet = !has_drive[region] & !fed[region];
         flags[p] = is_inferred(
@@ -50,7 +48,6 @@ pub(crate) fn infer(
             forward_rows,
             backward_rows,
         );
-        p += 1;
     }
 }
 

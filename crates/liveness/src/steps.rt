@@ -141,10 +141,8 @@ fn put_regions(n: usize, region_at: &[usize], regions: &mut [u64])
     requires { (n ≤ length region_at.now) × (n ≤ length regions.old) }
     ensures { regions.new ≡ laid (tabulate (λ p. get_or region_at.now p 0) n) regions.old }
 {
-    let mut p: usize = 0;
-    while p < n {
+    for p in 0..n {
         regions[p] = region_at[p] as u64;
-        p += 1;
     }
 }
 

@@ -1,9 +1,8 @@
 -- Answers for the goals that the search leaves.
-use mathlib.Core.Path.{refl}
 use mathlib.Core.Bool.{false}
 use Prim.Native.Nat.{◌<◌}
 use native.Mathlib.Omega.{arith}
-use lib.ListN.{length, get_or, length-set}
+use lib.ListN.{length, get_or}
 use Rattle.signals.specs.Stages.{inferred_by}
 use Rattle.signals.proofs.Stores.{stored}
 use Rattle.liveness.proofs.infer.infer.Goals as goal
@@ -23,7 +22,7 @@ read-member : (c : In-loop-p) → c.loop-p.p < length c.args.members.now
 read-member c = omega (arith, c.loop-p-test.true, c.requires.indices.0.long)
 
 room : (c : In-loop-p) → c.loop-p.p < length c.loop-p.flags
-room c = omega (arith, c.loop-p-test.true, c.loop-p.invariant.1, c.requires.indices.1)
+room c = omega (arith, c.loop-p-test.true, c.loop-p.auto.flags, c.requires.indices.1)
 
 pub is_inferred-requires : goal.is_inferred-requires
 is_inferred-requires c =
@@ -35,24 +34,21 @@ is_inferred-requires c =
 pub loop-p-preserved : goal.loop-p-preserved
 loop-p-preserved c =
     let l = c.loop-p in
-    let a = c.args in (
-      omega (arith, c.loop-p-test.true),
-      simp length-set l.invariant.1,
-      stored false (inferred_by a.components.now a.members.now a.region_at.now a.has_drive.now a.fed.now a.forward.now a.backward.now
-          a.labels.now) l.flags l.p _ (room (goal.at.loop-p-preserved c).In-loop-p) l.invariant.2
-          c.is_inferred.ensures,
-    )
+    let a = c.args in
+    stored false (inferred_by a.components.now a.members.now a.region_at.now a.has_drive.now a.fed.now a.forward.now a.backward.now
+    a.labels.now) l.flags l.p _ (room (goal.at.loop-p-preserved c).In-loop-p) l.invariant
+    c.is_inferred.ensures
 
 pub returns : goal.returns
 returns c =
     let l = c.loop-p in
     record {
-      long = omega (arith, l.invariant.1, c.requires.indices.1);
-      at = λ p h. l.invariant.2 p (omega (arith, c.loop-p-test.false));
+      long = omega (arith, l.auto.flags, c.requires.indices.1);
+      at = λ p h. l.invariant p (omega (arith, c.loop-p-test.false));
     }
 
 pub loop-p-init : goal.loop-p-init
-loop-p-init c = (omega arith, refl, λ j h. absurd (omega arith))
+loop-p-init c = λ j h. absurd (omega arith)
 
 pub offset_bounds-region_at-p : goal.offset_bounds-region_at-p
 offset_bounds-region_at-p c = omega (arith, few c)
@@ -74,9 +70,3 @@ bounds-members-p c = read-member (goal.at.bounds-members-p c).In-loop-p
 
 pub bounds-flags-p : goal.bounds-flags-p
 bounds-flags-p c = room (goal.at.bounds-flags-p c).In-loop-p
-
-pub overflow_add-p : goal.overflow_add-p
-overflow_add-p c = omega (arith, few (goal.at.overflow_add-p c).In-loop-p)
-
-pub shape_of-flags : goal.shape_of-flags
-shape_of-flags c = c.loop-p.invariant.1
