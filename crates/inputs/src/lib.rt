@@ -9,7 +9,8 @@ ghost use Rattle.inputs.specs.Query.{Answered};
 
 use checks::refusals::{liveness_lists, room_for};
 use lists::{COMPONENT, COMPONENTS, CONNECTIONS, Refusal};
-use query::query_scene;
+use liveness::plot::Plot;
+use query::query_plot;
 use sets::ComponentSet;
 
 // Of a port the immediate sources, and the inferred inputs among these and all upstream of them.
@@ -45,15 +46,13 @@ pub fn required_input(
         &mut source_at,
         &mut sink_at,
     )?;
-    query_scene(
-        &keys[..count],
+    let plot = Plot {
+        keys: &keys[..count],
         components,
         ports,
         frontiers,
-        &source_at,
-        &sink_at,
-        id,
-        port,
-        stack,
-    )
+        source_at: &source_at,
+        sink_at: &sink_at,
+    };
+    query_plot(&plot, id, port, stack)
 }

@@ -3,13 +3,14 @@
 
 mod alive;
 mod infer;
-pub mod prepare;
+pub mod plot;
 pub mod steps;
 
 ghost use Rattle.liveness.specs.Entry.{Analyzed};
 
 use checks::refusals::{liveness_lists, room_for};
 use lists::{COMPONENT, COMPONENTS, CONNECTIONS, Refusal};
+use plot::Plot;
 use sets::ComponentSet;
 use steps::analyze;
 
@@ -54,16 +55,13 @@ pub fn analyze_signal_liveness(
         &mut source_at,
         &mut sink_at,
     )?;
-    Ok(analyze(
-        &keys[..count],
+    let plot = Plot {
+        keys: &keys[..count],
         components,
         ports,
         frontiers,
-        &source_at,
-        &sink_at,
-        regions,
-        sources,
-        inputs,
-        stack,
-    ))
+        source_at: &source_at,
+        sink_at: &sink_at,
+    };
+    Ok(analyze(&plot, regions, sources, inputs, stack))
 }

@@ -36,14 +36,15 @@ module _ (c : After-liveness_lists) (was : c.liveness_lists.result ≡ Ok tt) wh
   long : component_count c.args.components.now ≤ length c.liveness_lists.new.keys
   long = omega (arith, live.components.few, c.liveness_lists.auto.keys)
 
-pub query_scene-requires : goal.query_scene-requires
-query_scene-requires c =
-    let now = (goal.at.query_scene-requires c).After-liveness_lists in
+pub query_plot-requires : goal.query_plot-requires
+query_plot-requires c = room (goal.at.query_plot-requires c).After-liveness_lists c.in_ok-liveness_lists.was
+
+pub invariant_of-plot : goal.invariant_of-plot
+invariant_of-plot c =
+    let left = c.liveness_lists.ensures in
     let was = c.in_ok-liveness_lists.was in
-    let left = c.liveness_lists.ensures in record {
-      scene = (scene_of_lem (live now was), (left.lists.table was, left.ends was));
-      components_in_bounds = room now was;
-    }
+    let scene = scene_of_lem (live (goal.at.invariant_of-plot c).After-liveness_lists was) in
+    record { accepted = record { scene = scene; table = left.lists.table was; ends = left.ends was } }
 
 -- a refusal leaves the stack as it was
 pub returns-in_err-liveness_lists : goal.returns-in_err-liveness_lists
@@ -54,15 +55,15 @@ returns-in_err-liveness_lists c =
 
 pub returns : goal.returns
 returns c =
-    inputs_checked c.args.id (sym (says (goal.at.returns c).After-liveness_lists) ∙ c.in_ok-liveness_lists.was) c.query_scene.ensures
+    inputs_checked c.args.id (sym (says (goal.at.returns c).After-liveness_lists) ∙ c.in_ok-liveness_lists.was) c.query_plot.ensures
 
 pub slice_bounds-keys-end : goal.slice_bounds-keys-end
 slice_bounds-keys-end c = long (goal.at.slice_bounds-keys-end c).After-liveness_lists c.in_ok-liveness_lists.was
 
-pub slice_bounds-query_scene-end : goal.slice_bounds-query_scene-end
-slice_bounds-query_scene-end c =
+pub slice_bounds-plot-end : goal.slice_bounds-plot-end
+slice_bounds-plot-end c =
     sym (length-take-le _ c.liveness_lists.new.keys
-    (long (goal.at.slice_bounds-query_scene-end c).After-liveness_lists c.in_ok-liveness_lists.was))
+    (long (goal.at.slice_bounds-plot-end c).After-liveness_lists c.in_ok-liveness_lists.was))
 
 pub shape_of-stack : goal.shape_of-stack
-shape_of-stack c = c.query_scene.auto.stack
+shape_of-stack c = c.query_plot.auto.stack

@@ -68,13 +68,14 @@ module _ (c : After-liveness_lists) (was : c.liveness_lists.result ≡ Ok tt) wh
   long = omega (arith, live.components.few, c.liveness_lists.auto.keys)
 
 pub analyze-requires : goal.analyze-requires
-analyze-requires c =
-    let now = (goal.at.analyze-requires c).After-liveness_lists in
+analyze-requires c = room (goal.at.analyze-requires c).After-liveness_lists c.in_ok-liveness_lists.was
+
+pub invariant_of-plot : goal.invariant_of-plot
+invariant_of-plot c =
+    let now = (goal.at.invariant_of-plot c).After-liveness_lists in
     let left = c.liveness_lists.ensures in
-    let was = c.in_ok-liveness_lists.was in record {
-      scene = (scene now was, (left.lists.table was, left.ends was));
-      rows_room = room now was;
-    }
+    let was = c.in_ok-liveness_lists.was in
+    record { accepted = record { scene = scene now was; table = left.lists.table was; ends = left.ends was } }
 
 pub returns-in_err-liveness_lists : goal.returns-in_err-liveness_lists
 returns-in_err-liveness_lists c =
@@ -90,7 +91,7 @@ returns c =
 pub slice_bounds-keys-end : goal.slice_bounds-keys-end
 slice_bounds-keys-end c = long (goal.at.slice_bounds-keys-end c).After-liveness_lists c.in_ok-liveness_lists.was
 
-pub slice_bounds-analyze-end : goal.slice_bounds-analyze-end
-slice_bounds-analyze-end c =
+pub slice_bounds-plot-end : goal.slice_bounds-plot-end
+slice_bounds-plot-end c =
     sym (length-take-le _ c.liveness_lists.new.keys
-    (long (goal.at.slice_bounds-analyze-end c).After-liveness_lists c.in_ok-liveness_lists.was))
+    (long (goal.at.slice_bounds-plot-end c).After-liveness_lists c.in_ok-liveness_lists.was))
