@@ -43,9 +43,6 @@ pub(crate) fn row_place(keys: &[u64], components: &[i64], id: u64, port: u64) ->
     if IDS <= id {
         return None;
     }
-    let place = place_of(keys, id);
-    match place {
-        Some(p) => with_row(components, port, p),
-        None => None,
-    }
+    let p = place_of(keys, id)?;
+    with_row(components, port, p)
 }
