@@ -62,8 +62,8 @@ fn slot_sources(fed: &[u64], slot: usize, labels: &[usize], upstream: &[u64]) ->
     requires indices { Indices (length labels.now) component_limit labels.now × ((length labels.now ≤ component_limit) × (length upstream.now ≡ table_words)) }
     ensures { SlotSets fed.now slot labels.now upstream.now result }
 {
-    let mut immediate = sets::empty();
-    let mut inferred = sets::empty();
+    let mut immediate = ComponentSet::empty();
+    let mut inferred = ComponentSet::empty();
     let first = tables::lower_bound(fed, slot as u64 * SPAN);
     for at in first..fed.len() {
         let key = fed[at];
@@ -71,7 +71,7 @@ fn slot_sources(fed: &[u64], slot: usize, labels: &[usize], upstream: &[u64]) ->
             break;
         }
         let source = (key % SPAN) as usize;
-        immediate = sets::insert(immediate, source);
+        immediate = immediate.insert(source);
         inferred = add_row(inferred, upstream, labels[source]);
     }
     InputSources {

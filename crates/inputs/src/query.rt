@@ -73,7 +73,7 @@ fn upstream_inputs(
         stack,
     );
     and_flags(n, &upstream[..n], inferred, &mut both);
-    sets::of_flags(n, &both)
+    ComponentSet::of_flags(&both[..n])
 }
 
 // The sources where the port asked for has no verdict row, or none feeds it.
@@ -81,8 +81,8 @@ pub(crate) fn no_sources() -> InputSources
     ensures { (cs ps fs : List ℤ) (port : ℕ) → PortSets cs ps fs None port result }
 {
     InputSources {
-        immediate: sets::empty(),
-        inferred: sets::empty(),
+        immediate: ComponentSet::empty(),
+        inferred: ComponentSet::empty(),
     }
 }
 
@@ -115,7 +115,7 @@ pub(crate) fn row_sources(
     let mut immediate = [false; COMPONENTS];
     immediate_flags(fed, slot, &mut immediate[..n]);
     InputSources {
-        immediate: sets::of_flags(n, &immediate[..n]),
+        immediate: ComponentSet::of_flags(&immediate[..n]),
         inferred: upstream_inputs(backward, &immediate[..n], inferred, stack),
     }
 }

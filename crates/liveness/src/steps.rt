@@ -118,10 +118,10 @@ fn answer(
         regions: count,
         sources: counts.sources,
         inputs: counts.inputs,
-        drive: sets::of_flags(n, drive),
-        potential: sets::of_flags(n, potential),
-        cyclic: sets::of_flags(count, &cyclic),
-        has_drive: sets::of_flags(count, has_drive),
+        drive: ComponentSet::of_flags(&drive[..n]),
+        potential: ComponentSet::of_flags(&potential[..n]),
+        cyclic: ComponentSet::of_flags(&cyclic[..count]),
+        has_drive: ComponentSet::of_flags(&has_drive[..count]),
     }
 }
 
