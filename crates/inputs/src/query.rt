@@ -39,7 +39,7 @@ fn immediate_flags(keys: &[u64], slot: usize, flags: &mut [bool])
     requires slot_within { SlotWithin keys.now slot (length flags.old) × (length flags.old ≤ span) }
     ensures { Flags (length flags.old) (λ a. member (pair slot a) keys.now) flags.new }
 {
-    regions::clear_flags(flags);
+    flags.fill(false);
     let first = tables::lower_bound(keys, slot as u64 * SPAN);
     for at in first..keys.len() {
         let key = keys[at];
@@ -66,7 +66,6 @@ fn upstream_inputs(
     let mut both = [false; COMPONENTS];
     regions::reach_from(
         backward,
-        n,
         immediate,
         &mut upstream[..n],
         &mut order,

@@ -49,7 +49,7 @@ impl<'a> Plot<'a> {
         ensures { Prepares self.now.components.now self.now.ports.now self.now.source_at.now self.now.sink_at.now
             forward.new backward.new labels.new members.new region_at.new stack.new result }
     {
-        regions::clear(stack);
+        stack.fill(0);
         build_tables(
             self.ports,
             self.source_at,
