@@ -3,7 +3,6 @@ ghost use Rattle.std.specs.Prelude.{◌≡◌, List, ℕ, ◌*◌, ◌^◌, ◌�
 ghost use Rattle.tables.specs.Order.{Ascending};
 ghost use Rattle.lists.specs.Limits.{component_limit};
 ghost use Rattle.lists.specs.Records.{component_count, port_count};
-ghost use Rattle.lists.specs.Ids.{IdTable};
 ghost use Rattle.regions.specs.Search.{Zeros};
 ghost use Rattle.signals.specs.Flags.{Indices};
 ghost use Rattle.assessment.specs.Rows.{SlotWithin};
@@ -23,6 +22,17 @@ use signals::crossings::find_crossings;
 use signals::edges::PORTS;
 use signals::stages::build_fed;
 use tables::SPAN;
+
+// What the ports of a plot are asked by: its edges by the port that they feed, the regions of its members, and the rows of the inferred
+// inputs upstream of each region.
+#[derive(Clone, Copy)]
+pub struct Asked<'a> {
+    pub plot: Plot<'a>,
+    pub fed: &'a [u64],
+    pub labels: &'a [usize],
+    pub upstream: &'a [u64],
+    pub ghost ready: { ∥ Ready plot.components.now plot.ports.now plot.frontiers.now fed.now labels.now upstream.now ∥₁ },
+}
 
 // Fills what the ports of a plot are asked by: its edges by the port that they feed, the regions of its members, and the rows of the
 // inferred inputs upstream of each region, which are empty before. Leaves the stack zero. The edges forward and backward stand where
@@ -80,28 +90,21 @@ fn slot_sources(fed: &[u64], slot: usize, labels: &[usize], upstream: &[u64]) ->
     }
 }
 
-// The sets of a port by the id of its component, empty where it has no verdict row.
-pub fn asked_sources(
-    keys: &[u64],
-    components: &[i64],
-    fed: &[u64],
-    labels: &[usize],
-    upstream: &[u64],
-    id: u64,
-    port: u64,
-) -> InputSources
-    requires id_table { IdTable components.now keys.now }
-    requires ready { (ps fs : List ℤ) × Ready components.now ps fs fed.now labels.now upstream.now }
-    ensures { (ps fs : List ℤ) → Ready components.now ps fs fed.now labels.now upstream.now →
-        PortSets components.now ps fs (row_place components.now id port) port result }
-{
-    match row_place(keys, components, id, port) {
-        Some(_) => slot_sources(
-            fed,
-            member_of(keys, id) * PORTS + port as usize,
-            labels,
-            upstream,
-        ),
-        None => no_sources(),
+impl<'a> Asked<'a> {
+    // The sets of a port by the id of its component, empty where it has no verdict row.
+    pub fn sources(&self, id: u64, port: u64) -> InputSources
+        ensures { let p = self.now.plot in
+            PortSets p.components.now p.ports.now p.frontiers.now (row_place p.components.now id port) port result }
+    {
+        let plot = self.plot;
+        match row_place(plot.keys, plot.components, id, port) {
+            Some(_) => slot_sources(
+                self.fed,
+                member_of(plot.keys, id) * PORTS + port as usize,
+                self.labels,
+                self.upstream,
+            ),
+            None => no_sources(),
+        }
     }
 }

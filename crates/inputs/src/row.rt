@@ -29,10 +29,7 @@ fn with_row(components: &[i64], port: u64, p: usize) -> Option<usize>
     ensures { result ≡ with_row components.now port (Some p) }
 {
     let kind = natural_at(components, p * COMPONENT + 4);
-    if has_row(kind, port) {
-        return Some(p);
-    }
-    None
+    has_row(kind, port).then_some(p)
 }
 
 // Where the component of the port asked for stands, if the port has a verdict row.
