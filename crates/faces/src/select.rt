@@ -7,7 +7,7 @@ use super::face::Face;
 use super::ports::{Channel, PORTS, Port, Role};
 use lists::Found;
 
-// ---- kinds of connection
+// ---- kinds of connection: numbers, as the lists that C hands over hold them
 
 pub const CONTROL_KIND: u64 = 8;
 
