@@ -22,7 +22,7 @@ use lists::{COMPONENT, COMPONENTS, PORT};
 // A member has a slot for each port below this: no port past them has a verdict row.
 const PLACES: usize = 8;
 
-// The last slot, which no member has.
+// The last slot, which no member has. No Option in its place: it takes what feeds no slot, so that marking has no branch.
 const NOBODY: usize = PLACES * COMPONENTS;
 
 const SLOTS: usize = NOBODY + 1;
