@@ -10,10 +10,11 @@ use mathlib.Core.Logic.{⊎_elim}
 use Prim.Native.Nat.{ℕ, zero, suc, ◌+◌, ◌-◌, ◌≤◌, ◌<◌}
 use native.Mathlib.Nat.{add-zero, add-suc}
 use native.Mathlib.Omega.{arith}
+use Rattle.std.proofs.lemmas.Grind.{common_steps}
 use lib.Dec.{eqb, leb, ltb}
 use lib.ListN.{length}
 use lib.IntN.{ℤ}
-use borrow.Author.Tests.{ne_eqb, not-true, le-leb, lt-leb, lt-ltb, le-ltb}
+use borrow.Author.Tests.{not-true, le-leb, lt-leb, lt-ltb, le-ltb}
 use Rattle.tables.specs.Laws.{order?}
 use Rattle.lists.specs.Records.{Component, component}
 use Rattle.lists.specs.First.{all_from}
@@ -60,8 +61,7 @@ record Run (kind facing support conducts first count : ℕ) : Type 0 where
 
 -- of a device that is no torch, the Inputs are required
 inputs : (d i t c : Bool) → d ≡ true → t ≡ false → (d && (i || (t && c))) ≡ i
-inputs d true t c e f = rw e
-inputs d false t c e f = rw (e, f)
+inputs d i t c e f = grind (arith, common_steps)
 
 abbrev is_input : ℕ → ℕ → Bool
 is_input face k = eqb (port_at (repeater_ports face) k).role Input
@@ -103,7 +103,7 @@ no_run kind facing support conducts e = record {
 
 no_device : (kind : ℕ) → 9 ≤ kind → is_device kind ≡ false
 no_device kind h =
-    rw (ne_eqb kind 1 (λ e. omega arith), ne_eqb kind 2 (λ e. omega arith), ne_eqb kind torch (λ e. omega arith)) (ne_eqb kind 8 (λ e. omega arith))
+    grind (arith, common_steps)
 
 run_of : (kind facing support conducts : ℕ) → Run kind facing support conducts (first_required kind) (required_count kind)
 unfolding ports_for first_required required_count
@@ -118,11 +118,7 @@ run_of (suc (suc (suc zero))) facing support conducts = record {
 }
   where
     torch_dark : (k : ℕ) → k < 4 → required 3 facing support conducts k ≡ false
-    torch_dark zero h = refl
-    torch_dark (suc zero) h = refl
-    torch_dark (suc (suc zero)) h = refl
-    torch_dark (suc (suc (suc zero))) h = refl
-    torch_dark (suc (suc (suc (suc k)))) h = absurd (omega arith)
+    torch_dark k h = grind (arith, common_steps)
 run_of (suc (suc (suc (suc zero)))) facing support conducts = no_run 4 facing support conducts refl
 run_of (suc (suc (suc (suc (suc zero))))) facing support conducts = no_run 5 facing support conducts refl
 run_of (suc (suc (suc (suc (suc (suc zero)))))) facing support conducts = no_run 6 facing support conducts refl
@@ -135,11 +131,7 @@ run_of (suc (suc (suc (suc (suc (suc (suc (suc zero)))))))) facing support condu
 }
   where
     piston_lit : (j : ℕ) → j < 4 → required 8 facing support conducts (0 + j) ≡ true
-    piston_lit zero h = refl
-    piston_lit (suc zero) h = refl
-    piston_lit (suc (suc zero)) h = refl
-    piston_lit (suc (suc (suc zero))) h = refl
-    piston_lit (suc (suc (suc (suc k)))) h = absurd (omega arith)
+    piston_lit j h = grind (arith, common_steps)
 run_of (suc (suc (suc (suc (suc (suc (suc (suc (suc kind))))))))) facing support conducts =
     let past = suc (suc (suc (suc (suc (suc (suc (suc (suc kind)))))))) in
     no_run past facing support conducts (no_device past (omega arith))
@@ -184,8 +176,7 @@ module _ (cs ps fs : List ℤ) (p : ℕ) where
 -- ---- the ports with a row, by their run
 
 pub and_none : (t : Bool) → (t && false) ≡ false
-and_none true = refl
-and_none false = refl
+and_none t = grind (arith, common_steps)
 
 pub row_of : (c : Component) (port : ℕ)
     → (leb (first_required c.kind) port && ltb port (first_required c.kind + required_count c.kind)) ≡ (ltb port (length (ports_of c)) && is_required c port)
