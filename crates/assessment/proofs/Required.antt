@@ -3,19 +3,18 @@
 --     port_rows_lem                 the rows of all ports
 --     row_of                    whether a port has a row
 -- Assumes nothing.
-use mathlib.Core.Path.{◌≡◌, refl, sym, ap, ◌∙◌}
+use mathlib.Core.Path.{◌≡◌, refl, ap, ◌∙◌}
 use mathlib.Core.Bool.{Bool, true, false, not, ◌&&◌, ◌||◌}
 use mathlib.Core.List.{List, [], append-nil}
-use mathlib.Core.Logic.{⊎_elim}
 use Prim.Native.Nat.{ℕ, zero, suc, ◌+◌, ◌-◌, ◌≤◌, ◌<◌}
 use native.Mathlib.Nat.{add-zero, add-suc}
 use native.Mathlib.Omega.{arith}
 use Rattle.std.proofs.lemmas.Grind.{common_steps}
+use Rattle.std.proofs.lemmas.Bool.Decides.{nat_tests}
 use lib.Dec.{eqb, leb, ltb}
 use lib.ListN.{length}
 use lib.IntN.{ℤ}
-use borrow.Author.Tests.{not-true, le-leb, lt-leb, lt-ltb, le-ltb}
-use Rattle.tables.specs.Laws.{order?}
+use borrow.Author.Tests.{not-true}
 use Rattle.lists.specs.Records.{Component, component}
 use Rattle.lists.specs.First.{all_from}
 use Rattle.lists.proofs.Search.{all_at}
@@ -33,11 +32,7 @@ quiet face = all_from (λ k. not (eqb (port_at (repeater_ports face) k).role Inp
 
 face_named : (face : ℕ) → (1 ≤ face_or North face) × (face_or North face < 7)
 face_named zero = rw (face_or_zero North) (omega arith, omega arith)
-face_named (suc n) =
-    ⊎_elim
-    (λ (le : 7 ≤ suc n). rw (face_or_above North (suc n) (omega arith)) (omega arith, omega arith))
-    (λ (lt : suc n < 7). rw (face_or_named North (suc n) (omega arith) lt) (omega arith, omega arith))
-    (order? 7 (suc n))
+face_named (suc n) = (grind (arith, common_steps, face_or_above North (suc n), face_or_named North (suc n)), grind (arith, common_steps, face_or_above North (suc n), face_or_named North (suc n)))
 
 repeater_quiet : (face k : ℕ) → 1 ≤ face → face < 7 → 2 ≤ k → k < length (repeater_ports face) → eqb (port_at (repeater_ports face) k).role Input ≡ false
 unfolding all_from repeater_ports neither opposite
@@ -182,19 +177,4 @@ pub row_of : (c : Component) (port : ℕ)
     → (leb (first_required c.kind) port && ltb port (first_required c.kind + required_count c.kind)) ≡ (ltb port (length (ports_of c)) && is_required c port)
 row_of c port =
     let r = run_of c.kind c.facing c.support c.conducts in
-    let first = first_required c.kind in
-    let n = required_count c.kind in
-    let fits = r.fits in
-    ⊎_elim
-    (λ (le : first ≤ port). ⊎_elim
-    (λ (past : first + n ≤ port). rw (le-leb first port le, le-ltb port (first + n) past) (⊎_elim
-    (λ (out : length (ports_of c) ≤ port). rw (le-ltb port (length (ports_of c)) out))
-    (λ (here : port < length (ports_of c)). sym (ap (λ (t : Bool). ltb port (length (ports_of c)) && t) (r.after port past here) ∙ and_none (ltb port (length (ports_of c)))))
-    (order? (length (ports_of c)) port)))
-    (λ (less : port < first + n).
-    let is : first + (port - first) ≡ port = omega arith in
-    rw (le-leb first port le, lt-ltb port (first + n) less, lt-ltb port (length (ports_of c)) (omega arith)) (sym (ap (is_required c) (sym is) ∙ r.inside (port - first) (omega arith))))
-    (order? (first + n) port))
-    (λ (less : port < first).
-    rw (lt-leb first port less) (sym (ap (λ (t : Bool). ltb port (length (ports_of c)) && t) (r.before port less) ∙ and_none (ltb port (length (ports_of c))))))
-    (order? first port)
+    grind (arith, nat_tests, common_steps, r.fits, r.before port, r.inside (port - first_required c.kind), r.after port)
