@@ -29,7 +29,7 @@ const SLOTS: usize = NOBODY + 1;
 
 // ---- flags
 
-// The slots whose port is fed, those fed by a driven member, and those fed by one that may be.
+// The slots whose port is fed, those fed by a driven member, and those fed by one that may be. Three arrays, as `SlotFlags` has three lists.
 #[derive(Drop)]
 struct Slots {
     fed: [bool; SLOTS],
@@ -150,7 +150,8 @@ fn put_ports(id: u64, kind: u64, member: usize, slots: &Slots, out: &mut [u64], 
     place
 }
 
-// Writes the rows of all components, in list order, and answers how many there are.
+// Writes the rows of all components, in list order, and answers how many there are. Not one with `put_sources`: they share a loop of three
+// lines, and the clauses of a closure that writes a component's rows would be longer.
 fn put_rows(components: &[i64], members: &[usize], slots: &Slots, out: &mut [u64]) -> usize
     requires components { Components components.now × Indices (component_count components.now) component_limit members.now }
     requires out_len { 12 * component_count components.now ≤ length out.old }
