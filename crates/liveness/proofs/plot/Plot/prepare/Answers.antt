@@ -89,8 +89,7 @@ spread-requires c =
     -- there is a label for each component
     let long = c.find_regions-count.auto.labels ∙ s.requires.labels_room in
     let members = indices_front c.place_members.new.members
-    (indices_at long long (members_below (cs s) (c.place_members.ensures (cs s) s.args.self.now.accepted.table s.args.self.now.accepted.scene.distinct))) in
-    (
+    (indices_at long long (members_below (cs s) (c.place_members.ensures (cs s) s.args.self.now.accepted.table s.args.self.now.accepted.scene.distinct))) in (
       members,
       omega (
         arith,
