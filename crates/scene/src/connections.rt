@@ -4,6 +4,7 @@ ghost use Rattle.lists.specs.Limits.{port_width};
 ghost use Rattle.lists.specs.Records.{component, connection, component_count, connection_count};
 ghost use Rattle.lists.specs.Within.{Components, Connections};
 ghost use Rattle.lists.specs.Ids.{IdTable};
+ghost use Rattle.faces.specs.Codes.{face_code, face_number};
 ghost use Rattle.faces.specs.Ports.{ports_of};
 ghost use Rattle.faces.specs.Rows.{port_places};
 ghost use Rattle.faces.specs.Step.{step_face};
@@ -12,9 +13,10 @@ ghost use Rattle.scene.specs.Kept.{ports_between, link_of, row_by, kept_row};
 ghost use Rattle.scene.specs.Answer.{Put, Filled, AllKept, Answered};
 
 use checks::refusals::{grouping_lists, room_for};
-use faces::ports::{port_count, ports_for};
+use faces::face::Face;
+use faces::ports::ports_for;
 use faces::select::{select_port, transfer_of};
-use faces::step::{facing_between, opposite_face};
+use faces::step::facing_between;
 use lists::hints::{HINTS, hint_ids, place_near};
 use lists::numbers::natural_at;
 use lists::{COMPONENT, COMPONENTS, CONNECTION, PORT, Refusal};
@@ -33,9 +35,9 @@ struct Scene<'a> {
 
 impl Scene<'_> {
     // The port that component k has for a connection at a face.
-    fn port_at(&self, k: usize, face: u64, outgoing: bool, kind: u64) -> Option<usize>
+    fn port_at(&self, k: usize, face: Face, outgoing: bool, kind: u64) -> Option<usize>
         requires { k < component_count self.now.components.now }
-        ensures { result ≡ select_port (ports_of (component self.now.components.now k)) face outgoing kind }
+        ensures { result ≡ select_port (ports_of (component self.now.components.now k)) (face_code face) outgoing kind }
     {
         let at = k * COMPONENT;
         let block = natural_at(self.components, at + 4);
@@ -44,17 +46,16 @@ impl Scene<'_> {
         let conducts = natural_at(self.components, at + 7);
         select_port(
             ports_for(block, facing, support, conducts),
-            port_count(block, facing, support, conducts),
             face,
             outgoing,
             kind,
         )
     }
 
-    // The face of the step from component a to component b.
-    fn step_face(&self, a: usize, b: usize) -> u64
+    // The face of the step from component a to component b, if it has one.
+    fn step_face(&self, a: usize, b: usize) -> Option<Face>
         requires { (a < component_count self.now.components.now) × (b < component_count self.now.components.now) }
-        ensures { result ≡ step_face (component self.now.components.now a) (component self.now.components.now b) }
+        ensures { face_number result ≡ step_face (component self.now.components.now a) (component self.now.components.now b) }
     {
         let source = a * COMPONENT;
         let sink = b * COMPONENT;
@@ -73,12 +74,9 @@ impl Scene<'_> {
         requires { (a < component_count self.now.components.now) × (b < component_count self.now.components.now) }
         ensures { result ≡ ports_between (component self.now.components.now a) (component self.now.components.now b) kind }
     {
-        let face = self.step_face(a, b);
-        if face == 0 {
-            return None;
-        }
+        let face = self.step_face(a, b)?;
         let source = self.port_at(a, face, true, kind)?;
-        let sink = self.port_at(b, opposite_face(face), false, kind)?;
+        let sink = self.port_at(b, face.opposite(), false, kind)?;
         Some((source, sink))
     }
 

@@ -4,7 +4,7 @@ use mathlib.Core.Path.{◌≡◌, ap, ◌∙◌}
 use mathlib.Core.List.{List}
 use Rattle.lists.specs.Records.{component}
 use Rattle.faces.specs.Ports.{Port, ports_of}
-use Rattle.faces.specs.Rows.{ports_in}
+use Rattle.faces.specs.Codes.{face_code, ports_in}
 use Rattle.faces.specs.Select.{select_port}
 use Rattle.faces.proofs.Places.{ports_back}
 use Rattle.scene.proofs.connections.Scene.port_at.Goals as goal
@@ -12,5 +12,5 @@ use Rattle.scene.proofs.connections.Scene.port_at.Goals as goal
 pub returns : goal.returns
 returns c =
     let ports = ports_of (component c.args.self.now.components.now c.args.k) in
-    let e : ports_in c.ports_for.result c.port_count.result ≡ ports = cc (ports_back ports) in
-    c.select_port.ensures ∙ ap (λ (l : List Port). select_port l c.args.face c.args.outgoing c.args.kind) e
+    let e : ports_in c.ports_for.result ≡ ports = ports_back c.ports_for.result ports (cc) in
+    c.select_port.ensures ∙ ap (λ (l : List Port). select_port l (face_code c.args.face) c.args.outgoing c.args.kind) e
