@@ -1,28 +1,38 @@
 -- Components that ascend, by their positions.
 --     before_then                     a component stands before a position, or at it and `rest` decides
 --     earlier                        so does each that is listed earlier
---     before_all, before_none        the components on either side of one
+--     equal_tuples, less_tuples      the tuples of a position compare so
+--     records_part, parted_at        where the records of a list part, as arrays
 --     found_first, found_past,       the first component at a position, where they part
 --     found_none
 -- Assumes nothing.
 use Rattle.std.specs.Prelude.{Some, None}
+use Rattle.std.proofs.Common.{Less, Equal, Greater}
+use Rattle.std.specs.Ordering.{int_eq, int_cmp, is_lt, is_some_and, partial_ordering_then}
+use Rattle.std.proofs.lemmas.Bool.Decides.{Decides-int_eq}
 use mathlib.Core.Path.{◌≡◌, refl, sym, ap, ◌∙◌, subst}
-use mathlib.Core.Bool.{Bool, true, false, not, ◌&&◌, ◌||◌}
+use mathlib.Core.Bool.{Bool, true, false, not, cond, ◌&&◌, ◌||◌}
 use mathlib.Core.Logic.{⊎_elim}
-use mathlib.Core.List.{List}
-use Prim.Native.Nat.{ℕ, zero, suc, ◌≤◌, ◌<◌}
-use native.Mathlib.Nat.{eq-or-lt_of_le}
+use mathlib.Core.List.{List, []}
+use Prim.Native.Nat.{ℕ, zero, suc, ◌+◌, ◌*◌, ◌≤◌, ◌<◌}
+use native.Mathlib.Nat.{eq-or-lt_of_le, suc-mul}
+use lib.ListN.{length, get_or, drop}
+use Rattle.std.specs.Prelude.{pos}
+use Rattle.std.specs.Simd.{first_chunks}
+use Rattle.std.specs.List.Sorted.{IsPartitionedBy, IsPartitionPoint}
+use Rattle.std.proofs.lemmas.List.{get_or-take, get_or-drop}
 use native.Mathlib.Omega.{arith}
 use lib.IntN.{ℤ}
 use lib.Signed.{lt_z}
 use Rattle.tables.specs.Laws.{order?}
 use Rattle.lists.specs.Limits.{component_width}
-use Rattle.lists.specs.Signed.{eq_z, less_then}
+use Rattle.lists.specs.Signed.{at, eq_z, less_then}
 use Rattle.lists.specs.Order.{record_before, first_not_ascending, component_order}
 use Rattle.lists.specs.Records.{Component, Position, component, component_count}
 use Rattle.lists.proofs.Search.{never, both, or_false, first_is, first_nothing}
 use Rattle.lists.proofs.Signed.{eq_z_same, eq_z_self}
 use Rattle.lists.proofs.Ordering.{then_cases, then_less, then_rest, then_step, ascending_at}
+use Rattle.signals.proofs.Tested.{same_truth}
 use Rattle.signals.specs.Sources.{same_position, before_position, first_at, Parted}
 
 -- ---- a component and a position
@@ -65,6 +75,54 @@ then_same c position p q =
     last : (eq_z c.z position.z && true) ≡ true → eq_z c.z position.z ≡ true
     last e = (both (eq_z c.z position.z) true e).0
 
+-- ---- as the tuples of a position compare
+
+equal_is : (a b : ℤ) → int_eq a b ≡ eq_z a b
+equal_is a b =
+    same_truth (int_eq a b) (eq_z a b)
+    (λ e. let same = (Decides-int_eq a b).0 e in rw same (eq_z_self b))
+    (λ e. (Decides-int_eq a b).1 (eq_z_same a b e))
+
+pub equal_tuples : (a b c x y z : ℤ) → ((int_eq a x && int_eq b y) && int_eq c z) ≡ (eq_z a x && (eq_z b y && eq_z c z))
+equal_tuples a b c x y z = rw (equal_is a x, equal_is b y, equal_is c z) (and_three (eq_z a x) (eq_z b y) (eq_z c z))
+  where
+    and_three : (s t u : Bool) → ((s && t) && u) ≡ (s && (t && u))
+    and_three true t u = refl
+    and_three false t u = refl
+
+less_by : (p q r s t u : Bool)
+    → is_some_and is_lt (partial_ordering_then (partial_ordering_then (Some (cond p Less (cond q Greater Equal))) (Some (cond r Less (cond s Greater Equal))))
+    (Some (cond t Less (cond u Greater Equal))))
+    ≡ (p || (not q && (r || (not s && t))))
+less_by true q r s t u = refl
+less_by false true r s t u = refl
+less_by false false true s t u = refl
+less_by false false false true t u = refl
+less_by false false false false true u = refl
+less_by false false false false false true = refl
+less_by false false false false false false = refl
+
+pub less_tuples : (a b c x y z : ℤ)
+    → is_some_and is_lt (partial_ordering_then (partial_ordering_then (Some (int_cmp a x)) (Some (int_cmp b y))) (Some (int_cmp c z)))
+    ≡ less_then a x (less_then b y (lt_z c z))
+less_tuples a b c x y z = less_by (lt_z a x) (lt_z x a) (lt_z b y) (lt_z y b) (lt_z c z) (lt_z z c)
+
+-- ---- a record as an array
+
+-- field f of the k-th of m arrays of n
+field_of : (n m : ℕ) (xs : List ℤ) (k f : ℕ) (d : List ℤ) → k < m → f < n → at (get_or (first_chunks n m xs) k d) f ≡ at xs (k * n + f)
+field_of n zero xs k f d h l = absurd (omega arith)
+field_of n (suc m) xs zero f d h l =
+    let place : f ≡ 0 * n + f = omega arith in
+    get_or-take n xs f (pos 0) l ∙ ap (at xs) place
+field_of n (suc m) xs (suc k) f d h l =
+    let place : n + (k * n + f) ≡ suc k * n + f = omega (arith, suc-mul k n) in
+    field_of n m (drop n xs) k f d (omega arith) l ∙ get_or-drop n xs (k * n + f) (pos 0) ∙ ap (at xs) place
+
+same_before : {a b c x y z : ℤ} (position : Position) → a ≡ x → b ≡ y → c ≡ z
+    → less_then a position.x (less_then b position.y (lt_z c position.z)) ≡ less_then x position.x (less_then y position.y (lt_z z position.z))
+same_before position e f g = rw (e, f, g)
+
 -- ---- the components of an accepted list
 
 module _ (cs : List ℤ) (ascending : first_not_ascending component_order component_width cs ≡ None) (position : Position) where
@@ -90,12 +148,25 @@ module _ (cs : List ℤ) (ascending : first_not_ascending component_order compon
     pub before_all : before_position (component cs q) position ≡ true → (p : ℕ) → p ≤ q → before_position (component cs p) position ≡ true
     before_all e p h = before_is (component cs p) position ∙ earlier false p q h l (sym (before_is (component cs q) position) ∙ e)
 
-  pub before_none : (q : ℕ) → before_position (component cs q) position ≡ false → (p : ℕ) → q ≤ p → p < component_count cs → before_position (component cs p) position ≡ false
-  before_none q e p h l = go (before_position (component cs p) position) refl
-    where
-      go : (t : Bool) → before_position (component cs p) position ≡ t → t ≡ false
-      go true f = never (sym e ∙ before_all p l f q h)
-      go false f = refl
+  -- the records as arrays, in which a search looks for the place
+  module _ {records : List (List ℤ)} (split : records ≡ first_chunks component_width (component_count cs) cs) where
+    before_record : (k : ℕ) (d : List ℤ) → k < component_count cs → before_position (component (get_or records k d) 0) position ≡ before_position (component cs k) position
+    before_record k d h =
+        let field = λ (f : ℕ) (l : f < component_width). ap (λ (rs : List (List ℤ)). at (get_or rs k d) f) split ∙ field_of component_width (component_count cs) cs k f d h l in
+        same_before position (field 1 (omega arith)) (field 2 (omega arith)) (field 3 (omega arith))
+
+    pub records_part : length records ≡ component_count cs → IsPartitionedBy (λ r. before_position (component r 0) position) records
+    records_part long i j d h l e =
+        let there : j < component_count cs = omega arith in
+        before_record i d (omega arith) ∙ before_all j there (sym (before_record j d there) ∙ e) i h
+
+    pub parted_at : (r : ℕ) → r ≤ length records → length records ≡ component_count cs
+        → IsPartitionPoint (λ r. before_position (component r 0) position ≡ true) (λ r. before_position (component r 0) position ≡ false) records r → Parted cs position r
+    parted_at r le long point = record {
+      within = omega arith;
+      before = λ p h. sym (before_record p [] (omega arith)) ∙ point.0 p [] (omega arith) h;
+      from = λ p h l. sym (before_record p [] l) ∙ point.1 p [] h (omega arith);
+    }
 
   module _ {r : ℕ} (parted : Parted cs position r) where
     -- no component before them is at the position

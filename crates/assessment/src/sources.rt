@@ -12,7 +12,7 @@ ghost use Rattle.signals.specs.Flags.{Flags, FirstFlagged};
 ghost use Rattle.std.specs.Option.{option_map};
 ghost use Rattle.assessment.specs.Rows.{source_number};
 
-use lists::numbers::{natural_at, number_less, number_same};
+use lists::numbers::natural_at;
 use lists::{COMPONENT, FRONTIER};
 
 // Why a component is a source, in the order of its numbers in source rows.
@@ -50,23 +50,17 @@ fn same_position(components: &[i64], frontiers: &[i64], p: usize, j: usize) -> b
 {
     let a = p * COMPONENT;
     let b = j * FRONTIER;
-    number_same(components, a + 1, frontiers, b)
-        & (number_same(components, a + 2, frontiers, b + 1)
-            & number_same(components, a + 3, frontiers, b + 2))
+    (components[a + 1], components[a + 2], components[a + 3])
+        == (frontiers[b], frontiers[b + 1], frontiers[b + 2])
 }
 
-// Whether component p stands before the position of frontier j, by x, then y, then z.
-fn before_position(components: &[i64], frontiers: &[i64], p: usize, j: usize) -> bool
-    requires { (p < component_count components.now) × (j < frontier_count frontiers.now) }
-    ensures { result ≡ before_position (component components.now p) (frontier frontiers.now j) }
+// Whether a component stands before the position of frontier j, by x, then y, then z.
+fn before_position(here: &[i64; COMPONENT], frontiers: &[i64], j: usize) -> bool
+    requires { j < frontier_count frontiers.now }
+    ensures { result ≡ before_position (component here.now 0) (frontier frontiers.now j) }
 {
-    let a = p * COMPONENT;
     let b = j * FRONTIER;
-    number_less(components, a + 1, frontiers, b)
-        | (!number_less(frontiers, b, components, a + 1)
-            & (number_less(components, a + 2, frontiers, b + 1)
-                | (!number_less(frontiers, b + 1, components, a + 2)
-                    & number_less(components, a + 3, frontiers, b + 2))))
+    (here[1], here[2], here[3]) < (frontiers[b], frontiers[b + 1], frontiers[b + 2])
 }
 
 // The first component that does not stand before the position of frontier j, or their number. The components ascend.
@@ -75,17 +69,8 @@ fn position_bound(components: &[i64], frontiers: &[i64], j: usize) -> usize
     requires j_bound { j < frontier_count frontiers.now }
     ensures { Parted components.now (frontier frontiers.now j) result }
 {
-    let mut low: usize = 0;
-    let mut high = components.len() / COMPONENT;
-    while low < high {
-        let middle = low + (high - low) / 2;
-        if before_position(components, frontiers, middle, j) {
-            low = middle + 1;
-        } else {
-            high = middle;
-        }
-    }
-    low
+    let (records, _) = components.as_chunks::<COMPONENT>();
+    records.partition_point(|here| before_position(here, frontiers, j))
 }
 
 // The first listed component at the position of frontier j.

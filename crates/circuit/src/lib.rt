@@ -52,7 +52,7 @@ fn insert_if(found: ComponentSet, shared: bool, net: u64) -> ComponentSet
     ensures { (k : ℕ) → k < component_limit → member_of result.words k ≡ (member_of found.words k || (shared && eqb net k)) }
 {
     if shared & (net < COMPONENTS as u64) {
-        return sets::insert(found, net as usize);
+        return found.insert(net as usize);
     }
     found
 }
@@ -61,7 +61,7 @@ fn insert_if(found: ComponentSet, shared: bool, net: u64) -> ComponentSet
 pub fn fragment_nets(nets: &[u64], fragments: &[u64], fragment: u64) -> ComponentSet
     ensures { (net : ℕ) → net < component_limit → member_of result.words net ≡ shares_member nets.now fragments.now fragment net }
 {
-    let mut found = sets::empty();
+    let mut found = ComponentSet::empty();
     for (net, own) in nets.iter().zip(fragments) {
         found = insert_if(found, *own == fragment, *net);
     }

@@ -4,7 +4,7 @@
 --     rows_as, ..              the table, by equal arrays
 --     port_sets                they are the sets of the slot's port
 -- Assumes nothing.
-use Rattle.std.specs.Prelude.{Option, Some, Ok}
+use Rattle.std.specs.Prelude.{Option, Some}
 use mathlib.Core.Path.{◌≡◌, refl, sym, ap, subst, ◌∙◌}
 use mathlib.Core.Bool.{Bool, true, false, ◌&&◌, ◌||◌, or-true}
 use mathlib.Core.List.{List}
@@ -40,8 +40,8 @@ use Rattle.assessment.proofs.Fed.{here, outside}
 use Rattle.signals.proofs.Tested.{same_truth}
 use Rattle.signals.proofs.Within.{signals_within, scene_regions, labels_count, labels_under}
 use Rattle.liveness.specs.Sets.{SetWhere}
-use Rattle.inputs.specs.Query.{is_immediate, upstream, is_inferred_for, row_place}
-use Rattle.inputs.specs.Inputs.{SlotOf, PortSets, Ready, SlotSets}
+use Rattle.inputs.specs.Query.{is_immediate, upstream, is_inferred_for, row_place, PortSets}
+use Rattle.inputs.specs.Inputs.{SlotOf, Ready, SlotSets}
 use Rattle.inputs.specs.declared.InputSources.{InputSources}
 use Rattle.liveness.proofs.Answers.{set_below}
 use Rattle.inputs.proofs.Inputs.{immediate_at}
@@ -127,10 +127,9 @@ module _ {keys : List ℕ} {number : ℕ} {labelled rows : List ℕ} {first plac
       let o = outside keys number rising low place le past i found.1 (omega (arith, found.2, few)) in
       (i, o.0, o.1, omega (arith, found.2, few))
 
-  pub slot_sets : {r : InputSources} → r.checked ≡ Ok tt → r.immediate.words ≡ immediate → r.inferred.words ≡ inferred
+  pub slot_sets : {r : InputSources} → r.immediate.words ≡ immediate → r.inferred.words ≡ inferred
       → SlotSets keys number labelled rows r
-  slot_sets {r} answer p q = record {
-    answer = answer;
+  slot_sets {r} p q = record {
     immediate = record {
       member = λ k. ap (λ (w : List ℕ). member_of w k) p
           ∙ same_truth (member_of immediate k) (ltb k (length labelled) && member (pair number k) keys)

@@ -10,7 +10,7 @@
 --     inputs-..                      the answer, by what was found and by what the checks say
 -- Assumes nothing.
 use Rattle.lists.specs.declared.Fault.{Fault}
-use Rattle.std.specs.Prelude.{⊤, Option, Some, None, Result, Ok}
+use Rattle.std.specs.Prelude.{⊤, Option, Some, None, Result}
 use Rattle.lists.specs.declared.Refusal.{Refusal}
 use mathlib.Core.Path.{◌≡◌, refl, sym, ap, subst, ◌∙◌}
 use mathlib.Core.Bool.{Bool, true, false, cond, ◌&&◌, ◌||◌}
@@ -51,7 +51,7 @@ use Rattle.signals.specs.Keys.{Slots, KeysOf, slot, ports}
 use Rattle.signals.specs.Flags.{Flags}
 use Rattle.liveness.specs.Sets.{SetWhere}
 use Rattle.assessment.specs.Rows.{SlotWithin, slot_fed}
-use Rattle.inputs.specs.Query.{is_immediate, upstream, is_inferred_for, with_row, row_place, InputsBy, Answered}
+use Rattle.inputs.specs.Query.{is_immediate, upstream, is_inferred_for, with_row, row_place, PortSets, InputsBy, Answered}
 use Rattle.liveness.specs.Scene.{Scene, Prepared}
 use Rattle.signals.specs.Stages.{Tables, FedTable}
 use Rattle.inputs.specs.Inputs.{FedScene, SlotOf, Walkable, UpstreamSet}
@@ -235,10 +235,8 @@ module _ {cs ps fs : List ℤ} {p port : ℕ} {fed backward : List ℕ} {number 
     unfolding is_inferred_for
     none_inferred a = rw (none_upstream a)
 
-    pub none_fed : {stack stack' : List ℕ} {r : InputSources} → InputsBy (Ok tt) cs ps fs None port stack stack' r → InputsBy (Ok tt) cs ps fs (Some p) port stack stack' r
+    pub none_fed : {r : InputSources} → PortSets cs ps fs None port r → PortSets cs ps fs (Some p) port r
     none_fed a = record {
-      answer = a.answer;
-      stack_left = a.stack_left;
       immediate_set = set_below refl (λ k h. sym (none_immediate k h)) a.immediate_set;
       inferred_set = set_below refl (λ k h. sym (none_inferred k)) a.inferred_set;
     }
@@ -338,17 +336,7 @@ row_slot {cs} {port = port} f row e = record {
 
 -- ---- the answer
 
-module _ {cs ps fs : List ℤ} {port : ℕ} {stack stack' : List ℕ} {r : InputSources} where
-  -- a work slice of the same length
-  pub inputs_stack : {place : Option ℕ} {stack₂ : List ℕ} → length stack₂ ≡ length stack → InputsBy (Ok tt) cs ps fs place port stack₂ stack' r
-      → InputsBy (Ok tt) cs ps fs place port stack stack' r
-  inputs_stack e a = record {
-    answer = a.answer;
-    stack_left = a.stack_left ∙ ap (λ (k : ℕ). replicate k 0) e;
-    immediate_set = a.immediate_set;
-    inferred_set = a.inferred_set;
-  }
-
+module _ {cs ps fs : List ℤ} {port : ℕ} {stack stack' : List ℕ} {r : Result InputSources Refusal} where
   -- by what was found, with 8 where nothing was
   pub inputs_found : (id : ℕ) {found : Option ℕ} → row_place cs id port ≡ found → InputsBy (refuse Fault.NoVerdictRow None (too_short (is_found found))) cs ps fs found port stack stack' r
       → InputsBy (refuse Fault.NoVerdictRow None (too_short (is_found (row_place cs id port)))) cs ps fs (row_place cs id port) port stack stack' r

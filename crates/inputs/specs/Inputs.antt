@@ -3,7 +3,6 @@
 --     Walkable, UpstreamSet     what one port is asked by, and what a walk from its sources gives
 --     Ready, SlotSets           what many ports are asked by, and what the rows of their sources give
 -- Assumes nothing: these are definitions.
-use Rattle.std.specs.Prelude.{Option, Ok}
 use Rattle.std.specs.Prelude.{ℕ, ◌*◌, ◌≤◌, ◌<◌, ◌≡◌, Bool, true, ◌&&◌, List, length, ℤ}
 use Rattle.tables.specs.Order.{Ascending, member}
 use Rattle.tables.specs.Pairs.{pair}
@@ -24,7 +23,6 @@ use Rattle.signals.specs.Keys.{slot, ports}
 use Rattle.signals.specs.Stages.{FedTable}
 use Rattle.assessment.specs.Upstream.{table_words, in_row, UpstreamRows}
 use Rattle.liveness.specs.Sets.{SetWhere}
-use Rattle.inputs.specs.Query.{is_immediate, is_inferred_for, at_place}
 use Rattle.liveness.specs.Scene.{Scene, Prepared}
 use Rattle.inputs.specs.declared.InputSources.{InputSources}
 
@@ -62,11 +60,6 @@ pub record SlotOf (cs ps : List ℤ) (p port : ℕ) (fed : List ℕ) (number : �
   pub port_small : port < ports
   pub slot_is : number ≡ slot (Ids.member_of cs p) port
 
--- the two sets of a port of the component that was found
-pub record PortSets (cs ps fs : List ℤ) (found : Option ℕ) (port : ℕ) (r : InputSources) : Type 0 where
-  pub immediate_set : SetWhere (component_count cs) (at_place (λ p a. is_immediate cs ps p port a) found) r.immediate.words
-  pub inferred_set : SetWhere (component_count cs) (at_place (λ p a. is_inferred_for cs ps fs p port a) found) r.inferred.words
-
 -- ---- one port, by a walk
 
 -- the edges by the port that they feed and backward, and the flags of the inferred inputs
@@ -102,7 +95,6 @@ pub record Ready (cs ps fs : List ℤ) (fed labelled upstream : List ℕ) : Type
 
 -- the nodes that feed a slot, and all members of the rows of their regions
 pub record SlotSets (fed : List ℕ) (number : ℕ) (labelled upstream : List ℕ) (r : InputSources) : Type 0 where
-  pub answer : r.checked ≡ Ok tt
   pub immediate : SetWhere (length labelled) (λ a. member (pair number a) fed) r.immediate.words
   pub from : (k : ℕ) → member_of r.inferred.words k ≡ true
       → (a : ℕ) × (a < length labelled) × (member (pair number a) fed ≡ true) × (k < member_limit) × (in_row upstream (at labelled a) k ≡ true)

@@ -4,7 +4,7 @@
 --     Answered                                 what `required_input` answers and leaves
 -- Assumes nothing: these are definitions.
 use Rattle.lists.specs.declared.Fault.{Fault}
-use Rattle.std.specs.Prelude.{⊤, Option, Some, None, Result}
+use Rattle.std.specs.Prelude.{⊤, Option, Some, None, Result, IfOk}
 use Rattle.lists.specs.declared.Refusal.{Refusal}
 use Rattle.std.specs.Prelude.{ℕ, ◌≡◌, Bool, false, cond, ◌&&◌, List, eqb, ltb, length, ℤ}
 use Rattle.lists.specs.Records.{component, component_count, port_count}
@@ -19,7 +19,7 @@ use Rattle.signals.specs.Signals.{signals, source_member}
 use Rattle.signals.specs.Regions.{is_inferred}
 use Rattle.signals.specs.Drive.{members_where}
 use Rattle.assessment.specs.Verdicts.{feeds_port, is_required}
-use Rattle.liveness.specs.Sets.{SetWhere, counted}
+use Rattle.liveness.specs.Sets.{SetWhere, checked}
 use Rattle.inputs.specs.declared.InputSources.{InputSources}
 
 -- member a is an immediate source of the port of the component at p
@@ -53,13 +53,17 @@ abbrev pub at_place : (ℕ → ℕ → Bool) → Option ℕ → ℕ → Bool
 at_place test (Some p) a = test p a
 at_place test None a = false
 
--- by what the checks say
-pub record InputsBy (checks : Result ⊤ Refusal) (cs ps fs : List ℤ) (place : Option ℕ) (port : ℕ) (stack stack' : List ℕ) (r : InputSources) : Type 0 where
-  pub answer : r.checked ≡ checks
+-- the two sets of a port of the component that was found, empty where none was
+pub record PortSets (cs ps fs : List ℤ) (found : Option ℕ) (port : ℕ) (s : InputSources) : Type 0 where
+  pub immediate_set : SetWhere (component_count cs) (at_place (λ p a. is_immediate cs ps p port a) found) s.immediate.words
+  pub inferred_set : SetWhere (component_count cs) (at_place (λ p a. is_inferred_for cs ps fs p port a) found) s.inferred.words
+
+-- by what the checks say: their refusal, or the sets
+pub record InputsBy (checks : Result ⊤ Refusal) (cs ps fs : List ℤ) (place : Option ℕ) (port : ℕ) (stack stack' : List ℕ) (r : Result InputSources Refusal) : Type 0 where
+  pub answer : checked r ≡ checks
+  pub sets : IfOk r (PortSets cs ps fs place port)
   pub stack_left : stack' ≡ work_of checks stack
-  pub immediate_set : SetWhere (counted checks (component_count cs)) (at_place (λ p a. is_immediate cs ps p port a) place) r.immediate.words
-  pub inferred_set : SetWhere (counted checks (component_count cs)) (at_place (λ p a. is_inferred_for cs ps fs p port a) place) r.inferred.words
 
 -- from the lists, an id, a port and the lent stack
-pub record Answered (cs ps fs : List ℤ) (id port : ℕ) (stack stack' : List ℕ) (r : InputSources) : Type 0 where
+pub record Answered (cs ps fs : List ℤ) (id port : ℕ) (stack stack' : List ℕ) (r : Result InputSources Refusal) : Type 0 where
   pub by : InputsBy (input_refusal cs ps fs id port (length stack)) cs ps fs (row_place cs id port) port stack stack' r

@@ -1,18 +1,14 @@
 // The sets of many ports of one accepted scene, which is prepared once: for each region, the inferred inputs upstream of it stand in a table.
-ghost use Rattle.std.specs.Prelude.{Ok};
 ghost use Rattle.std.specs.Prelude.{◌≡◌, List, ℕ, ◌*◌, ◌^◌, ◌≤◌, ◌<◌, length, ℤ};
 ghost use Rattle.tables.specs.Order.{Ascending};
 ghost use Rattle.lists.specs.Limits.{component_limit};
 ghost use Rattle.lists.specs.Records.{component_count, port_count};
-ghost use Rattle.lists.specs.Ids.{IdTable};
-ghost use Rattle.lists.specs.Ends.{SettledEnds};
 ghost use Rattle.regions.specs.Search.{Zeros};
 ghost use Rattle.signals.specs.Flags.{Indices};
 ghost use Rattle.assessment.specs.Rows.{SlotWithin};
 ghost use Rattle.assessment.specs.Upstream.{table_words};
-ghost use Rattle.inputs.specs.Query.{row_place};
-ghost use Rattle.liveness.specs.Scene.{Scene};
-ghost use Rattle.inputs.specs.Inputs.{Ready, SlotSets, PortSets};
+ghost use Rattle.inputs.specs.Query.{row_place, PortSets};
+ghost use Rattle.inputs.specs.Inputs.{Ready, SlotSets};
 
 use super::InputSources;
 use super::query::{find_inputs, no_sources};
@@ -20,43 +16,45 @@ use super::row::row_place;
 use assessment::upstream::{add_row, upstream_rows};
 use lists::ids::member_of;
 use lists::{COMPONENTS, CONNECTIONS, PORT};
+use liveness::plot::Plot;
 use sets::ComponentSet;
 use signals::crossings::find_crossings;
 use signals::edges::PORTS;
 use signals::stages::build_fed;
 use tables::SPAN;
 
-// Fills what the ports of an accepted scene are asked by, given its settled ends: its edges by the port that they feed, the regions of its
-// members, and the rows of the inferred inputs upstream of each region, which are empty before. Leaves the stack zero. The
-// edges forward and backward stand where those by port and the pairs of regions are put after them.
+// What the ports of a plot are asked by: its edges by the port that they feed, the regions of its members, and the rows of the inferred
+// inputs upstream of each region.
+#[derive(Clone, Copy)]
+pub struct Asked<'a> {
+    pub plot: Plot<'a>,
+    pub fed: &'a [u64],
+    pub labels: &'a [usize],
+    pub upstream: &'a [u64],
+    pub ghost ready: { ∥ Ready plot.components.now plot.ports.now plot.frontiers.now fed.now labels.now upstream.now ∥₁ },
+}
+
+// Fills what the ports of a plot are asked by: its edges by the port that they feed, the regions of its members, and the rows of the
+// inferred inputs upstream of each region, which are empty before. Leaves the stack zero. The edges forward and backward stand where
+// those by port and the pairs of regions are put after them.
 pub fn make_ready(
-    keys: &[u64],
-    components: &[i64],
-    ports: &[i64],
-    frontiers: &[i64],
-    source_at: &[usize],
-    sink_at: &[usize],
+    plot: &Plot,
     fed: &mut [u64],
     labels: &mut [usize],
     upstream: &mut [u64],
     stack: &mut [usize],
 )
-    requires scene { Scene components.now ports.now × (IdTable components.now keys.now × SettledEnds components.now ports.now source_at.now sink_at.now) }
-    requires fed_len { (length fed.old ≡ port_count ports.now) × ((length labels.old ≡ component_count components.now) × (2 * component_count components.now ≤ length stack.old)) }
+    requires fed_len { length fed.old ≡ port_count plot.now.ports.now }
+    requires labels_len { let n = component_count plot.now.components.now in (length labels.old ≡ n) × (2 * n ≤ length stack.old) }
     requires upstream_len { (length upstream.old ≡ table_words) × Zeros upstream.old }
-    ensures { Ready components.now ports.now frontiers.now fed.new labels.new upstream.new × Zeros stack.new }
+    ensures { let p = plot.now in Ready p.components.now p.ports.now p.frontiers.now fed.new labels.new upstream.new × Zeros stack.new }
 {
-    let n = keys.len();
-    let m = ports.len() / PORT;
+    let n = plot.keys.len();
+    let m = plot.ports.len() / PORT;
     let mut pairs = [0u64; CONNECTIONS];
     let mut inferred = [false; COMPONENTS];
     find_inputs(
-        keys,
-        components,
-        ports,
-        frontiers,
-        source_at,
-        sink_at,
+        plot,
         fed,
         &mut pairs[..m],
         labels,
@@ -64,19 +62,8 @@ pub fn make_ready(
         stack,
     );
     let count = find_crossings(fed, labels, &mut pairs);
-    build_fed(ports, source_at, sink_at, fed);
+    build_fed(plot.ports, plot.source_at, plot.sink_at, fed);
     upstream_rows(&pairs[..count], labels, &inferred[..n], upstream);
-}
-
-// Two sets as an answer.
-fn answer_of(immediate: ComponentSet, inferred: ComponentSet) -> InputSources
-    ensures { (result.checked ≡ Ok tt) × ((result.immediate ≡ immediate) × (result.inferred ≡ inferred)) }
-{
-    InputSources {
-        checked: Ok(()),
-        immediate,
-        inferred,
-    }
 }
 
 // The nodes that feed a slot, and all members of the rows of their regions.
@@ -85,45 +72,39 @@ fn slot_sources(fed: &[u64], slot: usize, labels: &[usize], upstream: &[u64]) ->
     requires indices { Indices (length labels.now) component_limit labels.now × ((length labels.now ≤ component_limit) × (length upstream.now ≡ table_words)) }
     ensures { SlotSets fed.now slot labels.now upstream.now result }
 {
-    let mut immediate = sets::empty();
-    let mut inferred = sets::empty();
-    let mut at = tables::lower_bound(fed, slot as u64 * SPAN);
-    while at < fed.len() {
+    let mut immediate = ComponentSet::empty();
+    let mut inferred = ComponentSet::empty();
+    let first = tables::lower_bound(fed, slot as u64 * SPAN);
+    for at in first..fed.len() {
         let key = fed[at];
         if key / SPAN != slot as u64 {
-            return answer_of(immediate, inferred);
+            break;
         }
         let source = (key % SPAN) as usize;
-        immediate = sets::insert(immediate, source);
+        immediate = immediate.insert(source);
         inferred = add_row(inferred, upstream, labels[source]);
-        at += 1;
     }
-    answer_of(immediate, inferred)
+    InputSources {
+        immediate,
+        inferred,
+    }
 }
 
-// The sets of a port by the id of its component, empty where it has no verdict row.
-pub fn asked_sources(
-    keys: &[u64],
-    components: &[i64],
-    fed: &[u64],
-    labels: &[usize],
-    upstream: &[u64],
-    id: u64,
-    port: u64,
-) -> InputSources
-    requires id_table { IdTable components.now keys.now }
-    requires ready { (ps fs : List ℤ) × Ready components.now ps fs fed.now labels.now upstream.now }
-    ensures { (ps fs : List ℤ) → Ready components.now ps fs fed.now labels.now upstream.now →
-        PortSets components.now ps fs (row_place components.now id port) port result }
-{
-    let place = row_place(keys, components, id, port);
-    match place {
-        Some(_) => slot_sources(
-            fed,
-            member_of(keys, id) * PORTS + port as usize,
-            labels,
-            upstream,
-        ),
-        None => no_sources(),
+impl<'a> Asked<'a> {
+    // The sets of a port by the id of its component, empty where it has no verdict row.
+    pub fn sources(&self, id: u64, port: u64) -> InputSources
+        ensures { let p = self.now.plot in
+            PortSets p.components.now p.ports.now p.frontiers.now (row_place p.components.now id port) port result }
+    {
+        let plot = self.plot;
+        match row_place(plot.keys, plot.components, id, port) {
+            Some(_) => slot_sources(
+                self.fed,
+                member_of(plot.keys, id) * PORTS + port as usize,
+                self.labels,
+                self.upstream,
+            ),
+            None => no_sources(),
+        }
     }
 }

@@ -9,20 +9,19 @@ ghost use Rattle.inputs.specs.Query.{Answered};
 
 use checks::refusals::{liveness_lists, room_for};
 use lists::{COMPONENT, COMPONENTS, CONNECTIONS, Refusal};
-use query::{query_scene, refused_input};
+use liveness::plot::Plot;
+use query::query_plot;
 use sets::ComponentSet;
 
-// What the checks of an input query say, and of an accepted one the immediate sources of the port, and the inferred inputs among these and
-// all upstream of them.
+// Of a port the immediate sources, and the inferred inputs among these and all upstream of them.
 #[derive(Clone, Copy)]
 pub struct InputSources {
-    pub checked: Result<(), Refusal>,
     pub immediate: ComponentSet,
     pub inferred: ComponentSet,
 }
 
-// The immediate sources of a port that has a verdict row, by the id of its component, and the inferred inputs among these and all upstream of
-// them. Any id and port may be asked for.
+// The refusal of the checks, or the immediate sources of a port that has a verdict row, by the id of its component, and the inferred inputs
+// among these and all upstream of them. Any id and port may be asked for.
 pub fn required_input(
     components: &[i64],
     ports: &[i64],
@@ -30,7 +29,7 @@ pub fn required_input(
     id: u64,
     port: u64,
     stack: &mut [usize],
-) -> InputSources
+) -> Result<InputSources, Refusal>
     ensures { Answered components.now ports.now frontiers.now id port stack.old stack.new result }
 {
     let mut keys = [0u64; COMPONENTS];
@@ -38,7 +37,7 @@ pub fn required_input(
     let mut sink_at = [0usize; CONNECTIONS];
     let count = components.len() / COMPONENT;
     let enough = room_for(count, 2, stack.len());
-    let checked = liveness_lists(
+    liveness_lists(
         components,
         ports,
         frontiers,
@@ -46,19 +45,14 @@ pub fn required_input(
         &mut keys,
         &mut source_at,
         &mut sink_at,
-    );
-    match checked {
-        Err(refusal) => refused_input(refusal),
-        Ok(()) => query_scene(
-            &keys[..count],
-            components,
-            ports,
-            frontiers,
-            &source_at,
-            &sink_at,
-            id,
-            port,
-            stack,
-        ),
-    }
+    )?;
+    let plot = Plot {
+        keys: &keys[..count],
+        components,
+        ports,
+        frontiers,
+        source_at: &source_at,
+        sink_at: &sink_at,
+    };
+    query_plot(&plot, id, port, stack)
 }

@@ -1,22 +1,19 @@
 // The input query: the immediate sources of a port, and the inferred inputs among these and all upstream of them.
 ghost use Rattle.lists.specs.declared.Fault.{Fault};
-ghost use Rattle.std.specs.Prelude.{Option, Some, None, Ok, Err};
+ghost use Rattle.std.specs.Prelude.{Some, None, Ok};
 ghost use Rattle.std.specs.Prelude.{◌≡◌, List, ℕ, ◌*◌, ◌^◌, ◌≤◌, ◌<◌, length, ℤ};
 ghost use Rattle.tables.specs.Order.{Ascending, member};
 ghost use Rattle.tables.specs.Pairs.{pair, span};
 ghost use Rattle.lists.specs.Records.{component_count, port_count};
 ghost use Rattle.lists.specs.First.{is_found};
-ghost use Rattle.lists.specs.Ids.{IdTable};
-ghost use Rattle.lists.specs.Ends.{SettledEnds};
 ghost use Rattle.checks.specs.Refusals.{refuse, too_short};
 ghost use Rattle.regions.specs.Search.{Zeros};
 ghost use Rattle.regions.specs.Keys.{edges};
 ghost use Rattle.signals.specs.Regions.{is_inferred};
 ghost use Rattle.signals.specs.Drive.{members_where};
-ghost use Rattle.inputs.specs.Query.{row_place, InputsBy};
+ghost use Rattle.inputs.specs.Query.{row_place, PortSets, InputsBy};
 ghost use Rattle.signals.specs.Flags.{Flags};
 ghost use Rattle.assessment.specs.Rows.{slot_fed, SlotWithin};
-ghost use Rattle.liveness.specs.Scene.{Scene, PreparedScene};
 ghost use Rattle.inputs.specs.Inputs.{Inputs, InputsRoom, SlotOf, Walkable, UpstreamRoom, UpstreamSet};
 
 use super::InputSources;
@@ -25,7 +22,7 @@ use assessment::verdicts::slot_fed;
 use lists::ids::member_of;
 use lists::numbers::natural_at;
 use lists::{COMPONENT, COMPONENTS, CONNECTIONS, Fault, PORT, Refusal};
-use liveness::prepare::prepare;
+use liveness::plot::{Plot, PreparedPlot};
 use liveness::steps::{flag_drive, flag_inferred};
 use regions::HINTED;
 use sets::ComponentSet;
@@ -42,15 +39,14 @@ fn immediate_flags(keys: &[u64], slot: usize, flags: &mut [bool])
     requires slot_within { SlotWithin keys.now slot (length flags.old) × (length flags.old ≤ span) }
     ensures { Flags (length flags.old) (λ a. member (pair slot a) keys.now) flags.new }
 {
-    regions::clear_flags(flags);
-    let mut at = tables::lower_bound(keys, slot as u64 * SPAN);
-    while at < keys.len() {
+    flags.fill(false);
+    let first = tables::lower_bound(keys, slot as u64 * SPAN);
+    for at in first..keys.len() {
         let key = keys[at];
         if key / SPAN != slot as u64 {
             return;
         }
         flags[(key % SPAN) as usize] = true;
-        at += 1;
     }
 }
 
@@ -70,24 +66,22 @@ fn upstream_inputs(
     let mut both = [false; COMPONENTS];
     regions::reach_from(
         backward,
-        n,
         immediate,
         &mut upstream[..n],
         &mut order,
         stack,
     );
     and_flags(n, &upstream[..n], inferred, &mut both);
-    sets::of_flags(n, &both)
+    ComponentSet::of_flags(&both[..n])
 }
 
-// The answer where the port asked for has no verdict row, or none feeds it: empty sets.
+// The sources where the port asked for has no verdict row, or none feeds it.
 pub(crate) fn no_sources() -> InputSources
-    ensures { (cs ps fs : List ℤ) (port : ℕ) (stack : List ℕ) → Zeros stack → InputsBy (Ok tt) cs ps fs None port stack stack result }
+    ensures { (cs ps fs : List ℤ) (port : ℕ) → PortSets cs ps fs None port result }
 {
     InputSources {
-        checked: Ok(()),
-        immediate: sets::empty(),
-        inferred: sets::empty(),
+        immediate: ComponentSet::empty(),
+        inferred: ComponentSet::empty(),
     }
 }
 
@@ -111,7 +105,7 @@ pub(crate) fn row_sources(
     requires by_index { (cs ps fs : List ℤ) × (p port : ℕ) × (Walkable cs ps fs fed.now backward.now inferred.now × SlotOf cs ps p port fed.now slot) }
     requires inferred_in_bounds { (2 * length inferred.now ≤ length stack.old) × Zeros stack.old }
     ensures { (cs ps fs : List ℤ) (p port : ℕ) → Walkable cs ps fs fed.now backward.now inferred.now → SlotOf cs ps p port fed.now slot →
-        InputsBy (Ok tt) cs ps fs (Some p) port stack.old stack.new result }
+        PortSets cs ps fs (Some p) port result × Zeros stack.new }
 {
     if !is_fed(fed, slot) {
         return no_sources();
@@ -120,92 +114,58 @@ pub(crate) fn row_sources(
     let mut immediate = [false; COMPONENTS];
     immediate_flags(fed, slot, &mut immediate[..n]);
     InputSources {
-        checked: Ok(()),
-        immediate: sets::of_flags(n, &immediate[..n]),
+        immediate: ComponentSet::of_flags(&immediate[..n]),
         inferred: upstream_inputs(backward, &immediate[..n], inferred, stack),
     }
 }
 
 // ---- the query of an accepted scene
 
-// Flags the inferred inputs of a prepared scene, by member. The rows are hints.
-pub(crate) fn inferred_members(
-    components: &[i64],
-    frontiers: &[i64],
-    forward: &[u64],
-    backward: &[u64],
-    labels: &[usize],
-    members: &[usize],
-    region_at: &[usize],
-    inferred: &mut [bool],
-    forward_rows: &[usize; HINTED],
-    backward_rows: &[usize; HINTED],
-)
-    requires prepared_scene { (ps : List ℤ) × PreparedScene components.now ps forward.now backward.now labels.now members.now region_at.now }
-    requires inferred_len { length inferred.old ≡ component_count components.now }
-    ensures { (ps : List ℤ) → PreparedScene components.now ps forward.now backward.now labels.now members.now region_at.now →
-        inferred.new ≡ members_where components.now (is_inferred components.now ps frontiers.now) }
+// Flags the inferred inputs of a prepared plot, by member.
+pub(crate) fn inferred_members(plot: &PreparedPlot, inferred: &mut [bool])
+    requires { length inferred.old ≡ component_count plot.now.plot.components.now }
+    ensures { let p = plot.now.plot in inferred.new ≡ members_where p.components.now (is_inferred p.components.now p.ports.now p.frontiers.now) }
 {
+    let lists = plot.plot;
     let mut on_frontier = [false; COMPONENTS];
     let mut drive_at = [false; COMPONENTS];
     let mut has_drive = [false; COMPONENTS];
     let mut inferred_at = [false; COMPONENTS];
     flag_drive(
-        components,
-        frontiers,
-        region_at,
+        lists.components,
+        lists.frontiers,
+        plot.region_at,
         &mut on_frontier,
         &mut drive_at,
         &mut has_drive,
     );
-    flag_inferred(
-        components,
-        forward,
-        backward,
-        labels,
-        members,
-        region_at,
-        &has_drive,
-        &mut inferred_at,
-        forward_rows,
-        backward_rows,
-    );
+    flag_inferred(plot, &has_drive, &mut inferred_at);
     gather(
-        components.len() / COMPONENT,
-        members,
+        lists.components.len() / COMPONENT,
+        plot.members,
         &inferred_at,
         inferred,
     );
 }
 
-// Prepares an accepted scene, given its table of ids and its settled ends, and flags its inferred inputs by member. Leaves the stack zero.
+// Prepares a plot, and flags its inferred inputs by member. Leaves the stack zero.
 pub(crate) fn find_inputs(
-    keys: &[u64],
-    components: &[i64],
-    ports: &[i64],
-    frontiers: &[i64],
-    source_at: &[usize],
-    sink_at: &[usize],
+    plot: &Plot,
     forward: &mut [u64],
     backward: &mut [u64],
     labels: &mut [usize],
     inferred: &mut [bool],
     stack: &mut [usize],
 )
-    requires scene { Scene components.now ports.now × (IdTable components.now keys.now × SettledEnds components.now ports.now source_at.now sink_at.now) }
-    requires inputs_room { InputsRoom components.now ports.now forward.old backward.old labels.old inferred.old stack.old }
-    ensures { Inputs components.now ports.now frontiers.now source_at.now sink_at.now forward.new backward.new labels.new inferred.new stack.new }
+    requires { InputsRoom plot.now.components.now plot.now.ports.now forward.old backward.old labels.old inferred.old stack.old }
+    ensures { let p = plot.now in
+        Inputs p.components.now p.ports.now p.frontiers.now p.source_at.now p.sink_at.now forward.new backward.new labels.new inferred.new stack.new }
 {
     let mut members = [0usize; COMPONENTS];
     let mut region_at = [0usize; COMPONENTS];
     let mut forward_rows = [0usize; HINTED];
     let mut backward_rows = [0usize; HINTED];
-    prepare(
-        keys,
-        components,
-        ports,
-        source_at,
-        sink_at,
+    plot.prepare(
         forward,
         backward,
         labels,
@@ -215,134 +175,75 @@ pub(crate) fn find_inputs(
         &mut forward_rows,
         &mut backward_rows,
     );
-    inferred_members(
-        components,
-        frontiers,
+    let prepared = PreparedPlot {
+        plot: *plot,
         forward,
         backward,
         labels,
-        &members,
-        &region_at,
-        inferred,
-        &forward_rows,
-        &backward_rows,
-    );
+        members: &members,
+        region_at: &region_at,
+        forward_rows: &forward_rows,
+        backward_rows: &backward_rows,
+    };
+    inferred_members(&prepared, inferred);
 }
 
-// Fills what one port of an accepted scene is asked by, given its settled ends: its edges by the port that they feed, its edges backward, and
-// the inferred inputs by member. Leaves the stack zero. The edges forward stand where those by port are sorted after them.
+// Fills what one port of a plot is asked by: its edges by the port that they feed, its edges backward, and the inferred inputs by member.
+// Leaves the stack zero. The edges forward stand where those by port are sorted after them.
 fn walk_tables(
-    keys: &[u64],
-    components: &[i64],
-    ports: &[i64],
-    frontiers: &[i64],
-    source_at: &[usize],
-    sink_at: &[usize],
+    plot: &Plot,
     fed: &mut [u64],
     backward: &mut [u64],
     inferred: &mut [bool],
     stack: &mut [usize],
 )
-    requires scene { Scene components.now ports.now × (IdTable components.now keys.now × SettledEnds components.now ports.now source_at.now sink_at.now) }
-    requires fed_len { (length fed.old ≡ port_count ports.now) × ((length backward.old ≡ port_count ports.now) × ((length inferred.old ≡ component_count components.now) × (2 * component_count components.now ≤ length stack.old))) }
-    ensures { Walkable components.now ports.now frontiers.now fed.new backward.new inferred.new × Zeros stack.new }
+    requires fed_len { (length fed.old ≡ port_count plot.now.ports.now) × (length backward.old ≡ port_count plot.now.ports.now) }
+    requires inferred_len { let n = component_count plot.now.components.now in (length inferred.old ≡ n) × (2 * n ≤ length stack.old) }
+    ensures { let p = plot.now in Walkable p.components.now p.ports.now p.frontiers.now fed.new backward.new inferred.new × Zeros stack.new }
 {
-    let n = keys.len();
+    let n = plot.keys.len();
     let mut labels = [0usize; COMPONENTS];
-    find_inputs(
-        keys,
-        components,
-        ports,
-        frontiers,
-        source_at,
-        sink_at,
-        fed,
-        backward,
-        &mut labels[..n],
-        inferred,
-        stack,
-    );
-    build_fed(ports, source_at, sink_at, fed);
+    find_inputs(plot, fed, backward, &mut labels[..n], inferred, stack);
+    build_fed(plot.ports, plot.source_at, plot.sink_at, fed);
 }
 
-// The sets of a port of the component at p, of an accepted scene, given its table of ids and its settled ends.
-fn input_sources(
-    keys: &[u64],
-    components: &[i64],
-    ports: &[i64],
-    frontiers: &[i64],
-    source_at: &[usize],
-    sink_at: &[usize],
-    p: usize,
-    port: usize,
-    stack: &mut [usize],
-) -> InputSources
-    requires scene { Scene components.now ports.now × (IdTable components.now keys.now × SettledEnds components.now ports.now source_at.now sink_at.now) }
-    requires p_bound { (p < component_count components.now) × ((port < 2 ^ 8) × (2 * component_count components.now ≤ length stack.old)) }
-    ensures { InputsBy (Ok tt) components.now ports.now frontiers.now (Some p) port stack.old stack.new result }
+// The sets of a port of the component at p.
+fn input_sources(plot: &Plot, p: usize, port: usize, stack: &mut [usize]) -> InputSources
+    requires p_bound { (p < component_count plot.now.components.now) × (port < 2 ^ 8) }
+    requires stack_room { 2 * component_count plot.now.components.now ≤ length stack.old }
+    ensures { let l = plot.now in
+        InputsBy (Ok tt) l.components.now l.ports.now l.frontiers.now (Some p) port stack.old stack.new (Ok result) }
 {
-    let n = keys.len();
-    let m = ports.len() / PORT;
+    let n = plot.keys.len();
+    let m = plot.ports.len() / PORT;
     let mut fed = [0u64; CONNECTIONS];
     let mut backward = [0u64; CONNECTIONS];
     let mut inferred = [false; COMPONENTS];
     walk_tables(
-        keys,
-        components,
-        ports,
-        frontiers,
-        source_at,
-        sink_at,
+        plot,
         &mut fed[..m],
         &mut backward[..m],
         &mut inferred[..n],
         stack,
     );
-    let slot = member_of(keys, natural_at(components, p * COMPONENT)) * PORTS + port;
+    let slot = member_of(plot.keys, natural_at(plot.components, p * COMPONENT)) * PORTS + port;
     row_sources(&fed[..m], &backward[..m], slot, &inferred[..n], stack)
 }
 
-// The answer beside a refusal: empty sets.
-pub(crate) fn refused_input(refusal: Refusal) -> InputSources
-    ensures { (cs ps fs : List ℤ) (place : Option ℕ) (port : ℕ) (stack : List ℕ) → InputsBy (Err refusal) cs ps fs place port stack stack result }
-{
-    InputSources {
-        checked: Err(refusal),
-        immediate: sets::empty(),
-        inferred: sets::empty(),
-    }
-}
-
-// The query of an accepted scene, given its table of ids and its settled ends; 8 where the port asked for has no verdict row.
-pub(crate) fn query_scene(
-    keys: &[u64],
-    components: &[i64],
-    ports: &[i64],
-    frontiers: &[i64],
-    source_at: &[usize],
-    sink_at: &[usize],
+// The query of a plot; 8 where the port asked for has no verdict row.
+pub(crate) fn query_plot(
+    plot: &Plot,
     id: u64,
     port: u64,
     stack: &mut [usize],
-) -> InputSources
-    requires scene { Scene components.now ports.now × (IdTable components.now keys.now × SettledEnds components.now ports.now source_at.now sink_at.now) }
-    requires components_in_bounds { 2 * component_count components.now ≤ length stack.old }
-    ensures { InputsBy (refuse Fault.NoVerdictRow None (too_short (is_found (row_place components.now id port)))) components.now ports.now frontiers.now (row_place components.now id port) port stack.old stack.new result }
+) -> Result<InputSources, Refusal>
+    requires { 2 * component_count plot.now.components.now ≤ length stack.old }
+    ensures { let p = plot.now in let place = row_place p.components.now id port in
+        InputsBy (refuse Fault.NoVerdictRow None (too_short (is_found place))) p.components.now p.ports.now p.frontiers.now place port stack.old stack.new result }
 {
-    let place = row_place(keys, components, id, port);
-    match place {
-        Some(p) => input_sources(
-            keys,
-            components,
-            ports,
-            frontiers,
-            source_at,
-            sink_at,
-            p,
-            port as usize,
-            stack,
-        ),
-        None => refused_input(Refusal {
+    match row_place(plot.keys, plot.components, id, port) {
+        Some(p) => Ok(input_sources(plot, p, port as usize, stack)),
+        None => Err(Refusal {
             fault: Fault::NoVerdictRow,
             list: None,
             item: 0,

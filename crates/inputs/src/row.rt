@@ -29,10 +29,7 @@ fn with_row(components: &[i64], port: u64, p: usize) -> Option<usize>
     ensures { result ≡ with_row components.now port (Some p) }
 {
     let kind = natural_at(components, p * COMPONENT + 4);
-    if has_row(kind, port) {
-        return Some(p);
-    }
-    None
+    has_row(kind, port).then_some(p)
 }
 
 // Where the component of the port asked for stands, if the port has a verdict row.
@@ -43,9 +40,6 @@ pub(crate) fn row_place(keys: &[u64], components: &[i64], id: u64, port: u64) ->
     if IDS <= id {
         return None;
     }
-    let place = place_of(keys, id);
-    match place {
-        Some(p) => with_row(components, port, p),
-        None => None,
-    }
+    let p = place_of(keys, id)?;
+    with_row(components, port, p)
 }

@@ -40,12 +40,9 @@ step v b bs =
 
 -- ---- what is accepted was written
 
-clash : {A X : Type 0} {a : A} {r : List ℕ} → ◌≡◌ {A = Taken A} refused (taken a r) → X
-clash e = let z : ◌≡◌ {A = ℕ} 0 1 = cc in absurd (omega arith)
-
 digits_sound : (v : ℕ) (s : List ℕ) (w : ℕ) (r : List ℕ) → 0 < v → v ≤ limit → read_digits v s ≡ taken w r → (0 < w) × (w ≤ limit) × (digits v s ≡ digits w (10 ∷ r))
 unfolding read_digits
-digits_sound v [] w r p l e = clash e
+digits_sound v [] w r p l e = cc
 digits_sound v (b ∷ bs) w r p l e =
     elim (step v b bs) [
       | feed h q ↦ let vw : v ≡ w = cc in (omega arith, omega arith, cc)
@@ -53,22 +50,22 @@ digits_sound v (b ∷ bs) w r p l e =
           let ih = digits_sound (v * 10 + (b - 48)) bs w r (omega arith) o (sym q ∙ e) in
           let b' : 48 + (b - 48) ≡ b = omega arith in
           (ih.0, ih.1, ap (λ (d : ℕ). digits v (d ∷ bs)) (sym b') ∙ sym (digits_snoc v (b - 48) bs p (omega arith) (omega arith)) ∙ ih.2)
-      | stop q ↦ clash (sym q ∙ e)
+      | stop q ↦ cc
     ]
 
 end_sound : (s : List ℕ) (w : ℕ) (r : List ℕ) → read_end s ≡ taken w r → (w ≡ 0) × (s ≡ 10 ∷ r)
 unfolding read_end
-end_sound [] w r e = clash e
+end_sound [] w r e = cc
 end_sound (b ∷ bs) w r e =
     ⊎_elim
     (λ h. let e' : taken 0 bs ≡ taken w r = rw (eq-eqb b 10 h) at e in (cc, cc))
-    (λ n. let e' : refused ≡ taken w r = rw (ne_eqb b 10 n) at e in clash e')
+    (λ n. let e' : refused ≡ taken w r = rw (ne_eqb b 10 n) at e in cc)
     (same_or b 10)
 
 -- a number with no sign. `read_magnitude` accepts a number that is not 0 by its first digit
 pub magnitude_sound : (s : List ℕ) (w : ℕ) (r : List ℕ) → read_magnitude s ≡ taken w r → (w ≤ limit) × (s ≡ digits w (10 ∷ r))
 unfolding read_magnitude
-magnitude_sound [] w r e = clash e
+magnitude_sound [] w r e = cc
 magnitude_sound (b ∷ bs) w r e =
     ⊎_elim
     (λ h.
@@ -78,10 +75,10 @@ magnitude_sound (b ∷ bs) w r e =
     (omega arith, cc))
     (λ n.
     ⊎_elim
-    (λ l. clash (rw (ne_eqb b 48 n, digit_low b l) at e))
+    (λ l. let e' : refused ≡ taken w r = rw (ne_eqb b 48 n, digit_low b l) at e in cc)
     (λ g.
     ⊎_elim
-    (λ h. clash (rw (ne_eqb b 48 n, digit_high b h) at e))
+    (λ h. let e' : refused ≡ taken w r = rw (ne_eqb b 48 n, digit_high b h) at e in cc)
     (λ k.
     let e' : read_digits (b - 48) bs ≡ taken w r = rw (ne_eqb b 48 n, digit_yes b g k) at e in
     let d = digits_sound (b - 48) bs w r (omega arith) (omega arith) e' in
@@ -93,16 +90,16 @@ magnitude_sound (b ∷ bs) w r e =
 
 positive_taken : (q : Taken ℕ) (z : ℤ) (r : List ℕ) → positive q ≡ taken z r → (n : ℕ) × (q ≡ taken n r) × (z ≡ pos n)
 positive_taken (taken n s) z r e = (n, cc, cc)
-positive_taken refused z r e = clash e
+positive_taken refused z r e = cc
 
 negative_taken : (q : Taken ℕ) (z : ℤ) (r : List ℕ) → negative q ≡ taken z r → (n : ℕ) × (q ≡ taken (suc n) r) × (z ≡ negsuc n)
-negative_taken (taken zero s) z r e = clash e
+negative_taken (taken zero s) z r e = cc
 negative_taken (taken (suc n) s) z r e = (n, cc, cc)
-negative_taken refused z r e = clash e
+negative_taken refused z r e = cc
 
 number_sound : (s : List ℕ) (z : ℤ) (r : List ℕ) → read_number s ≡ taken z r → InRange z × (s ≡ number z (10 ∷ r))
 unfolding read_number
-number_sound [] z r e = clash e
+number_sound [] z r e = cc
 number_sound (b ∷ bs) z r e =
     ⊎_elim
     (λ h.
@@ -134,7 +131,7 @@ line_sound key s z r e =
       | there h q ↦
           let p = number_sound (drop (length key + 1) s) z r (sym q ∙ e) in
           (p.0, key_sound key s h ∙ ap (λ (t : List ℕ). key ++ 61 ∷ t) p.1)
-      | missing h q ↦ clash (sym q ∙ e)
+      | missing h q ↦ cc
     ]
 
 -- ---- what is written is accepted

@@ -91,7 +91,7 @@ module _ (text : List ℕ) (at : ℕ) (key : List ℕ) where
             let l' : at + length key + 1 ≡ p = cc in
             let l : at + (length key + 1) ≡ p = omega arith in
             q ∙ ap read_number (drop-drop (length key + 1) at text ∙ ap (λ (n : ℕ). drop n text) l)
-        | missing h q ↦ let e' : None ≡ Some p = rw h at e in let z : ◌≡◌ {A = ℕ} 0 1 = cc in absurd (omega arith)
+        | missing h q ↦ let e' : None ≡ Some p = rw h at e in cc
       ]
 
   -- and a line without its key is refused
@@ -100,6 +100,6 @@ module _ (text : List ℕ) (at : ℕ) (key : List ℕ) where
       elim (keyed key (drop at text)) [
         | there h q ↦
             let e' : Some (at + length key + 1) ≡ None = rw h at e in
-            let z : ◌≡◌ {A = ℕ} 0 1 = cc in absurd (omega arith)
+            cc
         | missing h q ↦ q
       ]

@@ -70,10 +70,10 @@ pub fn skip_key(text: &[u8], at: usize, key: &[u8]) -> Option<usize>
     ensures { result ≡ after_key text.now at key.now }
 {
     let rest = &text[at..];
-    if !rest.starts_with(key) {
+    if *rest.get(key.len())? != b'=' {
         return None;
     }
-    if *rest.get(key.len())? != b'=' {
+    if !rest.starts_with(key) {
         return None;
     }
     Some(at + key.len() + 1)

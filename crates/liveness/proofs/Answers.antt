@@ -6,7 +6,7 @@
 --     scene_of_lem                          an accepted scene
 --     analyzed_accepted, ..-refused     the entry's answer, by what the checks say
 -- Assumes nothing.
-use Rattle.std.specs.Prelude.{Ok, Err}
+use Rattle.std.specs.Prelude.{Result, Ok, Err}
 use mathlib.Core.Path.{◌≡◌, refl, sym, ap, ◌∙◌}
 use mathlib.Core.Bool.{Bool, true, false, ◌&&◌}
 use mathlib.Core.List.{List}
@@ -22,7 +22,6 @@ use Rattle.tables.specs.Laws.{order?}
 use Rattle.lists.specs.First.{tabulate}
 use Rattle.checks.specs.Refusals.{liveness_refusal}
 use Rattle.lists.specs.declared.Refusal.{Refusal}
-use Rattle.checks.proofs.Chain.{refused_not}
 use Rattle.checks.proofs.Accepted.{LivenessScene}
 use Rattle.regions.specs.Graph.{marked}
 use Rattle.signals.specs.Flags.{Flags}
@@ -78,22 +77,16 @@ tabulated_same f g zero e = refl
 tabulated_same f g (suc n) e = rw (tabulated_same f g n (λ p h. e p (omega arith)), e n (omega arith))
 
 -- a work slice of the same length
-pub analyzed_stack : {cs ps fs : List ℤ} {regions regions' sources sources' inputs inputs' stack stack₂ stack' : List ℕ} {r : Analysis} → length stack₂ ≡ length stack
+pub analyzed_stack : {cs ps fs : List ℤ} {regions regions' sources sources' inputs inputs' stack stack₂ stack' : List ℕ} {r : Result Analysis Refusal} → length stack₂ ≡ length stack
     → AnalyzedBy (Ok tt) cs ps fs regions regions' sources sources' inputs inputs' stack₂ stack' r
     → AnalyzedBy (Ok tt) cs ps fs regions regions' sources sources' inputs inputs' stack stack' r
 analyzed_stack e a = record {
   answer = a.answer;
+  analysis = a.analysis;
   regions_left = a.regions_left;
   sources_left = a.sources_left;
   inputs_left = a.inputs_left;
   stack_left = a.stack_left ∙ ap (λ (k : ℕ). replicate k 0) e;
-  region_count_lem = a.region_count_lem;
-  source_count = a.source_count;
-  input_count = a.input_count;
-  drive_set = a.drive_set;
-  potential_set = a.potential_set;
-  cyclic_set = a.cyclic_set;
-  has_drive_set = a.has_drive_set;
 }
 
 -- ---- the entry
@@ -102,14 +95,20 @@ analyzed_stack e a = record {
 pub scene_of_lem : {cs ps fs : List ℤ} {enough : Bool} → LivenessScene cs ps fs enough → Scene cs ps
 scene_of_lem s = record { components = s.components; connections = s.connections; ends = s.ends; ascending = s.scene.ascending; distinct = s.scene.once }
 
-module _ {cs ps fs : List ℤ} {regions regions' sources sources' inputs inputs' stack stack' : List ℕ} {r : Analysis} where
-  pub analyzed_accepted : liveness_refusal cs ps fs (length regions) (length sources) (length inputs) (length stack) ≡ Ok tt → Scene cs ps → AnalyzedBy (Ok tt) cs ps fs regions regions' sources sources' inputs inputs' stack stack' r
-      → Analyzed cs ps fs regions regions' sources sources' inputs inputs' stack stack' r
-  analyzed_accepted e s a = record {
-    by = rw e a;
-    demand = λ _. rw (a.regions_left, a.region_count_lem) (demand_3 cs ps s (drop (length (regions_of cs ps)) regions));
-  }
+pub analyzed_accepted : {cs ps fs : List ℤ} {regions regions' sources sources' inputs inputs' stack stack' : List ℕ} {r : Analysis}
+    → liveness_refusal cs ps fs (length regions) (length sources) (length inputs) (length stack) ≡ Ok tt → Scene cs ps
+    → AnalyzedBy (Ok tt) cs ps fs regions regions' sources sources' inputs inputs' stack stack' (Ok r)
+    → Analyzed cs ps fs regions regions' sources sources' inputs inputs' stack stack' (Ok r)
+analyzed_accepted {cs} {ps} {regions = regions} e s a = record {
+  by = rw e a;
+  demand = rw (a.regions_left, a.analysis.region_count_lem) (demand_3 cs ps s (drop (length (regions_of cs ps)) regions));
+}
 
-  pub analyzed_refused : {refused : Refusal} → liveness_refusal cs ps fs (length regions) (length sources) (length inputs) (length stack) ≡ Err refused → AnalyzedBy (Err refused) cs ps fs regions regions' sources sources' inputs inputs' stack stack' r
-      → Analyzed cs ps fs regions regions' sources sources' inputs inputs' stack stack' r
-  analyzed_refused e a = record { by = rw e a; demand = λ q. absurd (refused_not (sym a.answer ∙ q)) }
+-- nothing is written
+pub analyzed_refused : {cs ps fs : List ℤ} {regions sources inputs stack : List ℕ} {refusal : Refusal} {r : Result Analysis Refusal}
+    → liveness_refusal cs ps fs (length regions) (length sources) (length inputs) (length stack) ≡ Err refusal → r ≡ Err refusal
+    → Analyzed cs ps fs regions regions sources sources inputs inputs stack stack r
+analyzed_refused e f = rw f record {
+  by = rw e record { answer = refl; analysis = tt; regions_left = refl; sources_left = refl; inputs_left = refl; stack_left = refl };
+  demand = tt;
+}

@@ -18,7 +18,7 @@ use Rattle.sets.specs.Members.{count_below}
 use Rattle.sets.proofs.Counts.{count_cong}
 use Rattle.tables.specs.Pairs.{span}
 use Rattle.tables.specs.Laws.{member_rearranged, at_member, member_at}
-use Rattle.lists.specs.Limits.{component_limit}
+use Rattle.lists.specs.Limits.{component_limit, connection_limit}
 use Rattle.lists.specs.Records.{component, component_count, port_count}
 use Rattle.lists.specs.First.{tabulate}
 use Rattle.lists.specs.Ids.{member_of}
@@ -29,9 +29,9 @@ use Rattle.regions.specs.Carry.{Crossings}
 use Rattle.signals.specs.Signals.{is_signal, signals}
 use Rattle.signals.specs.Regions.{labels, region_of_place, wire, holds_drive, fed_from_outside, neighbours, is_inferred}
 use Rattle.signals.specs.Keys.{KeysOf, signal_key}
-use Rattle.signals.specs.Flags.{Flags}
+use Rattle.signals.specs.Flags.{Flags, Numbers}
 use Rattle.signals.specs.Seen.{Rows}
-use Rattle.liveness.specs.Scene.{Scene, Prepared, SceneRegions}
+use Rattle.liveness.specs.Scene.{Scene, Prepared}
 use Rattle.signals.specs.Stages.{inferred_by}
 use Rattle.signals.proofs.Tabulated.{tab_length, tab_at}
 use Rattle.signals.proofs.Ends.{ends_within}
@@ -60,6 +60,16 @@ module _ {ps : List ℤ} {firsts seconds : List ℕ} {nowhere : ℕ} {keys : Lis
         let there : k < m = omega (arith, found.1, tab_length key m) in
         key_within k v there (is_signal ps k) refl (sym (tab_at key m k there) ∙ found.2) l;
   }
+
+-- ---- the part of a prepared scene that marks of regions are carried by: the edges, and the regions
+
+pub record SceneRegions (cs ps : List ℤ) (forward labelled region_of : List ℕ) : Type 0 where
+  pub scene : Scene cs ps
+  pub rows : Rows (length labelled) forward
+  pub few : length forward ≤ connection_limit
+  pub graph : edges (component_count cs) forward ≡ signals cs ps
+  pub labels_are : labelled ≡ labels cs ps
+  pub regions_are : Numbers (component_count cs) (region_of_place cs ps) region_of
 
 -- ---- a prepared scene
 

@@ -1,21 +1,19 @@
 -- An accepted scene, and what the stages of its analysis leave in their arrays.
 -- Assumes nothing: these are definitions.
-use Rattle.std.specs.Prelude.{None, Ok}
+use Rattle.std.specs.Prelude.{None}
 use Rattle.std.specs.Prelude.{ℕ, ◌*◌, ◌≤◌, ◌≡◌, Bool, List, length, ℤ}
 use Rattle.sets.specs.Members.{SetOf}
-use Rattle.lists.specs.Limits.{component_limit, connection_limit, component_width}
+use Rattle.lists.specs.Limits.{component_limit, component_width}
 use Rattle.lists.specs.Records.{component_count, port_count}
-use Rattle.lists.specs.Ids.{member_of, first_repeated, first_end_missing}
+use Rattle.lists.specs.Ids.{IdTable, member_of, first_repeated, first_end_missing}
+use Rattle.lists.specs.Ends.{SettledEnds}
 use Rattle.lists.specs.Order.{first_not_ascending, component_order}
 use Rattle.lists.specs.Within.{Components, PortConnections}
-use Rattle.regions.specs.Keys.{edges}
 use Rattle.regions.specs.Search.{Zeros}
-use Rattle.signals.specs.Signals.{signals}
 use Rattle.signals.specs.Sources.{is_on_frontier, is_drive}
 use Rattle.signals.specs.Regions.{labels, region_count, region_of_place, holds_drive, is_inferred}
 use Rattle.signals.specs.Drive.{drive, potential}
 use Rattle.signals.specs.Flags.{Flags, Numbers}
-use Rattle.signals.specs.Seen.{Rows}
 use Rattle.signals.specs.Stages.{Tables}
 use Rattle.liveness.specs.Sets.{SetWhere}
 use Rattle.liveness.specs.declared.Analysis.{Analysis}
@@ -27,6 +25,12 @@ pub record Scene (cs ps : List ℤ) : Type 0 where
   pub ends : first_end_missing cs ps ≡ None
   pub ascending : first_not_ascending component_order component_width cs ≡ None
   pub distinct : first_repeated cs ≡ None
+
+-- with the table of the components' ids, and the ends of the port connections as members
+pub record Accepted (cs ps : List ℤ) (keys sources sinks : List ℕ) : Type 0 where
+  pub scene : Scene cs ps
+  pub table : IdTable cs keys
+  pub ends : SettledEnds cs ps sources sinks
 
 -- the tables of its signal edges; each member's region; each component's member and region, by list place
 pub record Prepared (cs ps : List ℤ) (sources sinks forward backward labelled members region_of : List ℕ) : Type 0 where
@@ -48,22 +52,6 @@ pub record Prepares (cs ps : List ℤ) (sources sinks forward backward labelled 
   pub prepared : Prepared cs ps sources sinks forward backward labelled members region_of
   pub count : r ≡ region_count cs ps
   pub stack_zeros : Zeros stack
-
--- an accepted scene that is prepared, the ends of its connections left out
-pub record PreparedScene (cs ps : List ℤ) (forward backward labelled members region_of : List ℕ) : Type 0 where
-  pub scene : Scene cs ps
-  pub sources : List ℕ
-  pub sinks : List ℕ
-  pub prepared : Prepared cs ps sources sinks forward backward labelled members region_of
-
--- the part of this that marks of regions are carried by: the edges, and the regions
-pub record SceneRegions (cs ps : List ℤ) (forward labelled region_of : List ℕ) : Type 0 where
-  pub scene : Scene cs ps
-  pub rows : Rows (length labelled) forward
-  pub few : length forward ≤ connection_limit
-  pub graph : edges (component_count cs) forward ≡ signals cs ps
-  pub labels_are : labelled ≡ labels cs ps
-  pub regions_are : Numbers (component_count cs) (region_of_place cs ps) region_of
 
 -- what the drive sources reach, and what these and the inferred inputs reach
 pub record Alive (cs ps fs : List ℤ) (driven possible : List Bool) : Type 0 where
@@ -116,7 +104,6 @@ pub record RowsRoom (cs : List ℤ) (regions sources inputs stack : List ℕ) : 
 
 -- the counts as given, and the sets of the flags
 pub record AnswerBy (n count sources inputs : ℕ) (driven possible hasDriven : List Bool) (cyclic : ℕ → Bool) (r : Analysis) : Type 0 where
-  pub checked_is : r.checked ≡ Ok tt
   pub regions_is : r.regions ≡ count
   pub sources_is : r.sources ≡ sources
   pub inputs_is : r.inputs ≡ inputs

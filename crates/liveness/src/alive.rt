@@ -6,8 +6,9 @@ ghost use Rattle.lists.specs.First.{some};
 ghost use Rattle.regions.specs.Graph.{marked};
 ghost use Rattle.signals.specs.Regions.{holds_drive, is_inferred};
 ghost use Rattle.signals.specs.Flags.{Flags, Indices};
-ghost use Rattle.liveness.specs.Scene.{SceneRegions, Alive, AliveRoom};
+ghost use Rattle.liveness.specs.Scene.{Alive, AliveRoom};
 
+use super::plot::PreparedPlot;
 use lists::{COMPONENTS, CONNECTIONS};
 use signals::crossings::{carry_marks, find_crossings};
 use signals::flags::{copy_flags, gather, or_flags};
@@ -31,30 +32,28 @@ fn possible_regions(
 
 // Marks what the drive sources reach, and what these and the inferred inputs reach.
 pub(crate) fn flag_alive(
-    forward: &[u64],
-    labels: &[usize],
-    region_at: &[usize],
+    plot: &PreparedPlot,
     has_drive: &[bool],
     inferred: &[bool],
     drive: &mut [bool],
     potential: &mut [bool],
 )
-    requires scene_regions { (cs ps : List ℤ) × SceneRegions cs ps forward.now labels.now region_at.now }
-    requires alive_room { AliveRoom (length labels.now) has_drive.now inferred.now drive.old potential.old }
-    ensures { (cs ps fs : List ℤ) → SceneRegions cs ps forward.now labels.now region_at.now →
-        Flags component_limit (holds_drive cs ps fs) has_drive.now → Flags (component_count cs) (is_inferred cs ps fs) inferred.now →
-        Alive cs ps fs drive.new potential.new }
+    requires { AliveRoom (component_count plot.now.plot.components.now) has_drive.now inferred.now drive.old potential.old }
+    ensures { let p = plot.now.plot in let cs = p.components.now in (fs : List ℤ) →
+        Flags component_limit (holds_drive cs p.ports.now fs) has_drive.now →
+        Flags (component_count cs) (is_inferred cs p.ports.now fs) inferred.now →
+        Alive cs p.ports.now fs drive.new potential.new }
 {
-    let n = labels.len();
+    let n = plot.labels.len();
     let mut keys = [0u64; CONNECTIONS];
     let mut driven = [false; COMPONENTS];
     let mut possible = [false; COMPONENTS];
-    let count = find_crossings(forward, labels, &mut keys);
+    let count = find_crossings(plot.forward, plot.labels, &mut keys);
     copy_flags(has_drive, &mut driven);
-    possible_regions(n, region_at, inferred, has_drive, &mut possible);
+    possible_regions(n, plot.region_at, inferred, has_drive, &mut possible);
     carry_marks(
         &keys[..count],
-        labels,
+        plot.labels,
         &mut driven,
         &mut possible,
         drive,

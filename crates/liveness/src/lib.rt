@@ -3,23 +3,20 @@
 
 mod alive;
 mod infer;
-pub mod prepare;
+pub mod plot;
 pub mod steps;
 
-ghost use Rattle.std.specs.Prelude.{Err};
-ghost use Rattle.std.specs.Prelude.{◌≡◌, List, ℕ, ℤ};
-ghost use Rattle.liveness.specs.Entry.{AnalyzedBy, Analyzed};
+ghost use Rattle.liveness.specs.Entry.{Analyzed};
 
 use checks::refusals::{liveness_lists, room_for};
 use lists::{COMPONENT, COMPONENTS, CONNECTIONS, Refusal};
+use plot::Plot;
 use sets::ComponentSet;
 use steps::analyze;
 
-// What the checks say, and of an accepted scene the counts and the sets: members that are driven or may be, regions that are cyclic or
-// hold a drive source.
+// Of an accepted scene the counts and the sets: members that are driven or may be, regions that are cyclic or hold a drive source.
 #[derive(Clone, Copy)]
 pub struct Analysis {
-    pub checked: Result<(), Refusal>,
     pub regions: usize,
     pub sources: usize,
     pub inputs: usize,
@@ -29,23 +26,8 @@ pub struct Analysis {
     pub has_drive: ComponentSet,
 }
 
-// The answer beside a refusal: no rows, and empty sets.
-fn refused(refusal: Refusal) -> Analysis
-    ensures { (cs ps fs : List ℤ) (regions sources inputs stack : List ℕ) → AnalyzedBy (Err refusal) cs ps fs regions regions sources sources inputs inputs stack stack result }
-{
-    Analysis {
-        checked: Err(refusal),
-        regions: 0,
-        sources: 0,
-        inputs: 0,
-        drive: sets::empty(),
-        potential: sets::empty(),
-        cyclic: sets::empty(),
-        has_drive: sets::empty(),
-    }
-}
-
-// The region of each component, the source rows and the verdict rows, in list order, at the front of the lent slices.
+// The refusal of the checks, or what is counted and the sets; the region of each component, the source rows and the verdict rows, in list
+// order, at the front of the lent slices. A refusal writes nothing.
 pub fn analyze_signal_liveness(
     components: &[i64],
     ports: &[i64],
@@ -54,7 +36,7 @@ pub fn analyze_signal_liveness(
     sources: &mut [u64],
     inputs: &mut [u64],
     stack: &mut [usize],
-) -> Analysis
+) -> Result<Analysis, Refusal>
     ensures { Analyzed components.now ports.now frontiers.now regions.old regions.new sources.old sources.new inputs.old inputs.new stack.old stack.new result }
 {
     let mut keys = [0u64; COMPONENTS];
@@ -64,7 +46,7 @@ pub fn analyze_signal_liveness(
     let enough = room_for(count, 1, regions.len())
         & (room_for(count * 2, 2, sources.len())
             & (room_for(count * 4, 3, inputs.len()) & room_for(count, 2, stack.len())));
-    let checked = liveness_lists(
+    liveness_lists(
         components,
         ports,
         frontiers,
@@ -72,20 +54,14 @@ pub fn analyze_signal_liveness(
         &mut keys,
         &mut source_at,
         &mut sink_at,
-    );
-    match checked {
-        Err(refusal) => refused(refusal),
-        Ok(()) => analyze(
-            &keys[..count],
-            components,
-            ports,
-            frontiers,
-            &source_at,
-            &sink_at,
-            regions,
-            sources,
-            inputs,
-            stack,
-        ),
-    }
+    )?;
+    let plot = Plot {
+        keys: &keys[..count],
+        components,
+        ports,
+        frontiers,
+        source_at: &source_at,
+        sink_at: &sink_at,
+    };
+    Ok(analyze(&plot, regions, sources, inputs, stack))
 }

@@ -2,23 +2,20 @@
 ghost use Rattle.std.specs.Prelude.{Ok};
 ghost use Rattle.std.specs.Prelude.{◌≡◌, List, ◌≤◌, length, get_or, ℤ};
 ghost use Rattle.lists.specs.Limits.{component_limit};
-ghost use Rattle.lists.specs.Records.{component_count};
-ghost use Rattle.lists.specs.Ids.{IdTable};
-ghost use Rattle.lists.specs.Ends.{SettledEnds};
+ghost use Rattle.lists.specs.Records.{component_count, port_count};
 ghost use Rattle.lists.specs.First.{tabulate};
 ghost use Rattle.lists.specs.Slices.{laid};
 ghost use Rattle.regions.specs.Search.{Zeros};
 ghost use Rattle.signals.specs.Regions.{region_count, region_of_place, holds_drive, is_inferred};
-ghost use Rattle.signals.specs.Flags.{Flags, Numbers, Indices};
+ghost use Rattle.signals.specs.Flags.{Flags, Numbers};
 ghost use Rattle.liveness.specs.Entry.{AnalyzedBy};
-ghost use Rattle.signals.specs.Seen.{Rows};
 ghost use Rattle.signals.specs.Stages.{cyclic_at};
-ghost use Rattle.liveness.specs.Scene.{Scene, Prepared, PreparedScene, PreparedRoom, Driven, Marked, MarkRoom, RowsRoom, AnswerBy};
+ghost use Rattle.liveness.specs.Scene.{Scene, Driven, Marked, MarkRoom, RowsRoom, AnswerBy};
 
 use super::Analysis;
 use super::alive::flag_alive;
 use super::infer::{infer, outside_regions};
-use super::prepare::prepare;
+use super::plot::{Plot, PreparedPlot};
 use assessment::slots::write_verdicts;
 use assessment::sources::{drive_flags, frontier_flags};
 use assessment::verdicts::put_sources;
@@ -53,87 +50,41 @@ pub fn flag_drive(
     gather(components.len() / COMPONENT, region_at, drive_at, has_drive);
 }
 
-// Flags the inferred inputs, by list place. The rows are hints.
-pub fn flag_inferred(
-    components: &[i64],
-    forward: &[u64],
-    backward: &[u64],
-    labels: &[usize],
-    members: &[usize],
-    region_at: &[usize],
-    has_drive: &[bool],
-    inferred: &mut [bool],
-    forward_rows: &[usize],
-    backward_rows: &[usize],
-)
-    requires prepared_scene { (ps : List ℤ) × PreparedScene components.now ps forward.now backward.now labels.now members.now region_at.now }
-    requires has_drive_len { (length has_drive.now ≡ component_limit) × (component_count components.now ≤ length inferred.old) }
-    ensures { (ps fs : List ℤ) → PreparedScene components.now ps forward.now backward.now labels.now members.now region_at.now →
-        Flags component_limit (holds_drive components.now ps fs) has_drive.now → Flags (component_count components.now) (is_inferred components.now ps fs) inferred.new }
+// Flags the inferred inputs, by list place.
+pub fn flag_inferred(plot: &PreparedPlot, has_drive: &[bool], inferred: &mut [bool])
+    requires { (length has_drive.now ≡ component_limit) × (component_count plot.now.plot.components.now ≤ length inferred.old) }
+    ensures { let p = plot.now.plot in let cs = p.components.now in (fs : List ℤ) →
+        Flags component_limit (holds_drive cs p.ports.now fs) has_drive.now → Flags (component_count cs) (is_inferred cs p.ports.now fs) inferred.new }
 {
     let mut fed = [false; COMPONENTS];
-    outside_regions(components, forward, labels, members, &mut fed);
-    infer(
-        components,
-        members,
-        region_at,
-        has_drive,
-        &fed,
-        forward,
-        backward,
-        labels,
-        inferred,
-        forward_rows,
-        backward_rows,
-    );
+    outside_regions(plot, &mut fed);
+    infer(plot, has_drive, &fed, inferred);
 }
 
-// All marks of a scene. The rows are hints.
+// All marks of a plot.
 fn mark(
-    components: &[i64],
-    frontiers: &[i64],
-    forward: &[u64],
-    backward: &[u64],
-    labels: &[usize],
-    members: &[usize],
-    region_at: &[usize],
+    plot: &PreparedPlot,
     on_frontier: &mut [bool],
     inferred: &mut [bool],
     has_drive: &mut [bool],
     drive: &mut [bool],
     potential: &mut [bool],
-    forward_rows: &[usize],
-    backward_rows: &[usize],
 )
-    requires prepared_scene { (ps : List ℤ) × PreparedScene components.now ps forward.now backward.now labels.now members.now region_at.now }
-    requires mark_room { MarkRoom components.now on_frontier.old inferred.old has_drive.old drive.old potential.old }
-    ensures { (ps : List ℤ) → PreparedScene components.now ps forward.now backward.now labels.now members.now region_at.now →
-        Marked components.now ps frontiers.now on_frontier.new inferred.new has_drive.new drive.new potential.new }
+    requires { MarkRoom plot.now.plot.components.now on_frontier.old inferred.old has_drive.old drive.old potential.old }
+    ensures { let p = plot.now.plot in
+        Marked p.components.now p.ports.now p.frontiers.now on_frontier.new inferred.new has_drive.new drive.new potential.new }
 {
     let mut drive_at = [false; COMPONENTS];
     flag_drive(
-        components,
-        frontiers,
-        region_at,
+        plot.plot.components,
+        plot.plot.frontiers,
+        plot.region_at,
         on_frontier,
         &mut drive_at,
         has_drive,
     );
-    flag_inferred(
-        components,
-        forward,
-        backward,
-        labels,
-        members,
-        region_at,
-        has_drive,
-        inferred,
-        forward_rows,
-        backward_rows,
-    );
-    flag_alive(
-        forward, labels, region_at, has_drive, inferred, drive, potential,
-    );
+    flag_inferred(plot, has_drive, inferred);
+    flag_alive(plot, has_drive, inferred, drive, potential);
 }
 
 // Writes the region of each component, in list order.
@@ -141,108 +92,85 @@ fn put_regions(n: usize, region_at: &[usize], regions: &mut [u64])
     requires { (n ≤ length region_at.now) × (n ≤ length regions.old) }
     ensures { regions.new ≡ laid (tabulate (λ p. get_or region_at.now p 0) n) regions.old }
 {
-    let mut p: usize = 0;
-    while p < n {
+    for p in 0..n {
         regions[p] = region_at[p] as u64;
-        p += 1;
     }
 }
 
 // The answer: the counts as given, and the sets of the flags.
 fn answer(
-    forward: &[u64],
-    labels: &[usize],
+    plot: &PreparedPlot,
     drive: &[bool],
     potential: &[bool],
     has_drive: &[bool],
     counts: RowCounts,
     count: usize,
 ) -> Analysis
-    requires rows { Rows (length labels.now) forward.now }
-    requires indices { Indices (length labels.now) component_limit labels.now × ((length labels.now ≤ component_limit) × (count ≤ component_limit)) }
-    requires labels_in_bounds { (length labels.now ≤ length drive.now) × ((length labels.now ≤ length potential.now) × (count ≤ length has_drive.now)) }
-    ensures { AnswerBy (length labels.now) count counts.sources counts.inputs drive.now potential.now has_drive.now
-        (cyclic_at forward.now labels.now) result }
+    requires count { (count ≤ component_limit) × (count ≤ length has_drive.now) }
+    requires labels_in_bounds { (length plot.now.labels.now ≤ length drive.now) × (length plot.now.labels.now ≤ length potential.now) }
+    ensures { let p = plot.now in AnswerBy (length p.labels.now) count counts.sources counts.inputs drive.now potential.now has_drive.now
+        (cyclic_at p.forward.now p.labels.now) result }
 {
-    let n = labels.len();
+    let n = plot.labels.len();
     let mut cyclic = [false; COMPONENTS];
-    find_cyclic(forward, labels, &mut cyclic);
+    find_cyclic(plot.forward, plot.labels, &mut cyclic);
     Analysis {
-        checked: Ok(()),
         regions: count,
         sources: counts.sources,
         inputs: counts.inputs,
-        drive: sets::of_flags(n, drive),
-        potential: sets::of_flags(n, potential),
-        cyclic: sets::of_flags(count, &cyclic),
-        has_drive: sets::of_flags(count, has_drive),
+        drive: ComponentSet::of_flags(&drive[..n]),
+        potential: ComponentSet::of_flags(&potential[..n]),
+        cyclic: ComponentSet::of_flags(&cyclic[..count]),
+        has_drive: ComponentSet::of_flags(&has_drive[..count]),
     }
 }
 
-// Marks a prepared scene, writes its rows and answers. The stack is zero already, as it is to be left. The last two are hints of rows.
+// Marks a prepared plot, writes its rows and answers. The stack is zero already, as it is to be left.
 fn report(
-    components: &[i64],
-    ports: &[i64],
-    frontiers: &[i64],
-    source_at: &[usize],
-    sink_at: &[usize],
-    forward: &[u64],
-    backward: &[u64],
-    labels: &[usize],
-    members: &[usize],
-    region_at: &[usize],
+    plot: &PreparedPlot,
     count: usize,
     regions: &mut [u64],
     sources: &mut [u64],
     inputs: &mut [u64],
     stack: &mut [usize],
-    forward_rows: &[usize],
-    backward_rows: &[usize],
 ) -> Analysis
-    requires scene { Scene components.now ports.now }
-    requires prepared { Prepared components.now ports.now source_at.now sink_at.now forward.now backward.now labels.now members.now region_at.now }
-    requires count_value { (count ≡ region_count components.now ports.now) × (RowsRoom components.now regions.old sources.old inputs.old stack.old × Zeros stack.old) }
-    ensures { AnalyzedBy (Ok tt) components.now ports.now frontiers.now regions.old regions.new sources.old sources.new inputs.old inputs.new stack.old stack.new result }
+    requires count_value { count ≡ region_count plot.now.plot.components.now plot.now.plot.ports.now }
+    requires rows_room { RowsRoom plot.now.plot.components.now regions.old sources.old inputs.old stack.old }
+    requires stack_zeros { Zeros stack.old }
+    ensures { let p = plot.now.plot in
+        AnalyzedBy (Ok tt) p.components.now p.ports.now p.frontiers.now regions.old regions.new sources.old sources.new inputs.old inputs.new stack.old stack.new (Ok result) }
 {
-    let n = labels.len();
+    let lists = plot.plot;
+    let n = plot.labels.len();
     let mut on_frontier = [false; COMPONENTS];
     let mut inferred = [false; COMPONENTS];
     let mut has_drive = [false; COMPONENTS];
     let mut drive = [false; COMPONENTS];
     let mut potential = [false; COMPONENTS];
     mark(
-        components,
-        frontiers,
-        forward,
-        backward,
-        labels,
-        members,
-        region_at,
+        plot,
         &mut on_frontier,
         &mut inferred,
         &mut has_drive,
         &mut drive[..n],
         &mut potential[..n],
-        forward_rows,
-        backward_rows,
     );
-    put_regions(n, region_at, regions);
+    put_regions(n, plot.region_at, regions);
     let counts = RowCounts {
-        sources: put_sources(components, &on_frontier, &inferred, sources),
+        sources: put_sources(lists.components, &on_frontier, &inferred, sources),
         inputs: write_verdicts(
-            components,
-            members,
-            ports,
-            source_at,
-            sink_at,
+            lists.components,
+            plot.members,
+            lists.ports,
+            lists.source_at,
+            lists.sink_at,
             &drive[..n],
             &potential[..n],
             inputs,
         ),
     };
     answer(
-        forward,
-        labels,
+        plot,
         &drive[..n],
         &potential[..n],
         &has_drive,
@@ -251,110 +179,75 @@ fn report(
     )
 }
 
-// Prepares an accepted scene in arrays that are lent, and reports it.
+// Prepares a plot in arrays that are lent, and reports it.
 fn analyze_in(
-    keys: &[u64],
-    components: &[i64],
-    ports: &[i64],
-    frontiers: &[i64],
-    source_at: &[usize],
-    sink_at: &[usize],
+    plot: &Plot,
     forward: &mut [u64],
     backward: &mut [u64],
     labels: &mut [usize],
-    members: &mut [usize],
-    region_at: &mut [usize],
-    regions: &mut [u64],
-    sources: &mut [u64],
-    inputs: &mut [u64],
-    stack: &mut [usize],
-    forward_rows: &mut [usize; HINTED],
-    backward_rows: &mut [usize; HINTED],
-) -> Analysis
-    requires scene { Scene components.now ports.now × (IdTable components.now keys.now × SettledEnds components.now ports.now source_at.now sink_at.now) }
-    requires prepared_room { PreparedRoom components.now ports.now forward.old backward.old labels.old members.old region_at.old stack.old }
-    requires rows_room { RowsRoom components.now regions.old sources.old inputs.old stack.old }
-    ensures { AnalyzedBy (Ok tt) components.now ports.now frontiers.now regions.old regions.new sources.old sources.new inputs.old inputs.new stack.old stack.new result }
-{
-    let count = prepare(
-        keys,
-        components,
-        ports,
-        source_at,
-        sink_at,
-        forward,
-        backward,
-        labels,
-        members,
-        region_at,
-        stack,
-        forward_rows,
-        backward_rows,
-    );
-    report(
-        components,
-        ports,
-        frontiers,
-        source_at,
-        sink_at,
-        forward,
-        backward,
-        labels,
-        members,
-        region_at,
-        count,
-        regions,
-        sources,
-        inputs,
-        stack,
-        forward_rows,
-        backward_rows,
-    )
-}
-
-// Analyzes an accepted scene, given its table of ids and its settled ends.
-pub fn analyze(
-    keys: &[u64],
-    components: &[i64],
-    ports: &[i64],
-    frontiers: &[i64],
-    source_at: &[usize],
-    sink_at: &[usize],
     regions: &mut [u64],
     sources: &mut [u64],
     inputs: &mut [u64],
     stack: &mut [usize],
 ) -> Analysis
-    requires scene { Scene components.now ports.now × (IdTable components.now keys.now × SettledEnds components.now ports.now source_at.now sink_at.now) }
-    requires rows_room { RowsRoom components.now regions.old sources.old inputs.old stack.old }
-    ensures { AnalyzedBy (Ok tt) components.now ports.now frontiers.now regions.old regions.new sources.old sources.new inputs.old inputs.new stack.old stack.new result }
+    requires forward_room { (length forward.old ≡ port_count plot.now.ports.now) × (length backward.old ≡ port_count plot.now.ports.now) }
+    requires labels_room { length labels.old ≡ component_count plot.now.components.now }
+    requires rows_room { RowsRoom plot.now.components.now regions.old sources.old inputs.old stack.old }
+    ensures { let p = plot.now in
+        AnalyzedBy (Ok tt) p.components.now p.ports.now p.frontiers.now regions.old regions.new sources.old sources.new inputs.old inputs.new stack.old stack.new (Ok result) }
 {
-    let n = keys.len();
-    let m = ports.len() / PORT;
-    let mut forward = [0u64; CONNECTIONS];
-    let mut backward = [0u64; CONNECTIONS];
-    let mut labels = [0usize; COMPONENTS];
     let mut members = [0usize; COMPONENTS];
     let mut region_at = [0usize; COMPONENTS];
     let mut forward_rows = [0usize; HINTED];
     let mut backward_rows = [0usize; HINTED];
+    let count = plot.prepare(
+        forward,
+        backward,
+        labels,
+        &mut members,
+        &mut region_at,
+        stack,
+        &mut forward_rows,
+        &mut backward_rows,
+    );
+    let prepared = PreparedPlot {
+        plot: *plot,
+        forward,
+        backward,
+        labels,
+        members: &members,
+        region_at: &region_at,
+        forward_rows: &forward_rows,
+        backward_rows: &backward_rows,
+    };
+    report(&prepared, count, regions, sources, inputs, stack)
+}
+
+// Analyzes a plot: the counts and the sets; the rows at the front of the lent slices. Leaves the stack zero.
+pub fn analyze(
+    plot: &Plot,
+    regions: &mut [u64],
+    sources: &mut [u64],
+    inputs: &mut [u64],
+    stack: &mut [usize],
+) -> Analysis
+    requires { RowsRoom plot.now.components.now regions.old sources.old inputs.old stack.old }
+    ensures { let p = plot.now in
+        AnalyzedBy (Ok tt) p.components.now p.ports.now p.frontiers.now regions.old regions.new sources.old sources.new inputs.old inputs.new stack.old stack.new (Ok result) }
+{
+    let n = plot.keys.len();
+    let m = plot.ports.len() / PORT;
+    let mut forward = [0u64; CONNECTIONS];
+    let mut backward = [0u64; CONNECTIONS];
+    let mut labels = [0usize; COMPONENTS];
     analyze_in(
-        keys,
-        components,
-        ports,
-        frontiers,
-        source_at,
-        sink_at,
+        plot,
         &mut forward[..m],
         &mut backward[..m],
         &mut labels[..n],
-        &mut members,
-        &mut region_at,
         regions,
         sources,
         inputs,
         stack,
-        &mut forward_rows,
-        &mut backward_rows,
     )
 }

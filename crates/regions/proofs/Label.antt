@@ -1,4 +1,4 @@
--- The second walk: the loop of `paint`, what `label_from` does, and the loop of `regions` with its invariant `Labelling`.
+-- The second walk: the loop of `paint`, what `label_from` does, and the loop of `label_all` with its invariant `Labelling`.
 -- Assumes nothing.
 use mathlib.Core.Path.{◌≡◌, refl, sym, ap, ap₂, ◌∙◌, subst}
 use mathlib.Core.Bool.{Bool, true, false, cond}

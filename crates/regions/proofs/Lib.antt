@@ -1,9 +1,9 @@
 -- The theorems, for the crates above, and what the proofs of the functions use.
 --     Laws      laws of the definitions
 --     Theorems  what specs/Theorems.antt states
---     Fill      clear, clear_flags
+--     Fill      lists of one value
 --     Again     a walk passes a visited node over
---     Rows      skip_visited: the keys of a node are its neighbours
+--     Rows      next_unvisited: the keys of a node are its neighbours
 --     Frames    the open calls of `visit` as a stack of frames
 --     Stack     visit_from
 --     Order     finish_order, reach_from

@@ -4,7 +4,7 @@
 
 pub mod carry;
 
-ghost use Rattle.std.specs.Prelude.{◌≡◌, false, ℕ, ◌+◌, ◌*◌, ◌<◌, ◌≤◌, length, get_or, take, replicate, MatchOption};
+ghost use Rattle.std.specs.Prelude.{◌≡◌, ℕ, ◌+◌, ◌*◌, ◌<◌, ◌≤◌, length, get_or, MatchOption};
 ghost use Rattle.tables.specs.Order.{Ascending, LowerBound};
 ghost use Rattle.tables.specs.Pairs.{span};
 ghost use Rattle.regions.specs.Graph.{flip};
@@ -17,20 +17,6 @@ use tables::rows::{hint_rows, lower_bound_in};
 
 // The nodes whose row of keys has a hint of where it ends: those of a full plot, and one that stands for none. Others are searched for.
 pub const HINTED: usize = (1 << 10) + 1;
-
-// Sets every flag to false.
-pub fn clear_flags(flags: &mut [bool])
-    ensures { flags.new ≡ replicate (length flags.old) false }
-{
-    flags.fill(false);
-}
-
-// Sets every number to 0.
-pub fn clear(numbers: &mut [usize])
-    ensures { numbers.new ≡ replicate (length numbers.old) 0 }
-{
-    numbers.fill(0);
-}
 
 // A graph: its edges as a table of keys, and hints of where the rows of the table end. The arrays that a walk writes are no fields: each
 // method would owe that its struct still holds the same references.

@@ -1,43 +1,32 @@
--- The answer of reading a sheet and what it leaves, by its ways out: a fault, work lists that are too short, or the lists stored.
+-- The answer of reading a sheet and what it leaves, where its lists are stored: how many records each has, and the room for them.
 -- Assumes nothing.
-use Rattle.lists.specs.declared.Fault.{Fault}
-use Rattle.std.specs.Prelude.{None}
-use Prim.Native.Nat.{ℕ, ◌/◌}
+use Prim.Native.Nat.{ℕ}
 use native.Mathlib.Omega.{arith}
 use mathlib.Core.Path.{◌≡◌, refl}
 use mathlib.Core.Bool.{Bool, true, false, ◌&&◌}
 use mathlib.Core.List.{List}
 use lib.IntN.{ℤ}
 use lib.ListN.{length}
-use borrow.Author.Tests.{leb-true}
 use Rattle.lists.specs.Limits.{component_width, connection_width, frontier_width}
 use Rattle.lists.specs.Records.{component_count, connection_count, frontier_count}
 use Rattle.checks.specs.Refusals.{room_for}
-use Rattle.lists.specs.declared.Refusal.{Refusal}
-use Rattle.sheet.specs.Sheet.{Parsed, Lists, Faulty}
+use Rattle.sheet.specs.Sheet.{Parsed, Lists}
 use Rattle.sheet.specs.Entry.{enough_room, SheetRead}
-use Rattle.sheet.specs.Places.{AllStand, Lent, AllLaid}
+use Rattle.sheet.specs.Places.{AllStand, AllLaid}
 use Rattle.sheet.specs.declared.Places.{Places}
-use Rattle.std.specs.Prelude.{Ok, Err}
+use Rattle.std.specs.Prelude.{Ok}
 
-module _ (p : Parsed) (a b c : List ℤ) where
-  pub faulty : {r : Refusal} → p ≡ Faulty r → SheetRead p a a b b c c (Err r)
-  faulty e = record { answer = rw e; numbers = rw e; components_left = rw e; connections_left = rw e; frontiers_left = rw e }
-
-  module _ {cs ps fs : List ℤ} (e : p ≡ Lists cs ps fs) where
-    pub short : enough_room cs ps fs (length a) (length b) (length c) ≡ false → SheetRead p a a b b c c (Err (record { fault = Fault.ShortSlice; list = None; item = 0 }))
-    short h = record { answer = rw (e, h); numbers = rw (e, h); components_left = rw (e, h); connections_left = rw (e, h); frontiers_left = rw (e, h) }
-
-    pub read : {a' b' c' : List ℤ} {x y z : ℕ} → enough_room cs ps fs (length a) (length b) (length c) ≡ true → AllLaid cs ps fs a a' b b' c c'
-        → x ≡ component_count cs → y ≡ connection_count ps → z ≡ frontier_count fs
-        → SheetRead p a a' b b' c c' (Ok (record { components = x; connections = y; frontiers = z }))
-    read h l k m n = record {
-      answer = rw (e, h, k, m, n);
-      numbers = rw (e, h, k, m, n);
-      components_left = rw (e, h) l.of_components;
-      connections_left = rw (e, h) l.of_connections;
-      frontiers_left = rw (e, h) l.of_frontiers;
-    }
+module _ (p : Parsed) (a b c : List ℤ) {cs ps fs : List ℤ} (e : p ≡ Lists cs ps fs) where
+  pub read : {a' b' c' : List ℤ} {x y z : ℕ} → enough_room cs ps fs (length a) (length b) (length c) ≡ true → AllLaid cs ps fs a a' b b' c c'
+      → x ≡ component_count cs → y ≡ connection_count ps → z ≡ frontier_count fs
+      → SheetRead p a a' b b' c c' (Ok (record { components = x; connections = y; frontiers = z }))
+  read h l k m n = record {
+    answer = rw (e, h, k, m, n);
+    numbers = rw (e, h, k, m, n);
+    components_left = rw (e, h) l.of_components;
+    connections_left = rw (e, h) l.of_connections;
+    frontiers_left = rw (e, h) l.of_frontiers;
+  }
 
 -- ---- the counts, and the room
 
@@ -51,10 +40,6 @@ module _ {text : List ℕ} {cs ps fs : List ℤ} {q : Places} (s : AllStand text
   pub frontiers_count : q.frontiers.count ≡ frontier_count fs
   frontiers_count = omega (arith, s.of_frontiers.total)
 
-both : (x y : Bool) → x && y ≡ true → (x ≡ true) × (y ≡ true)
-both true y e = (refl, e)
-both false y e = let z : ◌≡◌ {A = ℕ} 0 1 = cc in absurd (omega arith)
-
 joined : (x y z : Bool) → x && (y && z) ≡ (x && y) && z
 joined true y z = refl
 joined false y z = refl
@@ -65,13 +50,3 @@ module _ {text : List ℕ} {cs ps fs : List ℤ} {q : Places} (s : AllStand text
       → z ≡ room_for q.frontiers.count frontier_width frontiers → enough_room cs ps fs components connections frontiers ≡ ((x && y) && z)
   tested {x} {y} {z} e f g =
       rw (← components_count s, ← connections_count s, ← frontiers_count s, ← e, ← f, ← g) (joined x y z)
-
-  pub lent : enough_room cs ps fs components connections frontiers ≡ true → Lent q components connections frontiers
-  lent e =
-      let (x, yz) = both (room_for (component_count cs) component_width components) _ e in
-      let (y, z) = both (room_for (connection_count ps) connection_width connections) (room_for (frontier_count fs) frontier_width frontiers) yz in
-      record {
-        of_components = omega (arith, components_count s, leb-true (component_count cs) (components / component_width) x);
-        of_connections = omega (arith, connections_count s, leb-true (connection_count ps) (connections / connection_width) y);
-        of_frontiers = omega (arith, frontiers_count s, leb-true (frontier_count fs) (frontiers / frontier_width) z);
-      }

@@ -1,9 +1,7 @@
 -- The line of a list's count, and the list behind it.
---     few_lines                a list within its limit has few lines
 --     list_fields, list_over, list_bad  the list, by what its count is
 -- Assumes nothing.
 use Prim.Native.Nat.{ℕ, ◌+◌, ◌*◌, ◌≤◌, ◌<◌}
-use native.Mathlib.Omega.{arith}
 use mathlib.Core.Path.{◌≡◌}
 use mathlib.Core.List.{List}
 use lib.ListN.{length}
@@ -11,15 +9,7 @@ use borrow.Author.Tests.{le-leb, lt-leb}
 use Rattle.lines.specs.Line.{taken, refused, read_line, natural}
 use Rattle.sheet.specs.Keys.{count_key, keys_of}
 use Rattle.lists.specs.declared.Section.{Section}
-use Rattle.lists.specs.declared.Section.TheVariants.{Components, Connections, Frontiers}
 use Rattle.sheet.specs.Sheet.{read_fields, fault, bad_line, over_limit, fields_from, read_list}
-
--- ---- how many lines
-
-pub few_lines : (list : Section) (n : ℕ) → n * length (keys_of list) ≤ 8 * n
-few_lines Components n = omega arith
-few_lines Connections n = omega arith
-few_lines Frontiers n = omega arith
 
 -- ---- the list, by what its count is
 

@@ -33,12 +33,12 @@ use Rattle.sheet.proofs.Chain.{all_lists}
 
 after_got : (z : ℤ) (f : Fields) (zs : List ℤ) (r : List ℕ) → after z f ≡ got zs r → (ys : List ℤ) × (f ≡ got ys r) × (zs ≡ z ∷ ys)
 after_got z (got ys s) zs r e = (ys, cc, cc)
-after_got z (stop k) zs r e = let o : ◌≡◌ {A = ℕ} 0 1 = cc in absurd (omega arith)
+after_got z (stop k) zs r e = cc
 
 onward_got : (k : ℕ) (q : Taken ℤ) (f : List ℕ → Fields) (zs : List ℤ) (r : List ℕ) → onward k q f ≡ got zs r
     → (z : ℤ) × (s : List ℕ) × (ys : List ℤ) × (q ≡ taken z s) × (f s ≡ got ys r) × (zs ≡ z ∷ ys)
 onward_got k (taken z s) f zs r e = let (ys, g, l) = after_got z (f s) zs r e in (z, s, ys, refl, g, l)
-onward_got k refused f zs r e = let o : ◌≡◌ {A = ℕ} 0 1 = cc in absurd (omega arith)
+onward_got k refused f zs r e = cc
 
 pub fields_sound : (keys : List (List ℕ)) (n k : ℕ) (s : List ℕ) (zs : List ℤ) (r : List ℕ) → read_fields keys n k s ≡ got zs r
     → (length zs ≡ n) × AllInRange zs × (s ≡ field_lines keys k zs ++ r)
@@ -76,12 +76,12 @@ parts Frontiers n h = omega arith
 
 from_part : (line : ℕ) (f : Fields) (zs : List ℤ) (r : List ℕ) (next : ℕ) → fields_from line f ≡ part zs r next → f ≡ got zs r
 from_part line (got ys s) zs r next e = cc
-from_part line (stop k) zs r next e = let o : ◌≡◌ {A = ℕ} 0 1 = cc in absurd (omega arith)
+from_part line (stop k) zs r next e = cc
 
 cond_part : (b : Bool) (p : Part) (zs : List ℤ) (r : List ℕ) (next : ℕ) (list : Section) (limit : ℕ) → cond b p (fault (record { fault = Fault.ListLength; list = Some list; item = limit })) ≡ part zs r next
     → (b ≡ true) × (p ≡ part zs r next)
 cond_part true p zs r next list limit e = (refl, e)
-cond_part false p zs r next list limit e = let o : ◌≡◌ {A = ℕ} 0 1 = cc in absurd (omega arith)
+cond_part false p zs r next list limit e = cc
 
 module _ (list : Section) (limit line : ℕ) where
   counted_part : (q : Taken ℕ) (zs : List ℤ) (r : List ℕ) (next : ℕ) → counted list limit line q ≡ part zs r next
@@ -89,7 +89,7 @@ module _ (list : Section) (limit line : ℕ) where
   counted_part (taken n s) zs r next e =
       let (t, f) = cond_part (leb n limit) (fields_from (line + 1) (read_fields (keys_of list) (n * length (keys_of list)) 0 s)) zs r next list limit e in
       (n, s, refl, leb-true n limit t, from_part (line + 1) (read_fields (keys_of list) (n * length (keys_of list)) 0 s) zs r next f)
-  counted_part refused zs r next e = let o : ◌≡◌ {A = ℕ} 0 1 = cc in absurd (omega arith)
+  counted_part refused zs r next e = cc
 
   pub list_sound : (s : List ℕ) (zs : List ℤ) (r : List ℕ) (next : ℕ) → read_list list limit line s ≡ part zs r next
       → Writable list limit zs × (s ≡ list_lines list zs ++ r)
@@ -120,12 +120,12 @@ module _ (list : Section) (limit line : ℕ) where
 then_lists : (q : Part) (f : List ℤ → List ℕ → ℕ → Parsed) (cs ps fs : List ℤ) → q then f ≡ Lists cs ps fs
     → (zs : List ℤ) × (s : List ℕ) × (line : ℕ) × (q ≡ part zs s line) × (f zs s line ≡ Lists cs ps fs)
 then_lists (part zs s line) f cs ps fs e = (zs, s, line, refl, e)
-then_lists (fault r) f cs ps fs e = let o : ◌≡◌ {A = ℕ} 0 1 = cc in absurd (omega arith)
+then_lists (fault r) f cs ps fs e = cc
 
 ended_lists : (cs' ps' fs' : List ℤ) (s : List ℕ) (line : ℕ) (cs ps fs : List ℤ) → ended cs' ps' fs' s line ≡ Lists cs ps fs
     → (s ≡ []) × (cs' ≡ cs) × (ps' ≡ ps) × (fs' ≡ fs)
 ended_lists cs' ps' fs' [] line cs ps fs e = (refl, cc, cc, cc)
-ended_lists cs' ps' fs' (b ∷ s) line cs ps fs e = let o : ◌≡◌ {A = ℕ} 0 1 = cc in absurd (omega arith)
+ended_lists cs' ps' fs' (b ∷ s) line cs ps fs e = cc
 
 same_lines : (cs' ps' fs' cs ps fs : List ℤ) → cs' ≡ cs → ps' ≡ ps → fs' ≡ fs
     → list_lines Components cs' ++ (list_lines Connections ps' ++ list_lines Frontiers fs') ≡ list_lines Components cs ++ (list_lines Connections ps ++ list_lines Frontiers fs)

@@ -72,6 +72,7 @@ fn check_list(
     if limit < count {
         return Err(over_limit(section, limit));
     }
+    // No `map_err`: its closure would need a contract of its own.
     match check_fields(text, start, section, count * width(section)) {
         Ok(end) => Ok(Place { count, start, end }),
         Err(k) => Err(bad_line(line + 1 + k)),

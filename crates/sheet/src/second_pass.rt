@@ -8,17 +8,16 @@ use super::Places;
 use super::keys::known_field;
 use lists::{COMPONENT, CONNECTION, FRONTIER, Section};
 
-// Stores the values of n lines of a list's fields.
-fn store_fields(text: &[u8], at: usize, section: Section, n: usize, out: &mut [i64])
-    requires n_in_bounds { n ≤ length out.old }
+// Stores the values of as many lines of a list's fields as `out` takes.
+fn store_fields(text: &[u8], at: usize, section: Section, out: &mut [i64])
     requires at_in_bounds { at ≤ length text.now }
-    requires all_read { AllRead (read_fields (keys_of section) n 0 (drop at text.now)) }
-    ensures { out.new ≡ stored (read_fields (keys_of section) n 0 (drop at text.now)) out.old }
+    requires all_read { AllRead (read_fields (keys_of section) (length out.old) 0 (drop at text.now)) }
+    ensures { out.new ≡ stored (read_fields (keys_of section) (length out.old) 0 (drop at text.now)) out.old }
 {
     let mut position = at;
-    for k in 0..n {
+    for (k, slot) in out.iter_mut().enumerate() {
         let (value, end) = known_field(text, position, section, k);
-        out[k] = value;
+        *slot = value;
         position = end;
     }
 }
@@ -40,23 +39,20 @@ pub fn store_sheet(
         text,
         c.start,
         Section::Components,
-        c.count * COMPONENT,
-        components,
+        &mut components[..c.count * COMPONENT],
     );
     let p = places.connections;
     store_fields(
         text,
         p.start,
         Section::Connections,
-        p.count * CONNECTION,
-        connections,
+        &mut connections[..p.count * CONNECTION],
     );
     let f = places.frontiers;
     store_fields(
         text,
         f.start,
         Section::Frontiers,
-        f.count * FRONTIER,
-        frontiers,
+        &mut frontiers[..f.count * FRONTIER],
     );
 }

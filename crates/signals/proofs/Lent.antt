@@ -3,7 +3,7 @@
 --     front_length           which is as long as what was lent
 --     indices_same           indices below the length that was lent
 --     gathered_same          tests gathered up to that length
---     gathered_front         by the indices at the front of an array
+--     indices_front, gathered_front      the indices at the front of an array
 -- Assumes nothing.
 use mathlib.Core.Path.{◌≡◌, sym, ap, subst, ◌∙◌}
 use mathlib.Core.Bool.{Bool, ◌&&◌}
@@ -33,6 +33,14 @@ indices_same e i = record { long = i.long; below = λ p h. omega (arith, e, i.be
 
 pub gathered_same : {n n' : ℕ} {index : List ℕ} {tests out : List Bool} → n ≡ n' → Gathered n index tests out → Gathered n' index tests out
 gathered_same {n} {n'} {index} {tests} {out} e g = subst (λ (k : ℕ). Gathered k index tests out) e g
+
+pub indices_front : {n m : ℕ} (index : List ℕ) → Indices n m index → Indices (length (take n index)) m (take n index)
+indices_front {n} index i = record {
+  long = omega arith;
+  below = λ p h.
+      let less : p < n = omega (arith, length-take-le n index i.long) in
+      rw (get_or-take n index p 0 less) (i.below p less);
+}
 
 pub gathered_front : {n : ℕ} (index : List ℕ) {tests out : List Bool} → n ≤ length index → Gathered (length (take n index)) (take n index) tests out
     → Gathered n index tests out

@@ -43,7 +43,7 @@ some_edge_into forward labels passes r =
 
 -- two nodes have the same label, and an edge leads from the one to the other in a table forward or in one backward
 abbrev pub near : List ℕ → List ℕ → List ℕ → ℕ → ℕ → Bool
-near forward backward labels m j =
+near forward backward labels m = λ j.
     eqb (get_or labels j 0) (get_or labels m 0) && (edges (length labels) forward m j || edges (length labels) backward m j)
 
 -- at most one is near to m

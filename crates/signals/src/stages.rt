@@ -80,7 +80,6 @@ pub fn find_regions(
     regions::regions(
         forward,
         backward,
-        n,
         labels,
         &mut visited[..n],
         &mut order,

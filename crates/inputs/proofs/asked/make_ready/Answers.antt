@@ -23,25 +23,25 @@ use Rattle.inputs.proofs.asked.make_ready.Goals as goal
 use Rattle.inputs.proofs.asked.make_ready.Goals.{Start}
 
 abbrev cs : Start → List ℤ
-cs s = s.args.components.now
+cs s = s.args.plot.now.components.now
 
 abbrev ps : Start → List ℤ
-ps s = s.args.ports.now
+ps s = s.args.plot.now.ports.now
 
 abbrev edge_count : Start → ℕ
 edge_count s = port_count (ps s)
 
 abbrev nodes : Start → ℕ
-nodes s = length s.args.keys.now
+nodes s = length s.args.plot.now.keys.now
 
 all : (s : Start) → nodes s ≡ component_count (cs s)
-all s = table_long s.requires.scene.1.0
+all s = table_long s.args.plot.now.accepted.table
 
 edges_few : (s : Start) → edge_count s ≤ connection_limit
-edges_few s = s.requires.scene.0.connections.few
+edges_few s = s.args.plot.now.accepted.scene.connections.few
 
 few : (s : Start) → component_count (cs s) ≤ component_limit
-few s = s.requires.scene.0.components.few
+few s = s.args.plot.now.accepted.scene.components.few
 
 nodes-few : (s : Start) → nodes s ≤ component_limit
 nodes-few s = omega (arith, all s, few s)
@@ -55,15 +55,12 @@ flags-lent s = length-take-le _ _ (nodes-few s)
 pub find_inputs-requires : goal.find_inputs-requires
 find_inputs-requires c =
     let s = (goal.at.find_inputs-requires c).Start in
-    let room = c.requires.fed_len in record {
-      scene = c.requires.scene;
-      inputs_room = record {
-        forward_room = room.0;
-        backward_room = keys-lent s;
-        labels_room = room.1.0;
-        inferred_room = flags-lent s ∙ all s;
-        stack_room = room.1.1;
-      };
+    record {
+      forward_room = c.requires.fed_len;
+      backward_room = keys-lent s;
+      labels_room = c.requires.labels_len.0;
+      inferred_room = flags-lent s ∙ all s;
+      stack_room = c.requires.labels_len.1;
     }
 
 -- the flags of the nodes, lent from the front of an array
@@ -87,12 +84,12 @@ lent_long s backward e =
 labels_below : (s : Start) (labelled : List ℕ) → labelled ≡ labels (cs s) (ps s) → Indices (length labelled) component_limit labelled
 labels_below s labelled e =
     subst (λ (l : List ℕ). Indices (length l) component_limit l) (sym e)
-    (labels_under (cs s) (ps s) s.requires.scene.0.ends component_limit (few s))
+    (labels_under (cs s) (ps s) s.args.plot.now.accepted.scene.ends component_limit (few s))
 
 pub find_crossings-count-requires : goal.find_crossings-count-requires
 find_crossings-count-requires c =
     let s = (goal.at.find_crossings-count-requires c).Start in
-    let r = regions_of_lem c.requires.scene.0 c.find_inputs.ensures.prepared in record {
+    let r = regions_of_lem c.args.plot.now.accepted.scene c.find_inputs.ensures.prepared in record {
       rows = (r.rows, (omega (arith, r.few, lent_long s c.find_inputs.new.backward c.find_inputs.auto.backward), r.few));
       indices = labels_below s c.find_inputs.new.labels c.find_inputs.ensures.prepared.labels_are;
     }
@@ -101,8 +98,8 @@ pub build_fed-requires : goal.build_fed-requires
 build_fed-requires c =
     let s = (goal.at.build_fed-requires c).Start in
     let p = c.find_inputs.ensures.prepared in record {
-      port_connections = (c.requires.scene.0.connections, (cs s, (few s, (p.tables.source_members, p.tables.sink_members))));
-      ports_in_bounds = (p.sources_long, (p.sinks_long, c.find_inputs.auto.forward ∙ c.requires.fed_len.0));
+      port_connections = (c.args.plot.now.accepted.scene.connections, (cs s, (few s, (p.tables.source_members, p.tables.sink_members))));
+      ports_in_bounds = (p.sources_long, (p.sinks_long, c.find_inputs.auto.forward ∙ c.requires.fed_len));
     }
 
 pub upstream_rows-requires : goal.upstream_rows-requires
@@ -112,11 +109,11 @@ upstream_rows-requires c =
       indices = (
         labels_below s c.find_inputs.new.labels c.find_inputs.ensures.prepared.labels_are,
         (
-          omega (arith, c.find_inputs.auto.labels, c.requires.fed_len.1.0, few s),
+          omega (arith, c.find_inputs.auto.labels, c.requires.labels_len.0, few s),
           omega (
             arith,
             c.find_inputs.auto.labels,
-            c.requires.fed_len.1.0,
+            c.requires.labels_len.0,
             all s,
             front_length _ c.find_inputs.new.inferred (flags_rest s)
                 (flags_long s c.find_inputs.new.inferred c.find_inputs.auto.inferred),
@@ -134,10 +131,10 @@ returns c =
     let crossed = c.find_crossings-count in
     let up = c.upstream_rows in (
       record {
-        fed_scene = fed_scene c.requires.scene.0 p c.build_fed.ensures;
+        fed_scene = fed_scene c.args.plot.now.accepted.scene p c.build_fed.ensures;
         labels_are = p.labels_are;
         keys = take crossed.result crossed.new.keys;
-        pairs = crossings_of (regions_of_lem c.requires.scene.0 p) crossed.ensures.pairs;
+        pairs = crossings_of (regions_of_lem c.args.plot.now.accepted.scene p) crossed.ensures.pairs;
         rows = rows_as p.labels_are
             (front _ c.find_inputs.new.inferred (flags_rest s) (flags_long s c.find_inputs.new.inferred c.find_inputs.auto.inferred)
             ∙ e.inferred_are) up.ensures;

@@ -1,10 +1,9 @@
 -- Answers for the goals that the search leaves.
-use mathlib.Core.Path.{ap}
+use mathlib.Core.Path.{refl}
 use Prim.Native.Nat.{◌%◌, ◌<◌}
 use native.Mathlib.Omega.{arith}
 use lib.ListN.{length, get_or}
 use Rattle.tables.specs.Pairs.{span}
-use Rattle.sets.specs.declared.ComponentSet.{ComponentSet}
 use Rattle.inputs.proofs.Asking.{sought_none, sought_more, slot_sets}
 use Rattle.inputs.proofs.asked.slot_sources.Goals as goal
 use Rattle.inputs.proofs.asked.slot_sources.Goals.{Else-key-slot}
@@ -12,7 +11,7 @@ use Rattle.inputs.proofs.asked.slot_sources.Goals.{Else-key-slot}
 pub loop-at-init : goal.loop-at-init
 loop-at-init c =
     let a = c.args in
-    (omega arith, sought_none a.fed.now a.slot a.labels.now a.upstream.now _ c.empty-immediate.ensures c.empty-inferred.ensures)
+    sought_none a.fed.now a.slot a.labels.now a.upstream.now _ c.empty-immediate.ensures c.empty-inferred.ensures
 
 -- a key of the slot names a node
 node : (c : Else-key-slot)
@@ -30,26 +29,19 @@ add_row-inferred-requires c =
 pub loop-at-preserved : goal.loop-at-preserved
 loop-at-preserved c =
     let l = c.loop-at in
-    let a = c.args in (
-      omega (arith, l.invariant.0),
-      sought_more a.fed.now a.slot a.labels.now a.upstream.now _ l.invariant.1 c.loop-at-test.true c.if-key-slot.false
-          (node (goal.at.loop-at-preserved c).Else-key-slot) _
-          c.insert-immediate.ensures c.add_row-inferred.ensures,
-    )
+    let a = c.args in
+    sought_more a.fed.now a.slot a.labels.now a.upstream.now _ l.invariant c.loop-at-test.true c.if-key-slot.false
+    (node (goal.at.loop-at-preserved c).Else-key-slot) _ c.insert-immediate.ensures c.add_row-inferred.ensures
 
 pub returns-then-key-slot : goal.returns-then-key-slot
 returns-then-key-slot c =
-    let r = c.answer_of.ensures in
-    slot_sets c.requires.ascending.0 c.lower_bound-at.ensures c.requires.indices.1.0 c.loop-at.invariant.1 c.loop-at.invariant.0
-    (λ h. c.if-key-slot.true)
-    r.0 (ap (λ (x : ComponentSet). x.words) r.1.0) (ap (λ (x : ComponentSet). x.words) r.1.1)
+    slot_sets c.requires.ascending.0 c.lower_bound-first.ensures c.requires.indices.1.0 c.loop-at.invariant c.loop-at.auto.at
+    (λ h. c.if-key-slot.true) refl refl
 
-pub returns : goal.returns
-returns c =
-    let r = c.answer_of-2.ensures in
-    slot_sets c.requires.ascending.0 c.lower_bound-at.ensures c.requires.indices.1.0 c.loop-at.invariant.1 c.loop-at.invariant.0
-    (λ h. absurd (omega (arith, c.loop-at-test.false)))
-    r.0 (ap (λ (x : ComponentSet). x.words) r.1.0) (ap (λ (x : ComponentSet). x.words) r.1.1)
+pub returns-after-loop-at : goal.returns-after-loop-at
+returns-after-loop-at c =
+    slot_sets c.requires.ascending.0 c.lower_bound-first.ensures c.requires.indices.1.0 c.loop-at.invariant c.loop-at.auto.at
+    (λ h. absurd (omega (arith, c.loop-at-test.false))) refl refl
 
 pub overflow_mul-slot : goal.overflow_mul-slot
 overflow_mul-slot c = omega (arith, c.requires.ascending.1.0)
@@ -59,9 +51,3 @@ offset_bounds-labels-source c = omega (arith, node (goal.at.offset_bounds-labels
 
 pub bounds-labels-source : goal.bounds-labels-source
 bounds-labels-source c = node (goal.at.bounds-labels-source c).Else-key-slot
-
-pub overflow_add-at : goal.overflow_add-at
-overflow_add-at c = omega (arith, c.loop-at-test.true)
-
-pub loop-at-smaller : goal.loop-at-smaller
-loop-at-smaller c = omega (arith, c.loop-at-test.true)

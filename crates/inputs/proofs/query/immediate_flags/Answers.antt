@@ -1,8 +1,8 @@
 -- Answers for the goals that the search leaves.
-use mathlib.Core.Path.{refl, ◌∙◌}
+use mathlib.Core.Path.{◌∙◌}
 use Prim.Native.Nat.{◌%◌, ◌<◌}
 use native.Mathlib.Omega.{arith}
-use lib.ListN.{length, get_or, length-set}
+use lib.ListN.{length, get_or}
 use Rattle.tables.specs.Pairs.{span}
 use Rattle.inputs.proofs.Inputs.{flagged_none, flagged_more, flagged_all}
 use Rattle.inputs.proofs.query.immediate_flags.Goals as goal
@@ -11,43 +11,32 @@ use Rattle.inputs.proofs.query.immediate_flags.Goals.{Else-key-slot}
 pub loop-at-init : goal.loop-at-init
 loop-at-init c =
     let a = c.args in
-    (omega arith, refl, rw c.clear_flags.ensures (flagged_none a.keys.now a.slot c.lower_bound-at.result (length a.flags.now)))
+    rw c.clear_flags.ensures (flagged_none a.keys.now a.slot c.lower_bound-first.result (length a.flags.now))
 
 -- a key of the slot has a flag
 room : (c : Else-key-slot) → get_or c.args.keys.now c.loop-at.at 0 % span < length c.loop-at.flags
 room c =
     omega (
       arith,
-      c.loop-at.invariant.1 ∙ c.clear_flags.auto.flags,
+      c.loop-at.auto.flags ∙ c.clear_flags.auto.flags,
       c.requires.slot_within.0.below c.loop-at.at c.loop-at-test.true c.if-key-slot.false,
     )
 
 pub loop-at-preserved : goal.loop-at-preserved
-loop-at-preserved c =
-    let l = c.loop-at in (
-      omega (arith, l.invariant.0),
-      simp length-set l.invariant.1,
-      flagged_more l.invariant.2 c.loop-at-test.true c.if-key-slot.false (room c),
-    )
+loop-at-preserved c = flagged_more c.loop-at.invariant c.loop-at-test.true c.if-key-slot.false (room c)
 
 pub returns-then-key-slot : goal.returns-then-key-slot
 returns-then-key-slot c =
-    flagged_all c.requires.ascending.0 c.lower_bound-at.ensures c.loop-at.invariant.2 c.loop-at.invariant.0 (λ h. c.if-key-slot.true)
-    (c.loop-at.invariant.1 ∙ c.clear_flags.auto.flags) c.requires.slot_within.1
+    flagged_all c.requires.ascending.0 c.lower_bound-first.ensures c.loop-at.invariant c.loop-at.auto.at (λ h. c.if-key-slot.true)
+    (c.loop-at.auto.flags ∙ c.clear_flags.auto.flags) c.requires.slot_within.1
 
 pub returns : goal.returns
 returns c =
-    flagged_all c.requires.ascending.0 c.lower_bound-at.ensures c.loop-at.invariant.2 c.loop-at.invariant.0
-    (λ h. absurd (omega (arith, c.loop-at-test.false))) (c.loop-at.invariant.1 ∙ c.clear_flags.auto.flags) c.requires.slot_within.1
+    flagged_all c.requires.ascending.0 c.lower_bound-first.ensures c.loop-at.invariant c.loop-at.auto.at
+    (λ h. absurd (omega (arith, c.loop-at-test.false))) (c.loop-at.auto.flags ∙ c.clear_flags.auto.flags) c.requires.slot_within.1
 
 pub overflow_mul-slot : goal.overflow_mul-slot
 overflow_mul-slot c = omega (arith, c.requires.ascending.1)
 
-pub shape_of-flags-then-key-slot : goal.shape_of-flags-then-key-slot
-shape_of-flags-then-key-slot c = c.loop-at.invariant.1 ∙ c.clear_flags.auto.flags
-
 pub bounds-flags-key : goal.bounds-flags-key
 bounds-flags-key c = room c
-
-pub shape_of-flags : goal.shape_of-flags
-shape_of-flags c = c.loop-at.invariant.1 ∙ c.clear_flags.auto.flags

@@ -15,30 +15,31 @@ use Rattle.lists.proofs.Table.{table_long}
 use Rattle.lists.proofs.Search.{record_within}
 use Rattle.lists.proofs.Fields.{first_non_neg}
 use Rattle.lists.proofs.Members.{member_below}
+use Rattle.regions.proofs.Fill.{zeros_cleared}
 use Rattle.signals.specs.Keys.{slot}
 use Rattle.signals.proofs.Lent.{front, front_long, front_length}
 use Rattle.inputs.specs.Inputs.{SlotOf, Walkable}
-use Rattle.inputs.proofs.Inputs.{walk_as, id_small, inputs_stack}
+use Rattle.inputs.proofs.Inputs.{walk_as, id_small}
 use Rattle.inputs.proofs.query.input_sources.Goals as goal
 use Rattle.inputs.proofs.query.input_sources.Goals.{Start}
 
 abbrev cs : Start → List ℤ
-cs s = s.args.components.now
+cs s = s.args.plot.now.components.now
 
 abbrev edge_count : Start → ℕ
-edge_count s = port_count s.args.ports.now
+edge_count s = port_count s.args.plot.now.ports.now
 
 abbrev nodes : Start → ℕ
-nodes s = length s.args.keys.now
+nodes s = length s.args.plot.now.keys.now
 
 all : (s : Start) → nodes s ≡ component_count (cs s)
-all s = table_long s.requires.scene.1.0
+all s = table_long s.args.plot.now.accepted.table
 
 edges_few : (s : Start) → edge_count s ≤ connection_limit
-edges_few s = s.requires.scene.0.connections.few
+edges_few s = s.args.plot.now.accepted.scene.connections.few
 
 nodes-few : (s : Start) → nodes s ≤ component_limit
-nodes-few s = omega (arith, all s, s.requires.scene.0.components.few)
+nodes-few s = omega (arith, all s, s.args.plot.now.accepted.scene.components.few)
 
 keys-lent : (s : Start) → length {A = ℕ} (take (edge_count s) (replicate connection_limit 0)) ≡ edge_count s
 keys-lent s = length-take-le _ _ (edges_few s)
@@ -65,37 +66,37 @@ flags_long s flags e = e ∙ flags-lent s
 pub natural_at-requires : goal.natural_at-requires
 natural_at-requires c =
     let h = c.requires.p_bound.0 in
-    (omega (arith, record_within c.args.p _ 8 h), first_non_neg c.requires.scene.0.components c.args.p h (omega arith) refl)
+    (omega (arith, record_within c.args.p _ 8 h), first_non_neg c.args.plot.now.accepted.scene.components c.args.p h (omega arith) refl)
 
 pub member_of-requires : goal.member_of-requires
 member_of-requires c =
-    omega (arith, c.natural_at.ensures, id_small c.requires.scene.0.components c.args.p c.requires.p_bound.0)
+    omega (arith, c.natural_at.ensures, id_small c.args.plot.now.accepted.scene.components c.args.p c.requires.p_bound.0)
 
 member_is : (s : Start) {m id : ℕ} → m ≡ smaller_ids (cs s) id → id ≡ (component (cs s) s.args.p).id → m ≡ member_of (cs s) s.args.p
 member_is s e d = e ∙ ap (smaller_ids (cs s)) d
 
 member_small : (s : Start) {m : ℕ} → m ≡ member_of (cs s) s.args.p → m < component_limit
-member_small s e = omega (arith, member_below (cs s) s.args.p s.requires.p_bound.0, s.requires.scene.0.components.few)
+member_small s e = omega (arith, member_below (cs s) s.args.p s.requires.p_bound.0, s.args.plot.now.accepted.scene.components.few)
 
 walk_is : (s : Start) {fed backward : List ℕ} {flags : List Bool}
     → length fed ≡ length {A = ℕ} (take (edge_count s) (replicate connection_limit 0))
     → length backward ≡ length {A = ℕ} (take (edge_count s) (replicate connection_limit 0))
     → length flags ≡ length (take (nodes s) (replicate component_limit false))
-    → Walkable (cs s) s.args.ports.now s.args.frontiers.now fed backward flags
-    → Walkable (cs s) s.args.ports.now s.args.frontiers.now (take (edge_count s) (fed ++ keys_rest s)) (take (edge_count s) (backward ++ keys_rest s))
+    → Walkable (cs s) s.args.plot.now.ports.now s.args.plot.now.frontiers.now fed backward flags
+    → Walkable (cs s) s.args.plot.now.ports.now s.args.plot.now.frontiers.now (take (edge_count s) (fed ++ keys_rest s)) (take (edge_count s) (backward ++ keys_rest s))
     (take (nodes s) (flags ++ flags_rest s))
 walk_is s {fed} {backward} {flags} e f g w =
     walk_as (front _ fed (keys_rest s) (keys_long s fed e)) (front _ backward (keys_rest s) (keys_long s backward f))
     (front _ flags (flags_rest s) (flags_long s flags g)) w
 
 slot_at : (s : Start) {m : ℕ} {fed backward : List ℕ} {flags : List Bool} → m ≡ member_of (cs s) s.args.p
-    → Walkable (cs s) s.args.ports.now s.args.frontiers.now fed backward flags
-    → SlotOf (cs s) s.args.ports.now s.args.p s.args.port fed (slot m s.args.port)
+    → Walkable (cs s) s.args.plot.now.ports.now s.args.plot.now.frontiers.now fed backward flags
+    → SlotOf (cs s) s.args.plot.now.ports.now s.args.p s.args.port fed (slot m s.args.port)
 slot_at s e w =
     record {
       fed_scene = w.fed_scene;
       place = s.requires.p_bound.0;
-      port_small = s.requires.p_bound.1.0;
+      port_small = s.requires.p_bound.1;
       slot_is = ap (λ (m : ℕ). slot m s.args.port) e;
     }
 
@@ -104,16 +105,16 @@ row_sources-requires c =
     let s = (goal.at.row_sources-requires c).Start in
     let a = c.args in
     let w = c.walk_tables in
-    let m = member_is s (c.member_of.ensures (cs s) s.requires.scene.1.0) c.natural_at.ensures in
+    let m = member_is s (c.member_of.ensures (cs s) s.args.plot.now.accepted.table) c.natural_at.ensures in
     let walk = walk_is s w.auto.fed w.auto.backward w.auto.inferred w.ensures.0 in
     record {
-      by_index = (cs s, a.ports.now, a.frontiers.now, a.p, a.port, (walk, slot_at s m walk));
+      by_index = (cs s, a.plot.now.ports.now, a.plot.now.frontiers.now, a.p, a.port, (walk, slot_at s m walk));
       inferred_in_bounds = (
         omega (
           arith,
           front_length _ w.new.inferred (flags_rest s) (flags_long s w.new.inferred w.auto.inferred),
           all s,
-          s.requires.p_bound.1.1,
+          s.requires.stack_room,
           w.auto.stack,
         ),
         w.ensures.1,
@@ -125,9 +126,14 @@ returns c =
     let s = (goal.at.returns c).Start in
     let a = c.args in
     let w = c.walk_tables in
-    let m = member_is s (c.member_of.ensures (cs s) s.requires.scene.1.0) c.natural_at.ensures in
+    let m = member_is s (c.member_of.ensures (cs s) s.args.plot.now.accepted.table) c.natural_at.ensures in
     let walk = walk_is s w.auto.fed w.auto.backward w.auto.inferred w.ensures.0 in
-    inputs_stack w.auto.stack (c.row_sources.ensures (cs s) a.ports.now a.frontiers.now a.p a.port walk (slot_at s m walk))
+    let sources = c.row_sources.ensures (cs s) a.plot.now.ports.now a.plot.now.frontiers.now a.p a.port walk (slot_at s m walk) in
+    record {
+      answer = refl;
+      sets = sources.0;
+      stack_left = zeros_cleared _ sources.1 ∙ ap (λ (k : ℕ). replicate k 0) (c.row_sources.auto.stack ∙ w.auto.stack);
+    }
 
 pub slice_bounds-fed-end : goal.slice_bounds-fed-end
 slice_bounds-fed-end c =
@@ -163,27 +169,27 @@ pub walk_tables-requires : goal.walk_tables-requires
 walk_tables-requires c =
     let s = (goal.at.walk_tables-requires c).Start in
     record {
-      scene = s.requires.scene;
-      fed_len = (keys-lent s, (keys-lent s, (flags-lent s ∙ all s, s.requires.p_bound.1.1)));
+      fed_len = (keys-lent s, keys-lent s);
+      inferred_len = (flags-lent s ∙ all s, s.requires.stack_room);
     }
 
 pub overflow_mul-p : goal.overflow_mul-p
 overflow_mul-p c =
     let s = (goal.at.overflow_mul-p c).Start in
-    omega (arith, s.requires.p_bound.0, s.requires.scene.0.components.few)
+    omega (arith, s.requires.p_bound.0, s.args.plot.now.accepted.scene.components.few)
 
 pub overflow_mul-slot : goal.overflow_mul-slot
 overflow_mul-slot c =
     let s = (goal.at.overflow_mul-slot c).Start in
-    omega (arith, member_small s (member_is s (c.member_of.ensures (cs s) c.requires.scene.1.0) c.natural_at.ensures))
+    omega (arith, member_small s (member_is s (c.member_of.ensures (cs s) c.args.plot.now.accepted.table) c.natural_at.ensures))
 
 pub overflow_add-slot : goal.overflow_add-slot
 overflow_add-slot c =
     let s = (goal.at.overflow_add-slot c).Start in
     omega (
       arith,
-      member_small s (member_is s (c.member_of.ensures (cs s) c.requires.scene.1.0) c.natural_at.ensures),
-      s.requires.p_bound.1.0,
+      member_small s (member_is s (c.member_of.ensures (cs s) c.args.plot.now.accepted.table) c.natural_at.ensures),
+      s.requires.p_bound.1,
     )
 
 pub slice_bounds-fed-end-2 : goal.slice_bounds-fed-end-2

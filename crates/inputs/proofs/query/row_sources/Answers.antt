@@ -1,7 +1,7 @@
 -- `inputs::query::row_sources` meets its contract: a slot that no key has has no source; else the flags of its keys are the
 -- immediate sources; then upstream of them.
 -- Assumes nothing.
-use mathlib.Core.Path.{◌≡◌, refl, sym, ap, ◌∙◌}
+use mathlib.Core.Path.{◌≡◌, sym, ap, ◌∙◌}
 use mathlib.Core.Bool.{Bool, false}
 use mathlib.Core.List.{List, ◌++◌}
 use Prim.Native.Nat.{ℕ, ◌≤◌}
@@ -9,7 +9,6 @@ use native.Mathlib.Omega.{arith}
 use lib.ListN.{length, take, drop, replicate}
 use lib.Seq.{length-take-le}
 use Rattle.lists.specs.Limits.{component_limit}
-use Rattle.regions.proofs.Fill.{zeros_cleared}
 use Rattle.signals.proofs.Lent.{front, front_long}
 use Rattle.inputs.specs.Inputs.{SlotOf, Walkable}
 use Rattle.inputs.proofs.Inputs.{walk_nodes, slot_asked, none_fed, immediate_set, inferred_set}
@@ -37,8 +36,7 @@ lent s = length-take-le _ _ (small s)
 -- nothing feeds the slot
 pub returns-then-not-is_fed : goal.returns-then-not-is_fed
 returns-then-not-is_fed c cs ps fs p port w q =
-    none_fed w q (sym c.is_fed.ensures ∙ c.if-not-is_fed.true)
-    (c.no_sources.ensures cs ps fs port c.args.stack.now c.requires.inferred_in_bounds.1)
+    (none_fed w q (sym c.is_fed.ensures ∙ c.if-not-is_fed.true) (c.no_sources.ensures cs ps fs port), c.requires.inferred_in_bounds.1)
 
 -- the flags of the nodes, lent from the front of an array
 abbrev rest : Start → List Bool
@@ -75,15 +73,15 @@ pub returns : goal.returns
 returns c cs ps fs p port w q =
     let s = (goal.at.returns c).Start in
     let u = c.upstream_inputs in
-    let given = rw (lent s) at c.immediate_flags.ensures in
-    record {
-      answer = refl;
-      stack_left = zeros_cleared _ u.ensures.stack_zeros ∙ ap (λ (k : ℕ). replicate k 0) u.auto.stack;
-      immediate_set = immediate_set w q (long s c.immediate_flags.new.flags c.immediate_flags.auto.flags) given
-          (front_is s c.immediate_flags.new.flags c.immediate_flags.auto.flags) c.of_flags.ensures;
-      inferred_set = inferred_set w q (long s c.immediate_flags.new.flags c.immediate_flags.auto.flags) given
-          (front_is s c.immediate_flags.new.flags c.immediate_flags.auto.flags) u.ensures;
-    }
+    let given = rw (lent s) at c.immediate_flags.ensures in (
+      record {
+        immediate_set = immediate_set w q (long s c.immediate_flags.new.flags c.immediate_flags.auto.flags) given
+            (front_is s c.immediate_flags.new.flags c.immediate_flags.auto.flags) c.of_flags.ensures;
+        inferred_set = inferred_set w q (long s c.immediate_flags.new.flags c.immediate_flags.auto.flags) given
+            (front_is s c.immediate_flags.new.flags c.immediate_flags.auto.flags) u.ensures;
+      },
+      u.ensures.stack_zeros,
+    )
 
 pub is_fed-requires : goal.is_fed-requires
 is_fed-requires c =

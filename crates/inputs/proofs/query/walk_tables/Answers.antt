@@ -14,13 +14,13 @@ use Rattle.inputs.proofs.query.walk_tables.Goals as goal
 use Rattle.inputs.proofs.query.walk_tables.Goals.{Start}
 
 abbrev nodes : Start → ℕ
-nodes s = length s.args.keys.now
+nodes s = length s.args.plot.now.keys.now
 
-all : (s : Start) → nodes s ≡ component_count s.args.components.now
-all s = table_long s.requires.scene.1.0
+all : (s : Start) → nodes s ≡ component_count s.args.plot.now.components.now
+all s = table_long s.args.plot.now.accepted.table
 
 nodes-few : (s : Start) → nodes s ≤ component_limit
-nodes-few s = omega (arith, all s, s.requires.scene.0.components.few)
+nodes-few s = omega (arith, all s, s.args.plot.now.accepted.scene.components.few)
 
 labels-lent : (s : Start) → length {A = ℕ} (take (nodes s) (replicate component_limit 0)) ≡ nodes s
 labels-lent s = length-take-le _ _ (nodes-few s)
@@ -28,23 +28,20 @@ labels-lent s = length-take-le _ _ (nodes-few s)
 pub find_inputs-requires : goal.find_inputs-requires
 find_inputs-requires c =
     let s = (goal.at.find_inputs-requires c).Start in
-    let room = c.requires.fed_len in record {
-      scene = c.requires.scene;
-      inputs_room = record {
-        forward_room = room.0;
-        backward_room = room.1.0;
-        labels_room = labels-lent s ∙ all s;
-        inferred_room = room.1.1.0;
-        stack_room = room.1.1.1;
-      };
+    record {
+      forward_room = c.requires.fed_len.0;
+      backward_room = c.requires.fed_len.1;
+      labels_room = labels-lent s ∙ all s;
+      inferred_room = c.requires.inferred_len.0;
+      stack_room = c.requires.inferred_len.1;
     }
 
 pub build_fed-requires : goal.build_fed-requires
 build_fed-requires c =
     let p = c.find_inputs.ensures.prepared in record {
       port_connections = (
-        c.requires.scene.0.connections,
-        (c.args.components.now, (c.requires.scene.0.components.few, (p.tables.source_members, p.tables.sink_members))),
+        c.args.plot.now.accepted.scene.connections,
+        (c.args.plot.now.components.now, (c.args.plot.now.accepted.scene.components.few, (p.tables.source_members, p.tables.sink_members))),
       );
       ports_in_bounds = (p.sources_long, (p.sinks_long, c.find_inputs.auto.forward ∙ c.requires.fed_len.0));
     }
@@ -54,9 +51,9 @@ returns c =
     let e = c.find_inputs.ensures in
     let t = e.prepared.tables in (
       record {
-        fed_scene = fed_scene c.requires.scene.0 e.prepared c.build_fed.ensures;
+        fed_scene = fed_scene c.args.plot.now.accepted.scene e.prepared c.build_fed.ensures;
         rising = t.backward_keys.sorted.ascending;
-        turned = graph_back c.requires.scene.0 t;
+        turned = graph_back c.args.plot.now.accepted.scene t;
         inferred_are = e.inferred_are;
       },
       e.stack_zeros,

@@ -1,8 +1,9 @@
 -- `inputs::row::with_row` meets its contract: the required ports of a kind are those of its components.
 -- Assumes nothing.
 use Rattle.std.specs.Prelude.{Some, None}
-use mathlib.Core.Path.{◌≡◌, refl, sym, ap, ◌∙◌}
-use mathlib.Core.Bool.{Bool, cond, ◌&&◌}
+use Rattle.std.specs.Bool.{then_some}
+use mathlib.Core.Path.{◌≡◌, refl, ap, ◌∙◌}
+use mathlib.Core.Bool.{Bool, true, false, cond, ◌&&◌}
 use Prim.Native.Nat.{ℕ, ◌+◌, ◌*◌, ◌≤◌}
 use native.Mathlib.Omega.{arith}
 use lib.Dec.{leb, ltb}
@@ -29,13 +30,14 @@ row c =
     c.natural_at-kind.ensures
     ∙ row_of (component c.args.components.now c.args.p) c.args.port
 
-pub returns-then-has_row : goal.returns-then-has_row
-returns-then-has_row c =
-    ap (λ (t : Bool). cond t (Some c.args.p) None) (sym c.if-has_row.true ∙ row (goal.at.returns-then-has_row c).After-has_row)
+some_if : (b : Bool) (p : ℕ) → then_some b p ≡ cond b (Some p) None
+some_if true p = refl
+some_if false p = refl
 
 pub returns : goal.returns
 returns c =
-    ap (λ (t : Bool). cond t (Some c.args.p) None) (sym c.if-has_row.false ∙ row (goal.at.returns c).After-has_row)
+    c.then_some.ensures ∙ some_if c.has_row.result c.args.p
+    ∙ ap (λ (t : Bool). cond t (Some c.args.p) None) (row (goal.at.returns c).After-has_row)
 
 pub overflow_mul-p : goal.overflow_mul-p
 overflow_mul-p c = omega (arith, within c)

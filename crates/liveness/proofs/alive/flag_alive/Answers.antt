@@ -22,8 +22,7 @@ use Rattle.signals.specs.Flags.{Flags, Indices}
 use Rattle.signals.proofs.Lent.{indices_same}
 use Rattle.signals.proofs.Within.{labels_count, labels_under, places_under}
 use Rattle.assessment.proofs.Reached.{drive_is, potential_is}
-use Rattle.liveness.specs.Scene.{SceneRegions}
-use Rattle.liveness.proofs.Inferring.{crossings_of}
+use Rattle.liveness.proofs.Inferring.{SceneRegions, regions_of_lem, crossings_of}
 use Rattle.liveness.proofs.alive.flag_alive.Goals as goal
 use Rattle.liveness.proofs.alive.flag_alive.Goals.{After-find_crossings-count}
 
@@ -54,16 +53,16 @@ module _ {cs ps : List ℤ} {forward labelled region_of : List ℕ} (r : SceneRe
 -- ---- the calls
 pub find_crossings-count-requires : goal.find_crossings-count-requires
 find_crossings-count-requires c =
-    let r = c.requires.scene_regions.2 in record {
+    let r = regions_of_lem c.args.plot.now.plot.accepted.scene c.args.plot.now.prepared in record {
       rows = (r.rows, (r.few, r.few));
       indices = labels_small r;
     }
 
 pub possible_regions-requires : goal.possible_regions-requires
 possible_regions-requires c =
-    record {
-      indices = (regions_small c.requires.scene_regions.2, c.requires.alive_room.inferred_room);
-      component_limit_in_bounds = (omega (arith, c.requires.alive_room.regions_room), omega arith);
+    let r = regions_of_lem c.args.plot.now.plot.accepted.scene c.args.plot.now.prepared in record {
+      indices = (regions_small r, omega (arith, all r, c.requires.inferred_room));
+      component_limit_in_bounds = (omega (arith, c.requires.regions_room), omega arith);
     }
 
 -- the keys that were found
@@ -77,21 +76,26 @@ keys_as e k = record { first = λ i h. omega (arith, e, k.first i h); second = �
 pub carry_marks-requires : goal.carry_marks-requires
 carry_marks-requires c =
     let below = c.find_crossings-count.ensures.below in
-    let small = labels_small c.requires.scene_regions.2 in
+    let r = regions_of_lem c.args.plot.now.plot.accepted.scene c.args.plot.now.prepared in
+    let small = labels_small r in
     let long-a = c.copy_flags.auto.out in
     let long-b = c.possible_regions.auto.possible in record {
       keys_below = (keys_as (sym long-a) below, keys_as (sym long-b) below);
-      indices = (indices_same (sym long-a) small, omega (arith, c.requires.alive_room.drive_room));
-      indices_2 = (indices_same (sym long-b) small, omega (arith, c.requires.alive_room.potential_room));
+      indices = (indices_same (sym long-a) small, omega (arith, c.requires.drive_room, all r));
+      indices_2 = (indices_same (sym long-b) small, omega (arith, c.requires.potential_room, all r));
     }
 
 pub returns : goal.returns
-returns c cs ps fs r driven inferred =
+returns c fs driven inferred =
+    let p = c.args.plot.now in
+    let cs = p.plot.components.now in
+    let ps = p.plot.ports.now in
+    let r = regions_of_lem p.plot.accepted.scene p.prepared in
     let carried = c.carry_marks in
     let possible = c.possible_regions in
     let copied = c.copy_flags in
     let found = c.find_crossings-count in
-    let room = c.requires.alive_room in
+    let room = c.requires in
     let keys = take found.result found.new.keys in
     let pairs : Crossings (signals cs ps) (labels cs ps) keys = crossings_of r found.ensures.pairs in
     let marks : Flags component_limit (holds_drive cs ps fs) copied.new.out = record {
@@ -99,14 +103,14 @@ returns c cs ps fs r driven inferred =
       at = λ k h. copied.ensures.at k (omega (arith, room.regions_room)) ∙ driven.at k h;
     } in
     let joined : Flags component_limit
-    (λ k. marked c.args.has_drive.now k || some (λ p. marked c.args.inferred.now p && eqb (get_or c.args.region_at.now p 0) k)
+    (λ k. marked c.args.has_drive.now k || some (λ p. marked c.args.inferred.now p && eqb (get_or c.args.plot.now.region_at.now p 0) k)
     (component_count cs))
     possible.new.possible =
     rw (all r) at possible.ensures in
     record {
-      drive_is = drive_is cs ps (few r) r.scene.ends pairs fs (carried.auto.out_a ∙ room.drive_room ∙ all r)
+      drive_is = drive_is cs ps (few r) r.scene.ends pairs fs (carried.auto.out_a ∙ room.drive_room)
           (by_labels r (carry keys (marked copied.new.out)) carried.ensures.0) marks;
-      potential_is = potential_is cs ps (few r) r.scene.ends pairs fs (carried.auto.out_b ∙ room.potential_room ∙ all r)
+      potential_is = potential_is cs ps (few r) r.scene.ends pairs fs (carried.auto.out_b ∙ room.potential_room)
           (by_labels r (carry keys (marked possible.new.possible)) carried.ensures.1)
           r.regions_are driven inferred joined;
     }

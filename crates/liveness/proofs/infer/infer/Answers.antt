@@ -1,82 +1,87 @@
 -- Answers for the goals that the search leaves.
-use mathlib.Core.Path.{refl}
+use mathlib.Core.Path.{sym}
 use mathlib.Core.Bool.{false}
 use Prim.Native.Nat.{◌<◌}
 use native.Mathlib.Omega.{arith}
-use lib.ListN.{length, get_or, length-set}
+use lib.ListN.{length, get_or}
+use Rattle.lists.specs.Records.{component_count}
+use Rattle.signals.specs.Flags.{Indices}
 use Rattle.signals.specs.Stages.{inferred_by}
+use Rattle.signals.proofs.Lent.{indices_same}
+use Rattle.signals.proofs.Staged.{members_below}
 use Rattle.signals.proofs.Stores.{stored}
+use Rattle.signals.proofs.Within.{places_under}
+use Rattle.liveness.proofs.Inferring.{labels_long, forward_rows, backward_rows}
 use Rattle.liveness.proofs.infer.infer.Goals as goal
 use Rattle.liveness.proofs.infer.infer.Goals.{In-loop-p}
 
 -- the component of a turn has a region and a member, and there is room for its flag
 few : (c : In-loop-p) → c.loop-p.p < 65536
-few c = omega (arith, c.loop-p-test.true, c.requires.components.0.few)
+few c = omega (arith, c.loop-p-test.true, c.args.plot.now.plot.accepted.scene.components.few)
 
-read-region : (c : In-loop-p) → c.loop-p.p < length c.args.region_at.now
-read-region c = omega (arith, c.loop-p-test.true, c.requires.indices_2.0.long)
+member_index : (c : In-loop-p) → Indices (component_count c.args.plot.now.plot.components.now) (length c.args.plot.now.labels.now) c.args.plot.now.members.now
+member_index c =
+    let p = c.args.plot.now in
+    indices_same (sym (labels_long p.plot.accepted.scene p.prepared)) (members_below p.plot.components.now p.prepared.members_are)
 
-region_below : (c : In-loop-p) → get_or c.args.region_at.now c.loop-p.p 0 < length c.args.has_drive.now
-region_below c = c.requires.indices_2.0.below c.loop-p.p c.loop-p-test.true
+region_index : (c : In-loop-p) → Indices (component_count c.args.plot.now.plot.components.now) (length c.args.has_drive.now) c.args.plot.now.region_at.now
+region_index c =
+    let p = c.args.plot.now in
+    places_under p.plot.components.now p.plot.ports.now p.plot.accepted.scene.ends _
+    (omega (arith, p.plot.accepted.scene.components.few, c.requires.has_drive_len.0)) p.prepared.regions_are
 
-read-member : (c : In-loop-p) → c.loop-p.p < length c.args.members.now
-read-member c = omega (arith, c.loop-p-test.true, c.requires.indices.0.long)
+region_below : (c : In-loop-p) → get_or c.args.plot.now.region_at.now c.loop-p.p 0 < length c.args.has_drive.now
+region_below c = (region_index c).below c.loop-p.p c.loop-p-test.true
 
 room : (c : In-loop-p) → c.loop-p.p < length c.loop-p.flags
-room c = omega (arith, c.loop-p-test.true, c.loop-p.invariant.1, c.requires.indices.1)
+room c = omega (arith, c.loop-p-test.true, c.loop-p.auto.flags, c.requires.flags_room)
 
 pub is_inferred-requires : goal.is_inferred-requires
 is_inferred-requires c =
+    let p = c.args.plot.now in
+    let scene = p.plot.accepted.scene in
+    let now = (goal.at.is_inferred-requires c).In-loop-p in
     record {
-      components = (c.requires.components.0, c.loop-p-test.true);
-      rows = (c.requires.components.1.0, (c.requires.components.1.1, c.requires.indices.0.below c.loop-p.p c.loop-p-test.true));
+      components = (scene.components, c.loop-p-test.true);
+      rows = (forward_rows scene p.prepared, (backward_rows scene p.prepared, (member_index now).below c.loop-p.p c.loop-p-test.true));
     }
+
+pub loop-p-init : goal.loop-p-init
+loop-p-init c = λ j h. absurd (omega arith)
 
 pub loop-p-preserved : goal.loop-p-preserved
 loop-p-preserved c =
     let l = c.loop-p in
-    let a = c.args in (
-      omega (arith, c.loop-p-test.true),
-      simp length-set l.invariant.1,
-      stored false (inferred_by a.components.now a.members.now a.region_at.now a.has_drive.now a.fed.now a.forward.now a.backward.now
-          a.labels.now) l.flags l.p _ (room (goal.at.loop-p-preserved c).In-loop-p) l.invariant.2
-          c.is_inferred.ensures,
-    )
+    let p = c.args.plot.now in
+    stored false (inferred_by p.plot.components.now p.members.now p.region_at.now c.args.has_drive.now c.args.fed.now p.forward.now p.backward.now
+    p.labels.now) l.flags l.p _ (room (goal.at.loop-p-preserved c).In-loop-p) l.invariant
+    c.is_inferred.ensures
 
 pub returns : goal.returns
 returns c =
     let l = c.loop-p in
     record {
-      long = omega (arith, l.invariant.1, c.requires.indices.1);
-      at = λ p h. l.invariant.2 p (omega (arith, c.loop-p-test.false));
+      long = omega (arith, l.auto.flags, c.requires.flags_room);
+      at = λ p h. l.invariant p (omega (arith, c.loop-p-test.false));
     }
 
-pub loop-p-init : goal.loop-p-init
-loop-p-init c = (omega arith, refl, λ j h. absurd (omega arith))
+pub offset_bounds-plot-p : goal.offset_bounds-plot-p
+offset_bounds-plot-p c = omega (arith, few c)
 
-pub offset_bounds-region_at-p : goal.offset_bounds-region_at-p
-offset_bounds-region_at-p c = omega (arith, few c)
-
-pub bounds-region_at-p : goal.bounds-region_at-p
-bounds-region_at-p c = read-region (goal.at.bounds-region_at-p c).In-loop-p
+pub bounds-plot-p : goal.bounds-plot-p
+bounds-plot-p c = omega (arith, c.loop-p-test.true, (region_index (goal.at.bounds-plot-p c).In-loop-p).long)
 
 pub bounds-has_drive-region : goal.bounds-has_drive-region
 bounds-has_drive-region c = region_below (goal.at.bounds-has_drive-region c).In-loop-p
 
 pub bounds-fed-region : goal.bounds-fed-region
-bounds-fed-region c = omega (arith, region_below (goal.at.bounds-fed-region c).In-loop-p, c.requires.indices_2.1)
+bounds-fed-region c = omega (arith, region_below (goal.at.bounds-fed-region c).In-loop-p, c.requires.has_drive_len.0, c.requires.has_drive_len.1)
 
-pub offset_bounds-members-p : goal.offset_bounds-members-p
-offset_bounds-members-p c = omega (arith, few (goal.at.offset_bounds-members-p c).In-loop-p)
+pub offset_bounds-plot-p-in-loop-p : goal.offset_bounds-plot-p-in-loop-p
+offset_bounds-plot-p-in-loop-p c = omega (arith, few (goal.at.offset_bounds-plot-p-in-loop-p c).In-loop-p)
 
-pub bounds-members-p : goal.bounds-members-p
-bounds-members-p c = read-member (goal.at.bounds-members-p c).In-loop-p
+pub bounds-plot-p-in-loop-p : goal.bounds-plot-p-in-loop-p
+bounds-plot-p-in-loop-p c = omega (arith, c.loop-p-test.true, (member_index (goal.at.bounds-plot-p-in-loop-p c).In-loop-p).long)
 
 pub bounds-flags-p : goal.bounds-flags-p
 bounds-flags-p c = room (goal.at.bounds-flags-p c).In-loop-p
-
-pub overflow_add-p : goal.overflow_add-p
-overflow_add-p c = omega (arith, few (goal.at.overflow_add-p c).In-loop-p)
-
-pub shape_of-flags : goal.shape_of-flags
-shape_of-flags c = c.loop-p.invariant.1

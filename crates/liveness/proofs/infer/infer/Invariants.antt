@@ -1,16 +1,11 @@
 -- `liveness::infer::infer` meets its contract: each flag up to the present one is its component's.
 -- Assumes nothing.
 use mathlib.Core.Path.{◌≡◌}
-use Prim.Native.Nat.{ℕ, ◌-◌, ◌≤◌, ◌<◌}
-use lib.ListN.{length}
+use Prim.Native.Nat.{ℕ, ◌<◌}
 use Rattle.regions.specs.Graph.{marked}
 use Rattle.signals.specs.Stages.{inferred_by}
 use Rattle.liveness.proofs.infer.infer.Given as goal
 
 abbrev pub invariant-loop-p : goal.invariant-loop-p
 invariant-loop-p l =
-    (l.p ≤ l.count) × (length l.flags ≡ length l.initial.flags)
-    × ((j : ℕ) → j < l.p → marked l.flags j ≡ inferred_by l.components l.members l.region_at l.has_drive l.fed l.forward l.backward l.labels j)
-
-abbrev pub decreases-loop-p : goal.decreases-loop-p
-decreases-loop-p l = l.count - l.p
+    (j : ℕ) → j < l.p → marked l.flags j ≡ inferred_by l.components l.plot.members.now l.plot.region_at.now l.has_drive l.fed l.plot.forward.now l.plot.backward.now l.plot.labels.now j

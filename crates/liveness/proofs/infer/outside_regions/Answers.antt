@@ -13,23 +13,17 @@ use Rattle.signals.specs.Flags.{Indices}
 use Rattle.signals.proofs.Lent.{gathered_same}
 use Rattle.signals.proofs.Staged.{members_below}
 use Rattle.signals.proofs.Within.{labels_under}
-use Rattle.liveness.specs.Scene.{PreparedScene}
 use Rattle.liveness.proofs.Inferring.{labels_long, forward_rows}
 use Rattle.liveness.proofs.Outside.{fed_is}
 use Rattle.liveness.proofs.infer.outside_regions.Goals as goal
 use Rattle.liveness.proofs.infer.outside_regions.Goals.{Start}
 
--- the prepared scene
-abbrev scene : (c : Start)
-    → PreparedScene c.args.components.now c.requires.by_index.0 c.args.forward.now c.requires.by_index.1 c.args.labels.now c.args.members.now c.requires.by_index.2
-scene c = c.requires.by_index.3
-
 -- as many labels as components
-labelled : (c : Start) → length c.args.labels.now ≡ component_count c.args.components.now
-labelled c = labels_long (scene c).scene (scene c).prepared
+labelled : (c : Start) → length c.args.plot.now.labels.now ≡ component_count c.args.plot.now.plot.components.now
+labelled c = labels_long c.args.plot.now.plot.accepted.scene c.args.plot.now.prepared
 
-small : (c : Start) → length c.args.labels.now ≤ component_limit
-small c = omega (arith, labelled c, (scene c).scene.components.few)
+small : (c : Start) → length c.args.plot.now.labels.now ≤ component_limit
+small c = omega (arith, labelled c, c.args.plot.now.plot.accepted.scene.components.few)
 
 pub slice_bounds-passive-end : goal.slice_bounds-passive-end
 slice_bounds-passive-end c =
@@ -44,14 +38,14 @@ slice_bounds-gather-end-2 c =
 pub gather-requires : goal.gather-requires
 gather-requires c =
     let s = (goal.at.gather-requires c).Start in
-    let below = members_below c.args.components.now (scene s).prepared.members_are in (
+    let below = members_below c.args.plot.now.plot.components.now s.args.plot.now.prepared.members_are in (
       record {
         long = omega (arith, labelled s, below.long);
         below = λ p h. omega (
           arith,
           labelled s,
           below.below p (omega (arith, labelled s)),
-          length-take-le (length c.args.labels.now) (replicate component_limit false) (small s),
+          length-take-le (length c.args.plot.now.labels.now) (replicate component_limit false) (small s),
         );
       },
       omega (arith, labelled s, c.passive_flags.ensures.long),
@@ -59,13 +53,13 @@ gather-requires c =
 
 -- what lies behind the gathered marks, and the length of both
 abbrev rest : Start → List Bool
-rest s = drop (length s.args.labels.now) (replicate component_limit false)
+rest s = drop (length s.args.plot.now.labels.now) (replicate component_limit false)
 
-long : (s : Start) (marks : List Bool) → length marks ≡ length (take (length s.args.labels.now) (replicate component_limit false))
-    → length marks ≡ length s.args.labels.now
+long : (s : Start) (marks : List Bool) → length marks ≡ length (take (length s.args.plot.now.labels.now) (replicate component_limit false))
+    → length marks ≡ length s.args.plot.now.labels.now
 long s marks e = e ∙ length-take-le _ _ (small s)
 
-whole : (s : Start) (marks : List Bool) → length marks ≡ length (take (length s.args.labels.now) (replicate component_limit false))
+whole : (s : Start) (marks : List Bool) → length marks ≡ length (take (length s.args.plot.now.labels.now) (replicate component_limit false))
     → length (marks ++ rest s) ≡ component_limit
 whole s marks e =
     omega (
@@ -73,32 +67,33 @@ whole s marks e =
       length-append marks (rest s),
       long s marks e,
       small s,
-      length-drop (length s.args.labels.now)
+      length-drop (length s.args.plot.now.labels.now)
           (replicate component_limit false),
     )
 
 pub slice_bounds-flag_outside-end : goal.slice_bounds-flag_outside-end
 slice_bounds-flag_outside-end c = sym (whole (goal.at.slice_bounds-flag_outside-end c).Start c.gather.new.out c.gather.auto.out)
 
-labels-below : (c : Start) → Indices (length c.args.labels.now) (length c.args.fed.now) c.args.labels.now
+labels-below : (c : Start) → Indices (length c.args.plot.now.labels.now) (length c.args.fed.now) c.args.plot.now.labels.now
 labels-below c =
-    subst (λ (l : List ℕ). Indices (length l) (length c.args.fed.now) l) (sym (scene c).prepared.labels_are)
-    (labels_under c.args.components.now c.requires.by_index.0 (scene c).scene.ends _
-    (omega (arith, (scene c).scene.components.few, c.requires.fed_len)))
+    subst (λ (l : List ℕ). Indices (length l) (length c.args.fed.now) l) (sym c.args.plot.now.prepared.labels_are)
+    (labels_under c.args.plot.now.plot.components.now c.args.plot.now.plot.ports.now c.args.plot.now.plot.accepted.scene.ends _
+    (omega (arith, c.args.plot.now.plot.accepted.scene.components.few, c.requires)))
 
 pub flag_outside-requires : goal.flag_outside-requires
 flag_outside-requires c =
     let s = (goal.at.flag_outside-requires c).Start in
     record {
-      rows = forward_rows (scene s).scene (scene s).prepared;
+      rows = forward_rows s.args.plot.now.plot.accepted.scene s.args.plot.now.prepared;
       labels_in_bounds = (omega (arith, whole s c.gather.new.out c.gather.auto.out, small s), labels-below s);
     }
 
 pub returns : goal.returns
-returns c ps backward region_of r =
+returns c =
     let s = (goal.at.returns c).Start in
-    let p = r.prepared in
-    let all = labels_long r.scene p in
-    fed_is r.scene p.tables.source_members p.tables.sink_members p.tables.forward_keys p.labels_are p.members_are (rest s)
+    let scene = c.args.plot.now.plot.accepted.scene in
+    let p = c.args.plot.now.prepared in
+    let all = labels_long scene p in
+    fed_is scene p.tables.source_members p.tables.sink_members p.tables.forward_keys p.labels_are p.members_are (rest s)
     c.passive_flags.ensures
-    (long s c.gather.new.out c.gather.auto.out ∙ all) (gathered_same all c.gather.ensures) c.requires.fed_len c.flag_outside.ensures
+    (long s c.gather.new.out c.gather.auto.out ∙ all) (gathered_same all c.gather.ensures) c.requires c.flag_outside.ensures

@@ -12,19 +12,19 @@ use Rattle.liveness.proofs.steps.analyze.Goals as goal
 use Rattle.liveness.proofs.steps.analyze.Goals.{Start}
 
 abbrev edge_count : Start → ℕ
-edge_count s = port_count s.args.ports.now
+edge_count s = port_count s.args.plot.now.ports.now
 
 abbrev nodes : Start → ℕ
-nodes s = length s.args.keys.now
+nodes s = length s.args.plot.now.keys.now
 
-all : (s : Start) → nodes s ≡ component_count s.args.components.now
-all s = table_long s.requires.scene.1.0
+all : (s : Start) → nodes s ≡ component_count s.args.plot.now.components.now
+all s = table_long s.args.plot.now.accepted.table
 
 edges_few : (s : Start) → edge_count s ≤ connection_limit
-edges_few s = s.requires.scene.0.connections.few
+edges_few s = s.args.plot.now.accepted.scene.connections.few
 
 nodes-few : (s : Start) → nodes s ≤ component_limit
-nodes-few s = omega (arith, all s, s.requires.scene.0.components.few)
+nodes-few s = omega (arith, all s, s.args.plot.now.accepted.scene.components.few)
 
 keys-lent : (s : Start) → length {A = ℕ} (take (edge_count s) (replicate connection_limit 0)) ≡ edge_count s
 keys-lent s = length-take-le _ _ (edges_few s)
@@ -36,16 +36,9 @@ pub analyze_in-requires : goal.analyze_in-requires
 analyze_in-requires c =
     let s = (goal.at.analyze_in-requires c).Start in
     record {
-      scene = c.requires.scene;
-      prepared_room = record {
-        forward_room = keys-lent s;
-        backward_room = keys-lent s;
-        labels_room = labels-lent s ∙ all s;
-        members_room = omega (arith, nodes-few s, all s);
-        regions_room = omega (arith, nodes-few s, all s);
-        stack_room = c.requires.rows_room.stack_room;
-      };
-      rows_room = c.requires.rows_room;
+      forward_room = (keys-lent s, keys-lent s);
+      labels_room = labels-lent s ∙ all s;
+      rows_room = c.requires;
     }
 
 pub slice_bounds-forward-end : goal.slice_bounds-forward-end

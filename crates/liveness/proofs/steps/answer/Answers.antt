@@ -1,27 +1,48 @@
 -- `liveness::steps::answer` meets its contract: the sets of the flags, and that of the cyclic regions.
 -- Assumes nothing.
 use mathlib.Core.Path.{refl}
+use Prim.Native.Nat.{◌≤◌}
 use native.Mathlib.Omega.{arith}
+use lib.ListN.{length}
+use Rattle.lists.specs.Limits.{component_limit}
+use Rattle.signals.proofs.Within.{labels_under}
+use Rattle.liveness.proofs.Inferring.{labels_long, forward_rows}
 use Rattle.liveness.proofs.Answers.{set_where}
 use Rattle.liveness.proofs.steps.answer.Goals as goal
+use Rattle.liveness.proofs.steps.answer.Goals.{Start}
 
 -- the lent flags are as many as regions can be
 pub find_cyclic-requires : goal.find_cyclic-requires
 find_cyclic-requires c =
+    let p = c.args.plot.now in
+    let scene = p.plot.accepted.scene in
     record {
-      rows = c.requires.rows;
-      indices = (c.requires.indices.0, omega arith);
+      rows = forward_rows scene p.prepared;
+      indices = (
+        rw p.prepared.labels_are (labels_under p.plot.components.now p.plot.ports.now scene.ends component_limit scene.components.few),
+        omega arith,
+      );
     }
+
+few : (s : Start) → length s.args.plot.now.labels.now ≤ component_limit
+few s =
+    let p = s.args.plot.now in
+    omega (arith, labels_long p.plot.accepted.scene p.prepared, p.plot.accepted.scene.components.few)
+
+pub of_flags-requires : goal.of_flags-requires
+of_flags-requires c = let s = (goal.at.of_flags-requires c).Start in (c.requires.labels_in_bounds.0, few s)
+
+pub of_flags-requires-2 : goal.of_flags-requires-2
+of_flags-requires-2 c = let s = (goal.at.of_flags-requires-2 c).Start in (c.requires.labels_in_bounds.1, few s)
 
 pub returns : goal.returns
 returns c =
     record {
-      checked_is = refl;
       regions_is = refl;
       sources_is = refl;
       inputs_is = refl;
       drive_set = c.of_flags.ensures;
       potential_set = c.of_flags-2.ensures;
-      cyclic_set = set_where c.requires.indices.1.1 c.of_flags-3.ensures c.find_cyclic.ensures;
+      cyclic_set = set_where c.requires.count.0 c.of_flags-3.ensures c.find_cyclic.ensures;
       has_drive_set = c.of_flags-4.ensures;
     }

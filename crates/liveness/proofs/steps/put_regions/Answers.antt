@@ -1,29 +1,26 @@
 -- Answers for the goals that the search leaves.
-use mathlib.Core.Path.{◌≡◌, refl, ◌∙◌}
+use mathlib.Core.Path.{◌≡◌, ◌∙◌}
 use native.Mathlib.Nat.{zero-add}
 use native.Mathlib.Numerals.{add-one}
 use native.Mathlib.Omega.{arith}
-use lib.ListN.{get_or, length-set}
+use lib.ListN.{get_or}
 use Rattle.lists.specs.First.{tabulate}
 use Rattle.assessment.proofs.Written.{one_put, put_nothing, put_more}
 use Rattle.liveness.proofs.steps.put_regions.Goals as goal
 
 pub loop-p-init : goal.loop-p-init
 unfolding tabulate
-loop-p-init c = (omega arith, refl, put_nothing _ 0)
+loop-p-init c = put_nothing _ 0
 
 pub loop-p-preserved : goal.loop-p-preserved
 unfolding tabulate
 loop-p-preserved c =
-    let l = c.loop-p in (
-      omega arith,
-      simp length-set l.invariant.1,
-      rw (add-one l.p) (put_more (omega arith) l.invariant.2
-          (rw (add-one l.p) at (one_put (get_or c.args.region_at.now l.p 0) l.regions l.p (omega (arith, l.invariant.1, c.requires.1))))),
-    )
+    let l = c.loop-p in
+    rw (add-one l.p) (put_more (omega arith) l.invariant
+    (rw (add-one l.p) at (one_put (get_or c.args.region_at.now l.p 0) l.regions l.p (omega (arith, l.auto.regions, c.requires.1)))))
 
 pub returns : goal.returns
 returns c =
     let l = c.loop-p in
     let all : l.p ≡ c.args.n = omega arith in
-    rw (← all) (l.invariant.2.is ∙ rw zero-add)
+    rw (← all) (l.invariant.is ∙ rw zero-add)

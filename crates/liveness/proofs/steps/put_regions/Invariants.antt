@@ -1,15 +1,9 @@
 -- `liveness::steps::put_regions` meets its contract: at place p the numbers of the places before it stand at the front.
 -- Assumes nothing.
-use mathlib.Core.Path.{◌≡◌}
-use Prim.Native.Nat.{◌-◌, ◌≤◌}
-use lib.ListN.{length, get_or}
+use lib.ListN.{get_or}
 use Rattle.lists.specs.First.{tabulate}
 use Rattle.assessment.specs.Rows.{Put}
 use Rattle.liveness.proofs.steps.put_regions.Given as goal
 
 abbrev pub invariant-loop-p : goal.invariant-loop-p
-invariant-loop-p l =
-    (l.p ≤ l.n) × (length l.regions ≡ length l.initial.regions) × Put (tabulate (λ q. get_or l.region_at q 0) l.p) 0 l.initial.regions l.regions l.p
-
-abbrev pub decreases-loop-p : goal.decreases-loop-p
-decreases-loop-p l = l.n - l.p
+invariant-loop-p l = Put (tabulate (λ q. get_or l.region_at q 0) l.p) 0 l.initial.regions l.regions l.p

@@ -21,59 +21,56 @@ use Rattle.signals.specs.Stages.{cyclic_at}
 use Rattle.signals.proofs.Lent.{front, front_long}
 use Rattle.signals.proofs.Ends.{ends_within}
 use Rattle.signals.proofs.Staged.{regions_few, cyclic_is}
-use Rattle.signals.proofs.Within.{labels_under}
 use Rattle.assessment.proofs.RowLaws.{sources_are, inferred_alone}
-use Rattle.liveness.specs.Scene.{PreparedScene}
-use Rattle.liveness.proofs.Inferring.{labels_long, forward_rows, graph}
+use Rattle.liveness.specs.Scene.{Scene}
+use Rattle.liveness.proofs.Inferring.{labels_long, graph}
 use Rattle.liveness.proofs.Answers.{set_all, set_where, set_same, tabulated_same}
 use Rattle.liveness.proofs.steps.report.Goals as goal
 use Rattle.liveness.proofs.steps.report.Goals.{Start}
 
 -- ---- the prepared scene
 abbrev cs : Start → List ℤ
-cs s = s.args.components.now
+cs s = s.args.plot.now.plot.components.now
 
 abbrev ps : Start → List ℤ
-ps s = s.args.ports.now
+ps s = s.args.plot.now.plot.ports.now
 
 abbrev fs : Start → List ℤ
-fs s = s.args.frontiers.now
+fs s = s.args.plot.now.plot.frontiers.now
 
 abbrev nodes : Start → ℕ
-nodes s = length s.args.labels.now
+nodes s = length s.args.plot.now.labels.now
+
+scene : (s : Start) → Scene (cs s) (ps s)
+scene s = s.args.plot.now.plot.accepted.scene
 
 few : (s : Start) → component_count (cs s) ≤ component_limit
-few s = s.requires.scene.components.few
+few s = (scene s).components.few
 
 all : (s : Start) → nodes s ≡ component_count (cs s)
-all s = labels_long s.requires.scene s.requires.prepared
+all s = labels_long (scene s) s.args.plot.now.prepared
 
 small : (s : Start) → nodes s ≤ component_limit
 small s = omega (arith, all s, few s)
 
 count_small : (s : Start) → s.args.count ≤ component_limit
-count_small s = omega (arith, s.requires.count_value.0, regions_few (cs s) (ps s) s.args.forward.now (graph s.requires.scene s.requires.prepared), few s)
+count_small s =
+    let p = s.args.plot.now in
+    omega (arith, s.requires.count_value, regions_few (cs s) (ps s) p.forward.now (graph (scene s) p.prepared), few s)
 
 lent : (s : Start) → length (take (nodes s) (replicate component_limit false)) ≡ nodes s
 lent s = length-take-le _ _ (small s)
 
 -- ---- marks
-prepared : (s : Start)
-    → PreparedScene (cs s) (ps s) s.args.forward.now s.args.backward.now s.args.labels.now s.args.members.now s.args.region_at.now
-prepared s = record { scene = s.requires.scene; sources = s.args.source_at.now; sinks = s.args.sink_at.now; prepared = s.requires.prepared }
-
 pub mark-requires : goal.mark-requires
 mark-requires c =
     let s = (goal.at.mark-requires c).Start in
     record {
-      prepared_scene = (ps s, prepared s);
-      mark_room = record {
-        frontier_room = few s;
-        inferred_room = few s;
-        regions_room = omega arith;
-        drive_room = lent s ∙ all s;
-        potential_room = lent s ∙ all s;
-      };
+      frontier_room = few s;
+      inferred_room = few s;
+      regions_room = omega arith;
+      drive_room = lent s ∙ all s;
+      potential_room = lent s ∙ all s;
     }
 
 -- marks of the nodes, lent from the front of an array of flags
@@ -96,37 +93,37 @@ marks_lent s marks e = ap length (marks_front s marks e) ∙ marks_long s marks 
 pub put_regions-requires : goal.put_regions-requires
 put_regions-requires c =
     let s = (goal.at.put_regions-requires c).Start in
-    (omega (arith, all s, c.requires.prepared.regions_are.long), omega (arith, all s, c.requires.count_value.1.0.regions_room))
+    (omega (arith, all s, c.args.plot.now.prepared.regions_are.long), omega (arith, all s, c.requires.rows_room.regions_room))
 
 pub put_sources-requires : goal.put_sources-requires
 put_sources-requires c =
     let s = (goal.at.put_sources-requires c).Start in
-    let e = c.mark.ensures (ps s) (prepared s) in record {
-      components = c.requires.scene.components;
+    let e = c.mark.ensures in record {
+      components = (scene s).components;
       components_in_bounds = (e.frontier_flags.long, e.inferred_flags.long);
-      inferred_alone = (inferred_alone (cs s) (ps s) (fs s) e.frontier_flags e.inferred_flags, c.requires.count_value.1.0.sources_room);
+      inferred_alone = (inferred_alone (cs s) (ps s) (fs s) e.frontier_flags e.inferred_flags, c.requires.rows_room.sources_room);
     }
 
 pub write_verdicts-requires : goal.write_verdicts-requires
 write_verdicts-requires c =
-    let p = c.requires.prepared in
+    let s = (goal.at.write_verdicts-requires c).Start in
+    let p = c.args.plot.now.prepared in
     let t = p.tables in record {
-      components = (c.requires.scene.components, (c.requires.scene.connections, c.requires.scene.ends));
+      components = ((scene s).components, ((scene s).connections, (scene s).ends));
       settled = (t.source_members, t.sink_members);
       ports_in_bounds = (p.sources_long, p.sinks_long);
-      numbers = (p.members_are, c.requires.count_value.1.0.inputs_room);
+      numbers = (p.members_are, c.requires.rows_room.inputs_room);
     }
 
 -- ---- the answer
 pub answer-requires : goal.answer-requires
 answer-requires c =
     let s = (goal.at.answer-requires c).Start in
-    let p = c.requires.prepared in record {
-      rows = forward_rows c.requires.scene p;
-      indices = (rw p.labels_are (labels_under (cs s) (ps s) c.requires.scene.ends component_limit (few s)), (small s, count_small s));
+    record {
+      count = (count_small s, omega (arith, count_small s, c.mark.auto.has_drive));
       labels_in_bounds = (
         omega (arith, marks_lent s c.mark.new.drive c.mark.auto.drive),
-        (omega (arith, marks_lent s c.mark.new.potential c.mark.auto.potential), omega (arith, count_small s, c.mark.auto.has_drive)),
+        omega (arith, marks_lent s c.mark.new.potential c.mark.auto.potential),
       );
     }
 
@@ -134,13 +131,12 @@ pub returns : goal.returns
 returns c =
     let s = (goal.at.returns c).Start in
     let a = c.answer.ensures in
-    let p = c.requires.prepared in
+    let p = c.args.plot.now.prepared in
     let t = p.tables in
-    let f = c.requires.prepared in
-    let e = c.mark.ensures (ps s) (prepared s) in
+    let e = c.mark.ensures in
     let n = component_count (cs s) in
-    let region_rows_lem : tabulate (λ q. get_or c.args.region_at.now q 0) (nodes s) ≡ regions_of (cs s) (ps s) =
-    tabulated_same (λ q. get_or c.args.region_at.now q 0) (region_of_place (cs s) (ps s)) (nodes s)
+    let region_rows_lem : tabulate (λ q. get_or c.args.plot.now.region_at.now q 0) (nodes s) ≡ regions_of (cs s) (ps s) =
+    tabulated_same (λ q. get_or c.args.plot.now.region_at.now q 0) (region_of_place (cs s) (ps s)) (nodes s)
     (λ q h. p.regions_are.at q (omega (arith, all s)))
     ∙ ap (tabulate (region_of_place (cs s) (ps s))) (all s) in
     let source-rows : sources_below (cs s) c.mark.new.on_frontier c.mark.new.inferred n ≡ source_rows_below (cs s) (ps s) (fs s) n =
@@ -151,21 +147,23 @@ returns c =
     c.mark.auto.potential ∙ e.potential_is in
     let verdict-rows = c.write_verdicts.ensures (fs s) record { drive_is = live; potential_is = may } in
     record {
-      answer = a.checked_is;
+      answer = refl;
+      analysis = record {
+        region_count_lem = a.regions_is ∙ c.requires.count_value;
+        source_count = ap (λ (k : ℕ). k * 2) a.sources_is ∙ c.put_sources.ensures.count ∙ ap length source-rows;
+        input_count = ap (λ (k : ℕ). k * 3) a.inputs_is ∙ verdict-rows.count;
+        drive_set = set_all (all s) live a.drive_set;
+        potential_set = set_all (all s) may a.potential_set;
+        cyclic_set = set_same c.requires.count_value
+            (λ r. ap (λ (l : List ℕ). cyclic_at c.args.plot.now.forward.now l r) p.labels_are
+            ∙ cyclic_is (cs s) (ps s) c.args.plot.now.forward.now (graph (scene s) p) (few s) t.source_members t.sink_members
+            (ends_within (cs s) (ps s) (scene s).ends) t.forward_keys r) a.cyclic_set;
+        has_drive_set = set_same c.requires.count_value (λ r. refl) (set_where (count_small s) a.has_drive_set e.region_flags);
+      };
       regions_left = c.put_regions.ensures ∙ ap (λ (l : List ℕ). laid l c.args.regions.now) region_rows_lem;
       sources_left = c.put_sources.ensures.is ∙ ap (λ (l : List ℕ). laid l c.args.sources.now) source-rows;
       inputs_left = verdict-rows.is;
-      stack_left = zeros_cleared _ c.requires.count_value.1.1;
-      region_count_lem = a.regions_is ∙ c.requires.count_value.0;
-      source_count = ap (λ (k : ℕ). k * 2) a.sources_is ∙ c.put_sources.ensures.count ∙ ap length source-rows;
-      input_count = ap (λ (k : ℕ). k * 3) a.inputs_is ∙ verdict-rows.count;
-      drive_set = set_all (all s) live a.drive_set;
-      potential_set = set_all (all s) may a.potential_set;
-      cyclic_set = set_same c.requires.count_value.0
-          (λ r. ap (λ (l : List ℕ). cyclic_at c.args.forward.now l r) p.labels_are
-          ∙ cyclic_is (cs s) (ps s) c.args.forward.now (graph c.requires.scene p) (few s) t.source_members t.sink_members
-          (ends_within (cs s) (ps s) c.requires.scene.ends) t.forward_keys r) a.cyclic_set;
-      has_drive_set = set_same c.requires.count_value.0 (λ r. refl) (set_where (count_small s) a.has_drive_set e.region_flags);
+      stack_left = zeros_cleared _ c.requires.stack_zeros;
     }
 
 pub slice_bounds-drive-end : goal.slice_bounds-drive-end

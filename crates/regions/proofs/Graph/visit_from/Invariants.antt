@@ -10,8 +10,11 @@ use Rattle.regions.proofs.Graph.visit_from.Given as goal
 
 abbrev pub invariant-loop-depth : goal.invariant-loop-depth
 invariant-loop-depth l =
-    Open (length l.fn.visited) l.fn.self.keys.now (finish (length l.fn.visited) l.fn.self.keys.now (length l.fn.visited - l.initial.depth) (frames l.initial.depth l.initial.stack) (walk_of l.initial.visited l.initial.order l.initial.done))
-    (l.initial.depth + (l.initial.done + fresh l.initial.visited)) l.initial.done l.initial.order l.initial.stack l.visited l.order l.done l.stack l.depth
+    let n = length l.fn.visited in
+    let keys = l.fn.self.keys.now in
+    let init = l.initial in
+    Open n keys (finish n keys (n - init.depth) (frames init.depth init.stack) (walk_of init.visited init.order init.done))
+    (init.depth + (init.done + fresh init.visited)) init.done init.order init.stack l.visited l.order l.done l.stack l.depth
 
 abbrev pub decreases-loop-depth : goal.decreases-loop-depth
 decreases-loop-depth l = effort (length l.fn.self.keys.now) l.visited l.depth l.stack

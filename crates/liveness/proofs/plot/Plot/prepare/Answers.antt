@@ -1,4 +1,4 @@
--- `liveness::prepare::prepare` meets its contract: the tables are the graph of the signal connections, and its regions are those of the scene.
+-- `liveness::plot::Plot::prepare` meets its contract: the tables are the graph of the signal connections, and its regions are those of the scene.
 -- Assumes nothing.
 use mathlib.Core.Path.{◌≡◌, ◌∙◌}
 use Prim.Native.Nat.{ℕ, ◌≤◌}
@@ -17,48 +17,48 @@ use Rattle.signals.specs.Stages.{Tables}
 use Rattle.signals.proofs.Ends.{ends_within}
 use Rattle.signals.proofs.Graph.{edges_signals, edges_turned}
 use Rattle.signals.proofs.Staged.{regions_are, members_below, labels_placed}
-use Rattle.liveness.proofs.prepare.prepare.Goals as goal
-use Rattle.liveness.proofs.prepare.prepare.Goals.{Start}
+use Rattle.liveness.proofs.plot.Plot.prepare.Goals as goal
+use Rattle.liveness.proofs.plot.Plot.prepare.Goals.{Start}
 
 pub build_tables-requires : goal.build_tables-requires
 build_tables-requires c =
-    let room = c.requires.prepared_room in record {
+    let room = c.requires in record {
       port_connections = (
-        c.requires.scene.0.connections,
-        (c.args.components.now, (c.requires.scene.0.components.few, c.requires.scene.1.1)),
+        c.args.self.now.accepted.scene.connections,
+        (c.args.self.now.components.now, (c.args.self.now.accepted.scene.components.few, c.args.self.now.accepted.ends)),
       );
       forward_len = (room.forward_room, room.backward_room);
     }
 
 abbrev cs : Start → List ℤ
-cs s = s.args.components.now
+cs s = s.args.self.now.components.now
 
 abbrev ps : Start → List ℤ
-ps s = s.args.ports.now
+ps s = s.args.self.now.ports.now
 
 few : (s : Start) → component_count (cs s) ≤ component_limit
-few s = s.requires.scene.0.components.few
+few s = s.args.self.now.accepted.scene.components.few
 
 -- ---- after the tables are built
 abbrev SceneTables : Start → List ℕ → List ℕ → Type 0
-SceneTables s forward backward = Tables (cs s) (ps s) s.args.sources.now s.args.sinks.now forward backward
+SceneTables s forward backward = Tables (cs s) (ps s) s.args.self.now.source_at.now s.args.self.now.sink_at.now forward backward
 
 graph : (s : Start) (forward backward : List ℕ) → SceneTables s forward backward
     → edges (component_count (cs s)) forward ≡ signals (cs s) (ps s)
-graph s forward backward t = edges_signals (few s) t.source_members t.sink_members (ends_within (cs s) (ps s) s.requires.scene.0.ends)
+graph s forward backward t = edges_signals (few s) t.source_members t.sink_members (ends_within (cs s) (ps s) s.args.self.now.accepted.scene.ends)
     t.forward_keys
 
 pub find_regions-count-requires : goal.find_regions-count-requires
 find_regions-count-requires c =
     let s = (goal.at.find_regions-count-requires c).Start in
-    let room = s.requires.prepared_room in
-    let t = c.build_tables.ensures (cs s) s.requires.scene.1.1 in record {
+    let room = s.requires in
+    let t = c.build_tables.ensures (cs s) s.args.self.now.accepted.ends in record {
       ascending = (
         t.forward_keys.sorted.ascending,
         (
           t.backward_keys.sorted.ascending,
           rw room.labels_room
-              (edges_turned (few s) t.source_members t.sink_members (ends_within (cs s) (ps s) s.requires.scene.0.ends) t.forward_keys
+              (edges_turned (few s) t.source_members t.sink_members (ends_within (cs s) (ps s) s.args.self.now.accepted.scene.ends) t.forward_keys
               t.backward_keys),
         ),
       );
@@ -74,7 +74,7 @@ find_regions-count-requires c =
 
 pub place_members-requires : goal.place_members-requires
 place_members-requires c =
-    ((c.args.components.now, c.requires.scene.1.0), omega (arith, table_long c.requires.scene.1.0, c.requires.prepared_room.members_room))
+    ((c.args.self.now.components.now, c.args.self.now.accepted.table), omega (arith, table_long c.args.self.now.accepted.table, c.requires.members_room))
 
 -- the members of all components are nodes
 indices_at : {n m k : ℕ} {index : List ℕ} → n ≡ k → m ≡ k → Indices k k index → Indices n m index
@@ -84,9 +84,9 @@ pub place_labels-requires : goal.place_labels-requires
 place_labels-requires c =
     let s = (goal.at.place_labels-requires c).Start in
     -- there is a label for each component
-    let long = c.find_regions-count.auto.labels ∙ s.requires.prepared_room.labels_room in (
-      indices_at long long (members_below (cs s) (c.place_members.ensures (cs s) s.requires.scene.1.0 s.requires.scene.0.distinct)),
-      omega (arith, long, s.requires.prepared_room.regions_room),
+    let long = c.find_regions-count.auto.labels ∙ s.requires.labels_room in (
+      indices_at long long (members_below (cs s) (c.place_members.ensures (cs s) s.args.self.now.accepted.table s.args.self.now.accepted.scene.distinct)),
+      omega (arith, long, s.requires.regions_room),
     )
 
 -- the labels of the members, of which there are as many, by another name
@@ -97,17 +97,17 @@ numbers_at members e f o = rw (e, f) at o
 pub returns : goal.returns
 returns c =
     let s = (goal.at.returns c).Start in
-    let room = s.requires.prepared_room in
-    let t = c.build_tables.ensures (cs s) s.requires.scene.1.1 in
+    let room = s.requires in
+    let t = c.build_tables.ensures (cs s) s.args.self.now.accepted.ends in
     let regions = regions_are (cs s) (ps s) c.build_tables.new.forward (graph s _ _ t)
     (rw room.labels_room at c.find_regions-count.ensures) in
-    let numbers = c.place_members.ensures (cs s) s.requires.scene.1.0 s.requires.scene.0.distinct in
+    let numbers = c.place_members.ensures (cs s) s.args.self.now.accepted.table s.args.self.now.accepted.scene.distinct in
     let long = c.find_regions-count.auto.labels ∙ room.labels_room in
     record {
       prepared = record {
         tables = t;
-        sources_long = s.requires.scene.1.1.sources_long;
-        sinks_long = s.requires.scene.1.1.sinks_long;
+        sources_long = s.args.self.now.accepted.ends.sources_long;
+        sinks_long = s.args.self.now.accepted.ends.sinks_long;
         labels_are = regions.0;
         members_are = numbers;
         regions_are = labels_placed (cs s) numbers (ps s) (numbers_at c.place_members.new.members long regions.0 c.place_labels.ensures);
