@@ -8,7 +8,6 @@ use Prim.Native.Nat.{ℕ, ◌≤◌}
 use native.Mathlib.Omega.{arith}
 use lib.Dec.{eqb}
 use lib.ListN.{length, get_or, take}
-use lib.Seq.{length-take-le}
 use lib.IntN.{ℤ}
 use Rattle.lists.specs.Limits.{component_limit}
 use Rattle.lists.specs.Records.{component_count}
@@ -65,11 +64,6 @@ possible_regions-requires c =
       component_limit_in_bounds = (omega (arith, c.requires.regions_room), omega arith);
     }
 
--- the keys that were found
-lent : (c : After-find_crossings-count)
-    → length (take c.find_crossings-count.result c.find_crossings-count.new.keys) ≡ c.find_crossings-count.result
-lent c = length-take-le _ _ c.find_crossings-count.ensures.few
-
 keys_as : {m n : ℕ} {keys : List ℕ} → m ≡ n → KeysBelow m keys → KeysBelow n keys
 keys_as e k = record { first = λ i h. omega (arith, e, k.first i h); second = λ i h. omega (arith, e, k.second i h) }
 
@@ -114,6 +108,3 @@ returns c fs driven inferred =
           (by_labels r (carry keys (marked possible.new.possible)) carried.ensures.1)
           r.regions_are driven inferred joined;
     }
-
-pub slice_bounds-carry_marks-end : goal.slice_bounds-carry_marks-end
-slice_bounds-carry_marks-end c = sym (lent ((goal.at.slice_bounds-carry_marks-end c).After-find_crossings-count))

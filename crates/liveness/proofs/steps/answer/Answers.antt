@@ -1,13 +1,11 @@
 -- `liveness::steps::answer` meets its contract: the sets of the flags, and that of the cyclic regions.
 -- Assumes nothing.
-use mathlib.Core.Path.{refl}
 use Prim.Native.Nat.{◌≤◌}
 use native.Mathlib.Omega.{arith}
 use lib.ListN.{length}
 use Rattle.lists.specs.Limits.{component_limit}
 use Rattle.signals.proofs.Within.{labels_under}
 use Rattle.liveness.proofs.Inferring.{labels_long, forward_rows}
-use Rattle.liveness.proofs.Answers.{set_where}
 use Rattle.liveness.proofs.steps.answer.Goals as goal
 use Rattle.liveness.proofs.steps.answer.Goals.{Start}
 
@@ -34,15 +32,3 @@ of_flags-requires c = let s = (goal.at.of_flags-requires c).Start in (c.requires
 
 pub of_flags-requires-2 : goal.of_flags-requires-2
 of_flags-requires-2 c = let s = (goal.at.of_flags-requires-2 c).Start in (c.requires.labels_in_bounds.1, few s)
-
-pub returns : goal.returns
-returns c =
-    record {
-      regions_is = refl;
-      sources_is = refl;
-      inputs_is = refl;
-      drive_set = c.of_flags.ensures;
-      potential_set = c.of_flags-2.ensures;
-      cyclic_set = set_where c.requires.count.0 c.of_flags-3.ensures c.find_cyclic.ensures;
-      has_drive_set = c.of_flags-4.ensures;
-    }

@@ -18,13 +18,6 @@ use Rattle.signals.proofs.Tabulated.{first_cong}
 use Rattle.signals.proofs.Within.{places_under}
 use Rattle.liveness.proofs.steps.flag_drive.Goals as goal
 
-pub drive_flags-requires : goal.drive_flags-requires
-drive_flags-requires c =
-    record {
-      components = c.requires.scene.1.0.components;
-      components_in_bounds = (c.frontier_flags.ensures.long, c.requires.components_in_bounds.1.0);
-    }
-
 pub gather-requires : goal.gather-requires
 gather-requires c =
     let cs = c.args.components.now in
@@ -63,9 +56,3 @@ returns c ps placed =
       region_flags = regions_driven c.args.components.now ps fs (c.gather.auto.out ∙ c.requires.components_in_bounds.1.1) placed drives
           c.gather.ensures;
     }
-
-pub frontier_flags-requires : goal.frontier_flags-requires
-frontier_flags-requires c = record {
-  components_value = c.requires.scene.1.0.ascending;
-  components_in_bounds = c.requires.components_in_bounds.0;
-}

@@ -4,13 +4,12 @@ use mathlib.Core.Path.{◌≡◌, ◌∙◌}
 use Prim.Native.Nat.{ℕ, ◌≤◌}
 use mathlib.Core.List.{List}
 use native.Mathlib.Omega.{arith}
-use lib.ListN.{length, get_or}
+use lib.ListN.{get_or}
 use lib.IntN.{ℤ}
 use Rattle.lists.specs.Limits.{component_limit}
 use Rattle.lists.specs.Records.{component_count}
 use Rattle.lists.proofs.Table.{table_long}
 use Rattle.regions.specs.Keys.{edges}
-use Rattle.regions.proofs.Fill.{cleared_zeros}
 use Rattle.signals.specs.Signals.{signals}
 use Rattle.signals.specs.Flags.{Indices, Numbers}
 use Rattle.signals.specs.Stages.{Tables}
@@ -19,16 +18,6 @@ use Rattle.signals.proofs.Graph.{edges_signals, edges_turned}
 use Rattle.signals.proofs.Staged.{regions_are, members_below, labels_placed}
 use Rattle.liveness.proofs.plot.Plot.prepare.Goals as goal
 use Rattle.liveness.proofs.plot.Plot.prepare.Goals.{Start}
-
-pub build_tables-requires : goal.build_tables-requires
-build_tables-requires c =
-    let room = c.requires in record {
-      port_connections = (
-        c.args.self.now.accepted.scene.connections,
-        (c.args.self.now.components.now, (c.args.self.now.accepted.scene.components.few, c.args.self.now.accepted.ends)),
-      );
-      forward_len = (room.forward_room, room.backward_room);
-    }
 
 abbrev cs : Start → List ℤ
 cs s = s.args.self.now.components.now
@@ -48,29 +37,19 @@ graph : (s : Start) (forward backward : List ℕ) → SceneTables s forward back
 graph s forward backward t = edges_signals (few s) t.source_members t.sink_members (ends_within (cs s) (ps s) s.args.self.now.accepted.scene.ends)
     t.forward_keys
 
-pub find_regions-count-requires : goal.find_regions-count-requires
-find_regions-count-requires c =
-    let s = (goal.at.find_regions-count-requires c).Start in
+pub find_regions-count-requires-clause-ascending : goal.find_regions-count-requires-clause-ascending
+find_regions-count-requires-clause-ascending c =
+    let s = (goal.at.find_regions-count-requires-clause-ascending c).Start in
     let room = s.requires in
-    let t = c.build_tables.ensures (cs s) s.args.self.now.accepted.ends in record {
-      ascending = (
-        t.forward_keys.sorted.ascending,
-        (
-          t.backward_keys.sorted.ascending,
-          rw room.labels_room
-              (edges_turned (few s) t.source_members t.sink_members (ends_within (cs s) (ps s) s.args.self.now.accepted.scene.ends) t.forward_keys
-              t.backward_keys),
-        ),
-      );
-      labels_len_bound = (
-        omega (arith, room.labels_room, few s),
-        (
-          omega (arith, room.labels_room, room.stack_room, c.clear.auto.numbers),
-          rw c.clear.ensures
-              (cleared_zeros (length s.args.stack.now)),
-        ),
-      );
-    }
+    let t = c.build_tables.ensures (cs s) s.args.self.now.accepted.ends in (
+      t.forward_keys.sorted.ascending,
+      (
+        t.backward_keys.sorted.ascending,
+        rw room.labels_room
+            (edges_turned (few s) t.source_members t.sink_members (ends_within (cs s) (ps s) s.args.self.now.accepted.scene.ends) t.forward_keys
+            t.backward_keys),
+      ),
+    )
 
 pub place_members-requires : goal.place_members-requires
 place_members-requires c =
@@ -115,6 +94,3 @@ returns c =
       count = regions.1;
       stack_zeros = c.find_regions-count.ensures.stack_zeros;
     }
-
-pub shape_of-stack : goal.shape_of-stack
-shape_of-stack c = c.find_regions-count.auto.stack ∙ c.clear.auto.numbers
