@@ -15,10 +15,6 @@ use Rattle.liveness.proofs.Inferring.{labels_long, forward_rows, backward_rows}
 use Rattle.liveness.proofs.infer.infer.Goals as goal
 use Rattle.liveness.proofs.infer.infer.Goals.{In-loop-p}
 
--- the component of a turn has a region and a member, and there is room for its flag
-few : (c : In-loop-p) → c.loop-p.p < 65536
-few c = omega (arith, c.loop-p-test.true, c.args.plot.now.plot.accepted.scene.components.few)
-
 member_index : (c : In-loop-p) → Indices (component_count c.args.plot.now.plot.components.now) (length c.args.plot.now.labels.now) c.args.plot.now.members.now
 member_index c =
     let p = c.args.plot.now in
