@@ -15,6 +15,7 @@ use Rattle.lists.proofs.Table.{table_long}
 use Rattle.signals.specs.Regions.{labels}
 use Rattle.signals.specs.Flags.{Indices}
 use Rattle.signals.proofs.Lent.{front, front_long, front_length}
+use Rattle.std.proofs.Common.{rules}
 use Rattle.signals.proofs.Within.{labels_under}
 use Rattle.liveness.proofs.Inferring.{regions_of_lem, crossings_of}
 use Rattle.inputs.proofs.Inputs.{fed_scene}
@@ -86,9 +87,9 @@ labels_below s labelled e =
     subst (λ (l : List ℕ). Indices (length l) component_limit l) (sym e)
     (labels_under (cs s) (ps s) s.args.plot.now.accepted.scene.ends component_limit (few s))
 
-pub find_crossings-count-requires : goal.find_crossings-count-requires
-find_crossings-count-requires c =
-    let s = (goal.at.find_crossings-count-requires c).Start in
+pub find_crossings-crossings-requires : goal.find_crossings-crossings-requires
+find_crossings-crossings-requires c =
+    let s = (goal.at.find_crossings-crossings-requires c).Start in
     let r = regions_of_lem c.args.plot.now.accepted.scene c.find_inputs.ensures.prepared in record {
       rows = (r.rows, (omega (arith, r.few, lent_long s c.find_inputs.new.backward c.find_inputs.auto.backward), r.few));
       indices = labels_below s c.find_inputs.new.labels c.find_inputs.ensures.prepared.labels_are;
@@ -112,7 +113,7 @@ upstream_rows-requires c =
           ),
         ),
       );
-      keys_below = (c.find_crossings-count.ensures.below, c.requires.upstream_len);
+      keys_below = (c.find_crossings-crossings.ensures.below, c.requires.upstream);
     }
 
 pub returns : goal.returns
@@ -120,17 +121,17 @@ returns c =
     let s = (goal.at.returns c).Start in
     let e = c.find_inputs.ensures in
     let p = e.prepared in
-    let crossed = c.find_crossings-count in
+    let crossed = c.find_crossings-crossings in
     let up = c.upstream_rows in (
       record {
         fed_scene = fed_scene c.args.plot.now.accepted.scene p c.build_fed.ensures;
         labels_are = p.labels_are;
-        keys = take crossed.result crossed.new.keys;
+        keys = crossed.result.now;
         pairs = crossings_of (regions_of_lem c.args.plot.now.accepted.scene p) crossed.ensures.pairs;
         rows = rows_as p.labels_are
             (front _ c.find_inputs.new.inferred (flags_rest s) (flags_long s c.find_inputs.new.inferred c.find_inputs.auto.inferred)
             ∙ e.inferred_are) up.ensures;
-        rows_long = up.auto.rows ∙ c.requires.upstream_len.0;
+        rows_long = search rules;
       },
       e.stack_zeros,
     )
@@ -150,7 +151,7 @@ slice_bounds-inferred-end-2 c =
     let s = (goal.at.slice_bounds-inferred-end-2 c).Start in
     front_long _ c.find_inputs.new.inferred (flags_rest s) (flags_long s c.find_inputs.new.inferred c.find_inputs.auto.inferred)
 
-pub slice_bounds-upstream_rows-end-2 : goal.slice_bounds-upstream_rows-end-2
-slice_bounds-upstream_rows-end-2 c =
-    let s = (goal.at.slice_bounds-upstream_rows-end-2 c).Start in
+pub slice_bounds-upstream_rows-end : goal.slice_bounds-upstream_rows-end
+slice_bounds-upstream_rows-end c =
+    let s = (goal.at.slice_bounds-upstream_rows-end c).Start in
     front_length _ c.find_inputs.new.inferred (flags_rest s) (flags_long s c.find_inputs.new.inferred c.find_inputs.auto.inferred)
