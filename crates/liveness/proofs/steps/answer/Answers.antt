@@ -28,7 +28,11 @@ few s =
     omega (arith, labels_long p.plot.accepted.scene p.prepared, p.plot.accepted.scene.components.few)
 
 pub of_flags-requires : goal.of_flags-requires
-of_flags-requires c = let s = (goal.at.of_flags-requires c).Start in (c.requires.labels_in_bounds.0, few s)
+of_flags-requires c =
+    let room = c.requires.labels_in_bounds in
+    (omega (arith, room.0, room.1), few (goal.at.of_flags-requires c).Start)
 
 pub of_flags-requires-2 : goal.of_flags-requires-2
-of_flags-requires-2 c = let s = (goal.at.of_flags-requires-2 c).Start in (c.requires.labels_in_bounds.1, few s)
+of_flags-requires-2 c =
+    let room = c.requires.labels_in_bounds in
+    (omega (arith, room.0, room.1), few (goal.at.of_flags-requires-2 c).Start)
