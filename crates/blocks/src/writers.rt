@@ -6,6 +6,7 @@ ghost use Rattle.blocks.specs.Blocks.{blank_if};
 
 use lines::write::{digit_count, put_byte, put_bytes, put_digits};
 
+#[tactic(auto, using(lines::proofs::Writing::placed))]
 fn put_text(out: &mut [u8], at: usize, bytes: &[u8]) -> usize
     requires { at + length bytes.now ≤ length out.old }
     ensures { Put at bytes.now out.old out.new result }
@@ -13,6 +14,7 @@ fn put_text(out: &mut [u8], at: usize, bytes: &[u8]) -> usize
     at + put_bytes(&mut out[at..], bytes)
 }
 
+#[tactic(auto, using(lines::proofs::Writing::placed))]
 pub(crate) fn put_sign(out: &mut [u8], at: usize, b: u8) -> usize
     requires { at + 1 ≤ length out.old }
     ensures { Put at (b ∷ []) out.old out.new result }
@@ -20,6 +22,7 @@ pub(crate) fn put_sign(out: &mut [u8], at: usize, b: u8) -> usize
     at + put_byte(&mut out[at..], b)
 }
 
+#[tactic(auto, using(lines::proofs::Writing::placed))]
 fn put_decimal(out: &mut [u8], at: usize, n: u64) -> usize
     requires { at + length (digits n []) ≤ length out.old }
     ensures { Put at (digits n []) out.old out.new result }
