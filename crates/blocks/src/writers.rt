@@ -40,6 +40,7 @@ pub(crate) fn put_key(out: &mut [u8], at: usize, key: &[u8]) -> usize
 }
 
 // The line of a key and a number with no sign.
+#[tactic(auto, using(crate::proofs::Pieces::natural_pieces))]
 pub(crate) fn put_natural(out: &mut [u8], at: usize, key: &[u8], value: u64) -> usize
     requires { at + length (line_of key.now (pos value)) ≤ length out.old }
     ensures { Put at (line_of key.now (pos value)) out.old out.new result }
@@ -50,6 +51,7 @@ pub(crate) fn put_natural(out: &mut [u8], at: usize, key: &[u8], value: u64) -> 
 }
 
 // A number, and a blank where more follow.
+#[tactic(auto, using(crate::proofs::Pieces::id_blank))]
 pub(crate) fn put_id(out: &mut [u8], at: usize, id: u64, more: bool) -> usize
     requires { at + length (digits id (blank_if more)) ≤ length out.old }
     ensures { Put at (digits id (blank_if more)) out.old out.new result }
@@ -62,6 +64,7 @@ pub(crate) fn put_id(out: &mut [u8], at: usize, id: u64, more: bool) -> usize
 }
 
 // How many bytes these take.
+#[tactic(auto, using(crate::proofs::Pieces::id_sizes))]
 pub(crate) fn id_length(id: u64, more: bool) -> usize
     ensures { result ≡ length (digits id (blank_if more)) }
 {

@@ -7,7 +7,7 @@ use Rattle.lines.specs.Wrote.{Put}
 use Rattle.lines.proofs.Writing.{put_room, put_put}
 use Rattle.blocks.specs.Lines.{set_line}
 use Rattle.blocks.specs.Blocks.{ids_in}
-use Rattle.blocks.proofs.IdText.{listed, ids_first, ids_room, ids_on, ids_last, ids_done}
+use Rattle.blocks.proofs.IdText.{listed, ids_first, ids_room, ids_on, ids_done}
 use Rattle.blocks.proofs.ids.put_ids.Goals as goal
 
 parts : (key text : List ℕ) → (key ++ (61 ∷ [])) ++ text ≡ key ++ 61 ∷ text
