@@ -15,6 +15,7 @@ use Prim.Native.Nat.{ℕ, zero, suc, ◌+◌, ◌*◌, ◌≤◌, ◌<◌}
 use native.Mathlib.Nat.{zero-add, add-mul, zero-mul, mul-suc}
 use native.Mathlib.Numerals.{add-one}
 use native.Mathlib.Omega.{arith}
+use Rattle.std.proofs.lemmas.Grind.{common_steps}
 use lib.ListN.{length, length-append}
 use Rattle.lists.proofs.Search.{never}
 use Rattle.signals.specs.Sources.{source_kind}
@@ -60,24 +61,11 @@ pub record Few (row : List ℕ) (width most : ℕ) : Type 0 where
 
 pub count_most : (kind : ℕ) → required_count kind ≤ 4
 unfolding required_count
-count_most zero = omega arith
-count_most (suc zero) = omega arith
-count_most (suc (suc zero)) = omega arith
-count_most (suc (suc (suc zero))) = omega arith
-count_most (suc (suc (suc (suc zero)))) = omega arith
-count_most (suc (suc (suc (suc (suc zero))))) = omega arith
-count_most (suc (suc (suc (suc (suc (suc zero)))))) = omega arith
-count_most (suc (suc (suc (suc (suc (suc (suc zero))))))) = omega arith
-count_most (suc (suc (suc (suc (suc (suc (suc (suc zero)))))))) = omega arith
-count_most (suc (suc (suc (suc (suc (suc (suc (suc (suc kind))))))))) = omega arith
+count_most kind = grind (arith, common_steps)
 
 pub first_most : (kind : ℕ) → first_required kind ≤ 4
 unfolding first_required
-first_most zero = omega arith
-first_most (suc zero) = omega arith
-first_most (suc (suc zero)) = omega arith
-first_most (suc (suc (suc zero))) = omega arith
-first_most (suc (suc (suc (suc kind)))) = omega arith
+first_most kind = grind (arith, common_steps)
 
 pub device_few : (id kind first : ℕ) (status : ℕ → ℕ) → Few (device_rows id first status (required_count kind)) 3 12
 device_few id kind first status =
@@ -94,12 +82,10 @@ sources_few id None false true alone = record { turns = 1; whole = refl; few = o
 sources_few id None false false alone = record { turns = 0; whole = refl; few = omega arith }
 
 pub kind_few : (id : ℕ) (found : Option ℕ) → length (kind_row id found) ≤ 2
-kind_few id (Some k) = omega arith
-kind_few id None = omega arith
+kind_few id found = grind (arith, common_steps)
 
 pub row_is : (test : Bool) (id : ℕ) (kind : SourceKind) → kind_row id (option_map source_number (then_some test kind)) ≡ row_if test id (source_number kind)
-row_is true id kind = refl
-row_is false id kind = refl
+row_is test id kind = grind (arith, common_steps)
 
 -- ---- numbers read from the list
 

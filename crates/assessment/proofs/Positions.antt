@@ -22,6 +22,7 @@ use Rattle.std.specs.Simd.{first_chunks}
 use Rattle.std.specs.List.Sorted.{IsPartitionedBy, IsPartitionPoint}
 use Rattle.std.proofs.lemmas.List.{get_or-take, get_or-drop}
 use native.Mathlib.Omega.{arith}
+use Rattle.std.proofs.lemmas.Grind.{common_steps}
 use lib.IntN.{ℤ}
 use lib.Signed.{lt_z}
 use Rattle.tables.specs.Laws.{order?}
@@ -87,20 +88,13 @@ pub equal_tuples : (a b c x y z : ℤ) → ((int_eq a x && int_eq b y) && int_eq
 equal_tuples a b c x y z = rw (equal_is a x, equal_is b y, equal_is c z) (and_three (eq_z a x) (eq_z b y) (eq_z c z))
   where
     and_three : (s t u : Bool) → ((s && t) && u) ≡ (s && (t && u))
-    and_three true t u = refl
-    and_three false t u = refl
+    and_three s t u = grind (arith, common_steps)
 
 less_by : (p q r s t u : Bool)
     → is_some_and is_lt (partial_ordering_then (partial_ordering_then (Some (cond p Less (cond q Greater Equal))) (Some (cond r Less (cond s Greater Equal))))
     (Some (cond t Less (cond u Greater Equal))))
     ≡ (p || (not q && (r || (not s && t))))
-less_by true q r s t u = refl
-less_by false true r s t u = refl
-less_by false false true s t u = refl
-less_by false false false true t u = refl
-less_by false false false false true u = refl
-less_by false false false false false true = refl
-less_by false false false false false false = refl
+less_by p q r s t u = grind (arith, common_steps)
 
 pub less_tuples : (a b c x y z : ℤ)
     → is_some_and is_lt (partial_ordering_then (partial_ordering_then (Some (int_cmp a x)) (Some (int_cmp b y))) (Some (int_cmp c z)))

@@ -3,18 +3,18 @@
 --     port_rows_lem                 the rows of all ports
 --     row_of                    whether a port has a row
 -- Assumes nothing.
-use mathlib.Core.Path.{◌≡◌, refl, sym, ap, ◌∙◌}
+use mathlib.Core.Path.{◌≡◌, refl, ap, ◌∙◌}
 use mathlib.Core.Bool.{Bool, true, false, not, ◌&&◌, ◌||◌}
 use mathlib.Core.List.{List, [], append-nil}
-use mathlib.Core.Logic.{⊎_elim}
 use Prim.Native.Nat.{ℕ, zero, suc, ◌+◌, ◌-◌, ◌≤◌, ◌<◌}
 use native.Mathlib.Nat.{add-zero, add-suc}
 use native.Mathlib.Omega.{arith}
+use Rattle.std.proofs.lemmas.Grind.{common_steps}
+use Rattle.std.proofs.lemmas.Bool.Decides.{nat_tests}
 use lib.Dec.{eqb, leb, ltb}
 use lib.ListN.{length}
 use lib.IntN.{ℤ}
-use borrow.Author.Tests.{ne_eqb, not-true, le-leb, lt-leb, lt-ltb, le-ltb}
-use Rattle.tables.specs.Laws.{order?}
+use borrow.Author.Tests.{not-true}
 use Rattle.lists.specs.Records.{Component, component}
 use Rattle.lists.specs.First.{all_from}
 use Rattle.lists.proofs.Search.{all_at}
@@ -32,11 +32,7 @@ quiet face = all_from (λ k. not (eqb (port_at (repeater_ports face) k).role Inp
 
 face_named : (face : ℕ) → (1 ≤ face_or North face) × (face_or North face < 7)
 face_named zero = rw (face_or_zero North) (omega arith, omega arith)
-face_named (suc n) =
-    ⊎_elim
-    (λ (le : 7 ≤ suc n). rw (face_or_above North (suc n) (omega arith)) (omega arith, omega arith))
-    (λ (lt : suc n < 7). rw (face_or_named North (suc n) (omega arith) lt) (omega arith, omega arith))
-    (order? 7 (suc n))
+face_named (suc n) = (grind (arith, common_steps, face_or_above North (suc n), face_or_named North (suc n)), grind (arith, common_steps, face_or_above North (suc n), face_or_named North (suc n)))
 
 repeater_quiet : (face k : ℕ) → 1 ≤ face → face < 7 → 2 ≤ k → k < length (repeater_ports face) → eqb (port_at (repeater_ports face) k).role Input ≡ false
 unfolding all_from repeater_ports neither opposite
@@ -60,8 +56,7 @@ record Run (kind facing support conducts first count : ℕ) : Type 0 where
 
 -- of a device that is no torch, the Inputs are required
 inputs : (d i t c : Bool) → d ≡ true → t ≡ false → (d && (i || (t && c))) ≡ i
-inputs d true t c e f = rw e
-inputs d false t c e f = rw (e, f)
+inputs d i t c e f = grind (arith, common_steps)
 
 abbrev is_input : ℕ → ℕ → Bool
 is_input face k = eqb (port_at (repeater_ports face) k).role Input
@@ -103,7 +98,7 @@ no_run kind facing support conducts e = record {
 
 no_device : (kind : ℕ) → 9 ≤ kind → is_device kind ≡ false
 no_device kind h =
-    rw (ne_eqb kind 1 (λ e. omega arith), ne_eqb kind 2 (λ e. omega arith), ne_eqb kind torch (λ e. omega arith)) (ne_eqb kind 8 (λ e. omega arith))
+    grind (arith, common_steps)
 
 run_of : (kind facing support conducts : ℕ) → Run kind facing support conducts (first_required kind) (required_count kind)
 unfolding ports_for first_required required_count
@@ -118,11 +113,7 @@ run_of (suc (suc (suc zero))) facing support conducts = record {
 }
   where
     torch_dark : (k : ℕ) → k < 4 → required 3 facing support conducts k ≡ false
-    torch_dark zero h = refl
-    torch_dark (suc zero) h = refl
-    torch_dark (suc (suc zero)) h = refl
-    torch_dark (suc (suc (suc zero))) h = refl
-    torch_dark (suc (suc (suc (suc k)))) h = absurd (omega arith)
+    torch_dark k h = grind (arith, common_steps)
 run_of (suc (suc (suc (suc zero)))) facing support conducts = no_run 4 facing support conducts refl
 run_of (suc (suc (suc (suc (suc zero))))) facing support conducts = no_run 5 facing support conducts refl
 run_of (suc (suc (suc (suc (suc (suc zero)))))) facing support conducts = no_run 6 facing support conducts refl
@@ -135,11 +126,7 @@ run_of (suc (suc (suc (suc (suc (suc (suc (suc zero)))))))) facing support condu
 }
   where
     piston_lit : (j : ℕ) → j < 4 → required 8 facing support conducts (0 + j) ≡ true
-    piston_lit zero h = refl
-    piston_lit (suc zero) h = refl
-    piston_lit (suc (suc zero)) h = refl
-    piston_lit (suc (suc (suc zero))) h = refl
-    piston_lit (suc (suc (suc (suc k)))) h = absurd (omega arith)
+    piston_lit j h = grind (arith, common_steps)
 run_of (suc (suc (suc (suc (suc (suc (suc (suc (suc kind))))))))) facing support conducts =
     let past = suc (suc (suc (suc (suc (suc (suc (suc (suc kind)))))))) in
     no_run past facing support conducts (no_device past (omega arith))
@@ -184,26 +171,10 @@ module _ (cs ps fs : List ℤ) (p : ℕ) where
 -- ---- the ports with a row, by their run
 
 pub and_none : (t : Bool) → (t && false) ≡ false
-and_none true = refl
-and_none false = refl
+and_none t = grind (arith, common_steps)
 
 pub row_of : (c : Component) (port : ℕ)
     → (leb (first_required c.kind) port && ltb port (first_required c.kind + required_count c.kind)) ≡ (ltb port (length (ports_of c)) && is_required c port)
 row_of c port =
     let r = run_of c.kind c.facing c.support c.conducts in
-    let first = first_required c.kind in
-    let n = required_count c.kind in
-    let fits = r.fits in
-    ⊎_elim
-    (λ (le : first ≤ port). ⊎_elim
-    (λ (past : first + n ≤ port). rw (le-leb first port le, le-ltb port (first + n) past) (⊎_elim
-    (λ (out : length (ports_of c) ≤ port). rw (le-ltb port (length (ports_of c)) out))
-    (λ (here : port < length (ports_of c)). sym (ap (λ (t : Bool). ltb port (length (ports_of c)) && t) (r.after port past here) ∙ and_none (ltb port (length (ports_of c)))))
-    (order? (length (ports_of c)) port)))
-    (λ (less : port < first + n).
-    let is : first + (port - first) ≡ port = omega arith in
-    rw (le-leb first port le, lt-ltb port (first + n) less, lt-ltb port (length (ports_of c)) (omega arith)) (sym (ap (is_required c) (sym is) ∙ r.inside (port - first) (omega arith))))
-    (order? (first + n) port))
-    (λ (less : port < first).
-    rw (lt-leb first port less) (sym (ap (λ (t : Bool). ltb port (length (ports_of c)) && t) (r.before port less) ∙ and_none (ltb port (length (ports_of c))))))
-    (order? first port)
+    grind (arith, nat_tests, common_steps, r.fits, r.before port, r.inside (port - first_required c.kind), r.after port)

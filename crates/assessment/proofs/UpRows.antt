@@ -15,6 +15,7 @@ use Prim.Native.Nat.{ℕ, ◌+◌, ◌*◌, ◌/◌, ◌%◌, ◌^◌, ◌≤◌
 use native.Mathlib.Decide.{dec_lt}
 use native.Mathlib.Numerals.{add-one}
 use native.Mathlib.Omega.{arith}
+use Rattle.std.proofs.lemmas.Bool.Decides.{nat_tests}
 use lib.Bits.{bit_or}
 use lib.Dec.{eqb, ltb}
 use lib.ListN.{length, get_or, set, drop}
@@ -25,7 +26,7 @@ use Rattle.tables.specs.Pairs.{span}
 use Rattle.sets.specs.Members.{test_bit, word_count, member_limit, member_of, Inserted}
 use Rattle.sets.proofs.TestBit.{test_or, test_zero}
 use Rattle.sets.proofs.Words.{inserted, member_past}
-use Rattle.lists.proofs.Search.{or_true, or_false}
+use Rattle.lists.proofs.Search.{or_false}
 use Rattle.regions.specs.Graph.{at, marked}
 use Rattle.regions.specs.Search.{Zeros}
 use Rattle.regions.specs.Carry.{hand_on, carry}
@@ -107,11 +108,10 @@ member_put old region member h l = record { at = λ r k m. row_member new r k m 
 
     hit : (r k : ℕ) → k < member_limit → member ≡ k → member_of new (r * member_limit + k) ≡ (in_row old r k || (eqb member k && eqb region r))
     hit r k m e =
-        rw (eq-eqb member k e)
-        (⊎_elim
-        (λ (q : region ≡ r). rw (eq-eqb region r q) (ap₂ (λ (x y : ℕ). member_of new (x * member_limit + y)) (sym q) (sym e) ∙ one.there ∙ or_true (in_row old r k)))
-        (λ (n : region ≡ r → ⊥). rw (ne_eqb region r n) (apart r k m (λ f. n (omega arith)) ∙ or_false (in_row old r k)))
-        (same? region r))
+        ⊎_elim
+        (λ (q : region ≡ r). let there : member_of new (r * member_limit + k) ≡ true = rw (← q, ← e) one.there in grind (arith, nat_tests, there))
+        (λ (n : region ≡ r → ⊥). let kept = apart r k m (λ f. n (omega arith)) in grind (arith, nat_tests, kept))
+        (same? region r)
 
 -- ---- the flagged members
 

@@ -4,7 +4,7 @@
 --     LiveMarks                  the marks of members by which slots are flagged
 --     status_at                   the status of a slot by its flags
 -- Assumes nothing: these are definitions.
-use Rattle.std.specs.Prelude.{ℕ, ◌+◌, ◌*◌, ◌≡◌, Bool, true, not, cond, ◌&&◌, List, ltb, length, get_or, ℤ}
+use Rattle.std.specs.Prelude.{ℕ, ◌+◌, ◌*◌, ◌≡◌, Bool, true, false, not, cond, ◌&&◌, List, ltb, length, get_or, replicate, ℤ}
 use Rattle.lists.specs.Limits.{component_limit}
 use Rattle.lists.specs.Records.{port_connection}
 use Rattle.regions.specs.Graph.{marked}
@@ -40,6 +40,12 @@ pub record SlotRoom (fed driven possible : List Bool) : Type 0 where
   pub fed_room : length fed ≡ slot_count
   pub driven_room : length driven ≡ slot_count
   pub possible_room : length possible ≡ slot_count
+
+-- no slot is flagged
+pub record Unmarked (fed driven possible : List Bool) : Type 0 where
+  pub fed_none : fed ≡ replicate slot_count false
+  pub driven_none : driven ≡ replicate slot_count false
+  pub possible_none : possible ≡ replicate slot_count false
 
 -- those that the first n port connections feed, and those that they feed from a marked source
 pub record SlotFlags (n : ℕ) (ps : List ℤ) (sources sinks : List ℕ) (drive potential fed driven possible : List Bool) : Type 0 where

@@ -1,6 +1,6 @@
 // Verdict rows by flags of slots: one pass over the port connections marks which ports are fed, and by what, so no table is sorted.
 ghost use Rattle.std.specs.Prelude.{None};
-ghost use Rattle.std.specs.Prelude.{◌≡◌, true, false, List, [], ◌∷◌, ◌+◌, ◌*◌, ◌≤◌, ◌<◌, length, get_or, replicate, ℤ};
+ghost use Rattle.std.specs.Prelude.{◌≡◌, true, false, List, [], ◌∷◌, ◌+◌, ◌*◌, ◌≤◌, ◌<◌, length, get_or, ℤ};
 ghost use Rattle.lists.specs.Limits.{component_limit};
 ghost use Rattle.lists.specs.Records.{component_count, port_count};
 ghost use Rattle.lists.specs.Ids.{member_of, first_end_missing};
@@ -12,7 +12,7 @@ ghost use Rattle.signals.specs.Flags.{Numbers, Indices};
 ghost use Rattle.signals.specs.Seen.{SignalEnds};
 ghost use Rattle.assessment.specs.Verdicts.{input_rows};
 ghost use Rattle.assessment.specs.Rows.{Put, Scanned, NoneRequired, rows_of, rows_below};
-ghost use Rattle.assessment.specs.Places.{slot_of, slot_count, slot_at, SlotRoom, SlotFlags, LiveMarks, status_at, status_number};
+ghost use Rattle.assessment.specs.Places.{slot_of, slot_count, slot_at, SlotRoom, SlotFlags, Unmarked, LiveMarks, status_at, status_number};
 
 use super::verdicts::required_ports;
 use lists::ids::SUPPORT;
@@ -22,14 +22,14 @@ use lists::{COMPONENT, COMPONENTS, PORT};
 // A member has a slot for each port below this: no port past them has a verdict row.
 const PLACES: usize = 8;
 
-// The last slot, which no member has.
+// The last slot, which no member has. No Option in its place: it takes what feeds no slot, so that marking has no branch.
 const NOBODY: usize = PLACES * COMPONENTS;
 
 const SLOTS: usize = NOBODY + 1;
 
 // ---- flags
 
-// The slots whose port is fed, those fed by a driven member, and those fed by one that may be.
+// The slots whose port is fed, those fed by a driven member, and those fed by one that may be. Three arrays, as `SlotFlags` has three lists.
 #[derive(Drop)]
 struct Slots {
     fed: [bool; SLOTS],
@@ -86,10 +86,12 @@ impl Slots {
         drive: &[bool],
         potential: &[bool],
     )
-        requires port_connections { PortConnections ports.now × ((port_count ports.now ≤ length sources.now) × SignalEnds component_limit ports.now sinks.now) }
-        requires none_marked { (self.old.fed ≡ replicate slot_count false) × ((self.old.driven ≡ replicate slot_count false) × (self.old.possible ≡ replicate slot_count false)) }
+        requires port_connections { PortConnections ports.now × SignalEnds component_limit ports.now sinks.now }
+        requires sources_in_bounds { port_count ports.now ≤ length sources.now }
+        requires none_marked { Unmarked self.old.fed self.old.driven self.old.possible }
         ensures room { SlotRoom self.new.fed self.new.driven self.new.possible }
-        ensures marked { SlotFlags (port_count ports.now) ports.now sources.now sinks.now drive.now potential.now self.new.fed self.new.driven self.new.possible }
+        ensures marked { SlotFlags (port_count ports.now) ports.now sources.now sinks.now drive.now potential.now
+            self.new.fed self.new.driven self.new.possible }
     {
         for k in 0..ports.len() / PORT {
             let j = slot_at(ports, k, sinks[k]);
@@ -136,7 +138,8 @@ fn put_verdict(out: &mut [u64], at: usize, device: u64, port: u64, status: Statu
 fn put_ports(id: u64, kind: u64, member: usize, slots: &Slots, out: &mut [u64], at: usize) -> usize
     requires member_bound { member < component_limit }
     requires at_in_bounds { at + 12 ≤ length out.old }
-    ensures { Put (rows_of id kind (λ port. status_at slots.now.fed slots.now.driven slots.now.possible (slot_of member port))) at out.old out.new result }
+    ensures { Put (rows_of id kind (λ port. status_at slots.now.fed slots.now.driven slots.now.possible (slot_of member port)))
+        at out.old out.new result }
 {
     let ports = required_ports(kind);
     let mut place = at;
@@ -147,12 +150,14 @@ fn put_ports(id: u64, kind: u64, member: usize, slots: &Slots, out: &mut [u64], 
     place
 }
 
-// Writes the rows of all components, in list order, and answers how many there are.
+// Writes the rows of all components, in list order, and answers how many there are. Not one with `put_sources`: they share a loop of three
+// lines, and the clauses of a closure that writes a component's rows would be longer.
 fn put_rows(components: &[i64], members: &[usize], slots: &Slots, out: &mut [u64]) -> usize
     requires components { Components components.now × Indices (component_count components.now) component_limit members.now }
     requires out_len { 12 * component_count components.now ≤ length out.old }
-    ensures { Scanned (rows_below components.now (λ p port. status_at slots.now.fed slots.now.driven slots.now.possible (slot_of (get_or members.now p 0) port)) (component_count components.now))
-        3 out.old out.new result }
+    ensures { Scanned (rows_below components.now
+        (λ p port. status_at slots.now.fed slots.now.driven slots.now.possible (slot_of (get_or members.now p 0) port))
+        (component_count components.now)) 3 out.old out.new result }
 {
     let mut at = 0;
     for p in 0..components.len() / COMPONENT {

@@ -25,7 +25,7 @@ pub enum SourceKind {
 }
 
 // The number of a source kind in source rows.
-pub fn source_number(kind: SourceKind) -> u64
+pub(crate) fn source_number(kind: SourceKind) -> u64
     ensures { result ≡ source_number kind }
 {
     kind as u64

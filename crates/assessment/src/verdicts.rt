@@ -19,7 +19,7 @@ use tables::SPAN;
 #[tactic(auto, unfolding(crate::specs::Rows::first_required, crate::specs::Rows::required_count))]
 pub fn required_ports(kind: u64) -> Range<usize>
     ensures range { (result.start ≡ first_required kind) × (result.end ≡ first_required kind + required_count kind) }
-    ensures few { (result.end ≤ 8) × (result.end ≤ result.start + 4) }
+    ensures few { (result.start ≤ 4) × (result.end ≤ result.start + 4) }
 {
     match kind {
         1 | 2 => 1..2,

@@ -68,7 +68,8 @@ fn join_all(
     forest: &mut UnionFind,
 )
     requires connections { Connections connections.now }
-    requires connections_in_bounds { (connection_count connections.now ≤ length sources.now) × (connection_count connections.now ≤ length sinks.now) }
+    requires sources { connection_count connections.now ≤ length sources.now }
+    requires sinks { connection_count connections.now ≤ length sinks.now }
     ensures { forest.new ≡ unite_all forest.old (settled_joins connections.now sources.now sinks.now top (connection_count connections.now)) }
 {
     let count = connections.len() / CONNECTION;
@@ -88,7 +89,8 @@ fn groups(
 ) -> usize
     requires connections { Connections connections.now }
     requires room { length numbers.old ≤ component_limit }
-    requires ends { Ends (length numbers.old) (connection_count connections.now) sources.now × Ends (length numbers.old) (connection_count connections.now) sinks.now }
+    requires sources { Ends (length numbers.old) (connection_count connections.now) sources.now }
+    requires sinks { Ends (length numbers.old) (connection_count connections.now) sinks.now }
     ensures { SettledGroups connections.now sources.now sinks.now top numbers.new result }
 {
     let mut forest = UnionFind::new();

@@ -184,8 +184,9 @@ fn solid_ports() -> [Option<Port>; PORTS]
     ]
 }
 
-// The ports of a component by its codes: kind 0 wire, 1 repeater, 2 comparator, 3 torch, 4 to 7 lever, button, pressure plate and redstone
-// block, 8 piston, 9 to 11 solid, transparent and lamp, 12 air. A facing of none is North, a support of none is Down.
+// The ports of a component by its codes, which are those of the lists that C hands over: kind 0 wire, 1 repeater,
+// 2 comparator, 3 torch, 4 to 7 lever, button, pressure plate and redstone block, 8 piston, 9 to 11 solid, transparent
+// and lamp, 12 air. A facing of none is North, a support of none is Down.
 pub fn ports_for(kind: u64, facing: u64, support: u64, conducts: u64) -> [Option<Port>; PORTS]
     ensures { map numbers_at result ≡ places_of (ports_for kind facing support conducts) }
 {

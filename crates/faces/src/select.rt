@@ -6,7 +6,7 @@ ghost use Rattle.faces.specs.Select.{fits, serves, select_port, transfer_of};
 use super::face::Face;
 use super::ports::{Channel, PORTS, Port, Role};
 
-// ---- kinds of connection
+// ---- kinds of connection: numbers, as the lists that C hands over hold them
 
 pub const CONTROL_KIND: u64 = 8;
 

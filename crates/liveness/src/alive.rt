@@ -1,5 +1,5 @@
 // What the drive sources and the inferred inputs reach: marks of their regions, carried along the pairs of regions.
-ghost use Rattle.std.specs.Prelude.{◌&&◌, ◌||◌, List, ◌≤◌, eqb, length, get_or, ℤ};
+ghost use Rattle.std.specs.Prelude.{◌≡◌, ◌&&◌, ◌||◌, List, ◌≤◌, eqb, length, get_or, ℤ};
 ghost use Rattle.lists.specs.Limits.{component_limit};
 ghost use Rattle.lists.specs.Records.{component_count};
 ghost use Rattle.lists.specs.First.{some};
@@ -11,7 +11,7 @@ ghost use Rattle.liveness.specs.Scene.{Alive, AliveRoom};
 use super::plot::PreparedPlot;
 use lists::{COMPONENTS, CONNECTIONS};
 use signals::crossings::{carry_marks, find_crossings};
-use signals::flags::{copy_flags, gather, or_flags};
+use signals::flags::{combine_flags, gather};
 
 // Flags the regions that hold a drive source or an inferred input.
 fn possible_regions(
@@ -22,12 +22,11 @@ fn possible_regions(
     possible: &mut [bool],
 )
     requires indices { Indices n component_limit region_at.now × (n ≤ length inferred.now) }
-    requires component_limit_in_bounds { (component_limit ≤ length has_drive.now) × (component_limit ≤ length possible.old) }
+    requires regions_len { (length has_drive.now ≡ component_limit) × (length possible.old ≡ component_limit) }
     ensures { Flags component_limit (λ r. marked has_drive.now r || some (λ p. marked inferred.now p && eqb (get_or region_at.now p 0) r) n) possible.new }
 {
-    let mut waiting = [false; COMPONENTS];
-    gather(n, region_at, inferred, &mut waiting);
-    or_flags(COMPONENTS, has_drive, &waiting, possible);
+    gather(&region_at[..n], inferred, possible);
+    combine_flags(possible, has_drive, |waits, drives| drives | waits);
 }
 
 // Marks what the drive sources reach, and what these and the inferred inputs reach.
@@ -48,11 +47,11 @@ pub(crate) fn flag_alive(
     let mut keys = [0u64; CONNECTIONS];
     let mut driven = [false; COMPONENTS];
     let mut possible = [false; COMPONENTS];
-    let count = find_crossings(plot.forward, plot.labels, &mut keys);
-    copy_flags(has_drive, &mut driven);
+    let crossings = find_crossings(plot.forward, plot.labels, &mut keys);
+    driven.copy_from_slice(has_drive);
     possible_regions(n, plot.region_at, inferred, has_drive, &mut possible);
     carry_marks(
-        &keys[..count],
+        crossings,
         plot.labels,
         &mut driven,
         &mut possible,

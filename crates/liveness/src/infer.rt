@@ -10,6 +10,7 @@ use super::plot::PreparedPlot;
 use lists::{COMPONENT, COMPONENTS};
 use signals::flags::gather;
 use signals::inferred::{flag_outside, is_inferred, passive_flags};
+use signals::network::{Network, Table};
 
 // Flags the inferred inputs, by list place, given which regions have a drive source and which are fed from outside.
 pub(crate) fn infer(plot: &PreparedPlot, has_drive: &[bool], fed: &[bool], flags: &mut [bool])
@@ -21,20 +22,21 @@ pub(crate) fn infer(plot: &PreparedPlot, has_drive: &[bool], fed: &[bool], flags
         flags.new }
 {
     let components = plot.plot.components;
+    let network = Network {
+        forward: Table {
+            keys: plot.forward,
+            rows: plot.forward_rows,
+        },
+        backward: Table {
+            keys: plot.backward,
+            rows: plot.backward_rows,
+        },
+        labels: plot.labels,
+    };
     for p in 0..components.len() / COMPONENT {
         let region = plot.region_at[p];
         let quiet = !has_drive[region] & !fed[region];
-        flags[p] = is_inferred(
-            components,
-            p,
-            quiet,
-            plot.forward,
-            plot.backward,
-            plot.labels,
-            plot.members[p],
-            plot.forward_rows,
-            plot.backward_rows,
-        );
+        flags[p] = is_inferred(components, p, quiet, &network, plot.members[p]);
     }
 }
 
@@ -47,6 +49,6 @@ pub(crate) fn outside_regions(plot: &PreparedPlot, fed: &mut [bool])
     let mut passive_at = [false; COMPONENTS];
     let mut passive = [false; COMPONENTS];
     passive_flags(plot.plot.components, &mut passive_at);
-    gather(n, plot.members, &passive_at, &mut passive[..n]);
+    gather(&plot.members[..n], &passive_at, &mut passive[..n]);
     flag_outside(plot.forward, plot.labels, &passive, fed);
 }

@@ -3,7 +3,8 @@ ghost use Rattle.std.proofs.Props.{props};
 ghost use Rattle.liveness.specs.Scene.{Accepted, Prepared, PreparedRoom, Prepares};
 
 use regions::HINTED;
-use signals::stages::{build_tables, find_regions, place_labels, place_members};
+use signals::flags::spread;
+use signals::stages::{build_tables, find_regions, place_members};
 
 // The lists that the checks accepted, the table of the components' ids, and the ends of the port connections as members.
 #[derive(Clone, Copy)]
@@ -68,7 +69,7 @@ impl<'a> Plot<'a> {
             backward_rows,
         );
         place_members(self.keys, members);
-        place_labels(labels.len(), members, labels, region_at);
+        spread(&members[..labels.len()], labels, region_at);
         count
     }
 }

@@ -21,6 +21,7 @@ use assessment::sources::{drive_flags, frontier_flags};
 use assessment::verdicts::put_sources;
 use lists::{COMPONENT, COMPONENTS, CONNECTIONS, PORT};
 use regions::HINTED;
+use sets::ComponentSet;
 use signals::flags::gather;
 use signals::stages::find_cyclic;
 
@@ -47,7 +48,11 @@ pub fn flag_drive(
 {
     frontier_flags(components, frontiers, on_frontier);
     drive_flags(components, on_frontier, drive_at);
-    gather(components.len() / COMPONENT, region_at, drive_at, has_drive);
+    gather(
+        &region_at[..components.len() / COMPONENT],
+        drive_at,
+        has_drive,
+    );
 }
 
 // Flags the inferred inputs, by list place.

@@ -14,5 +14,5 @@ pub extern "C" fn probe_fragment_net(
 ) -> u64
     ensures { result ≡ as_number (ltb net component_limit && shares_member nets.now fragments.now fragment net) }
 {
-    u64::from(sets::contains(circuit::fragment_nets(nets, fragments, fragment), net))
+    u64::from(circuit::fragment_nets(nets, fragments, fragment).contains(net))
 }

@@ -1,11 +1,12 @@
 // Ports, steps and kept connections for the tests from Rust.
-ghost use Rattle.std.specs.Prelude.{◌≡◌, ◌<◌, length};
+ghost use Rattle.std.specs.Prelude.{◌≡◌, length};
 ghost use Rattle.faces.specs.Ports.{ports_for};
 ghost use Rattle.faces.specs.Step.{facing_between};
 ghost use Rattle.probe.specs.Ports.{place_code, Sent};
 
 use checks::refusals::pack;
-use faces::ports::{port_count, ports_for};
+use faces::face::Face;
+use faces::ports::{PORTS, port_count, ports_for};
 use faces::step::facing_between;
 use scene::connections::port_connections;
 
@@ -27,11 +28,16 @@ pub extern "C" fn probe_port(
 ) -> u64
     ensures { result ≡ place_code (ports_for kind facing support conducts) place }
 {
-    let rows = ports_for(kind, facing, support, conducts);
-    let Some(row) = rows.get(place) else {
+    let ports = ports_for(kind, facing, support, conducts);
+    if PORTS <= place {
         return 0;
-    };
-    u64::from(row[0]) + 256 * u64::from(row[1]) + 65536 * u64::from(row[2])
+    }
+    match ports[place] {
+        Some(port) => {
+            port.role.number() + 256 * port.face.number() + 65536 * port.channel.number()
+        }
+        None => 0,
+    }
 }
 
 #[unsafe(no_mangle)]
@@ -45,7 +51,7 @@ pub extern "C" fn probe_facing_between(
 ) -> u64
     ensures { result ≡ facing_between x y z to_x to_y to_z }
 {
-    facing_between(x, y, z, to_x, to_y, to_z)
+    facing_between(x, y, z, to_x, to_y, to_z).map_or(0, Face::number)
 }
 
 // A refusal as one number, or the count of kept rows above its sixteen lowest bits.

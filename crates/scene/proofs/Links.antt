@@ -16,9 +16,6 @@ use Rattle.lists.specs.First.{is_found}
 use Rattle.lists.specs.Records.{Component, Connection, component}
 use Rattle.lists.specs.Ids.{place_of, has_component}
 use Rattle.lists.proofs.Search.{FoundAt, found_at, both}
-use Rattle.faces.specs.declared.face.Face.{Face}
-use Rattle.faces.specs.declared.face.Face.TheVariants.{North, East, South, West, Up, Down as Below}
-use Rattle.faces.specs.Codes.{face_code}
 use Rattle.faces.specs.Ports.{Port, NoFace, Down, Structural, opposite, ports_of}
 use Rattle.faces.specs.Rows.{port_places}
 use Rattle.faces.specs.Step.{step_face}
@@ -37,26 +34,6 @@ module _ (source sink : Component) (kind : ℕ) where
       → ports_between source sink kind ≡ both_ports (select_port (ports_of source) face true kind) (select_port (ports_of sink) facing false kind)
   unfolding ports_between
   between_some face facing e h d = rw (d, ← e, ne_eqb face NoFace h)
-
--- a face has a number of its own, which is not that of none
-no_zero : (face : Face) → face_code face ≡ NoFace → ⊥
-no_zero North e = omega arith
-no_zero East e = omega arith
-no_zero South e = omega arith
-no_zero West e = omega arith
-no_zero Up e = omega arith
-no_zero Below e = omega arith
-
-module _ (source sink : Component) (kind : ℕ) where
-  -- the same by the face of the step
-  pub between_face : (face back : Face) → face_code face ≡ step_face source sink → face_code back ≡ opposite (face_code face)
-      → ports_between source sink kind
-      ≡ both_ports (select_port (ports_of source) (face_code face) true kind) (select_port (ports_of sink) (face_code back) false kind)
-  between_face face back e d = between_some source sink kind (face_code face) (face_code back) e (no_zero face) d
-
-  pub between_face_none : (face : Face) → face_code face ≡ step_face source sink → select_port (ports_of source) (face_code face) true kind ≡ None
-      → ports_between source sink kind ≡ None
-  between_face_none face e none = rw (between_some source sink kind (face_code face) _ e (no_zero face) refl, none)
 
 pub record Chosen (source sink : Component) (kind i j : ℕ) : Type 0 where
   pub out : select_port (ports_of source) (step_face source sink) true kind ≡ Some i

@@ -1,18 +1,16 @@
 -- Rows written one after the other into a slice.
 --     small_read, natural_read     numbers read back from their bits
 --     part_put                     a row written over a part of its length
---     put_nothing                  no row changes nothing
 --     put_more                     one more row after those that are laid
 --     Laid                         the rows kept of the connections below k, none at first, one connection more, and all
 -- Assumes nothing.
 use Rattle.std.specs.Prelude.{Option, Some, None}
 use mathlib.Core.Path.{◌≡◌, refl, sym, ◌∙◌}
-use mathlib.Core.List.{List, [], ◌++◌, map, append-nil, append_assoc, map-append}
+use mathlib.Core.List.{List, ◌++◌, map, append_assoc, map-append}
 use Prim.Native.Nat.{ℕ, ◌+◌, ◌*◌, ◌≤◌, ◌<◌}
-use native.Mathlib.Nat.{add-zero}
 use native.Mathlib.Numerals.{add-one}
 use native.Mathlib.Omega.{arith}
-use lib.ListN.{length, length-append, length-map, take-append-drop}
+use lib.ListN.{length, length-append, length-map}
 use lib.Seq.{take-append_seam, drop-append-add, drop-drop}
 use lib.IntN.{ℤ, pos, nat_abs}
 use lib.Dec.{T}
@@ -37,9 +35,6 @@ small_read n h = to_z-of_z {w = w64} {z = pos n} (record { sfits = h })
 
 pub natural_read : (z : ℤ) → SFits w64 z → T (non_neg z) → to_z w64 (of_z w64 z) ≡ pos (nat_abs z)
 natural_read z f t = to_z-of_z f ∙ sym (pos-nat_abs z t)
-
-pub put_nothing : (l : List ℤ) (i : ℕ) → Put [] i l l
-put_nothing l i = record { wrote = rw (add-zero, append-nil) (sym (take-append-drop i l)) }
 
 -- a row put after rows that are laid
 pub put_more : (rows row out out₁ out₂ : List ℤ) → out₁ ≡ laid rows out → Put row (length rows) out₁ out₂ → out₂ ≡ laid (rows ++ row) out

@@ -7,9 +7,10 @@ use Rattle.lists.specs.Records.{component}
 use Rattle.lists.specs.First.{some}
 use Rattle.lists.specs.Ends.{Settled}
 use Rattle.regions.specs.Graph.{marked}
+use Rattle.regions.specs.Keys.{edges}
 use Rattle.signals.specs.Regions.{wire}
 use Rattle.signals.specs.Keys.{Slots, KeysOf, ports}
-use Rattle.signals.specs.Seen.{of_edge, few_near}
+use Rattle.signals.specs.Seen.{of_edge}
 
 -- the members at the ends of each port connection, and the sorted tables of the signal edges, forward and backward
 pub record Tables (cs ps : List ℤ) (sources sinks forward backward : List ℕ) : Type 0 where
@@ -29,7 +30,12 @@ abbrev pub inferred_by : List ℤ → List ℕ → List ℕ → List Bool → Li
 inferred_by cs members region_of_place holds_drive fed forward backward labels p =
     eqb (component cs p).kind wire
     && ((not (marked holds_drive (get_or region_of_place p 0)) && not (marked fed (get_or region_of_place p 0)))
-    && few_near forward backward labels (get_or members p 0))
+    && leb
+    (count_below
+    (λ j. eqb (get_or labels j 0) (get_or labels (get_or members p 0) 0)
+    && (edges (length labels) forward (get_or members p 0) j || edges (length labels) backward (get_or members p 0) j))
+    (length labels))
+    1)
 
 -- an edge leads from a node of region r to itself
 abbrev pub self_key : List ℕ → ℕ → ℕ → Bool

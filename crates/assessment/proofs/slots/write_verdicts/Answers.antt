@@ -22,7 +22,7 @@ pub mark-requires-clause-port_connections : goal.mark-requires-clause-port_conne
 mark-requires-clause-port_connections c =
     let few = c.requires.components.0.few in
     let ends = sink_ends few c.requires.settled.0 c.requires.settled.1 (ends_within _ _ c.requires.components.1.1) c.requires.ports_in_bounds.1 in
-    (c.requires.components.1.0, (c.requires.ports_in_bounds.0, record { long = ends.long; below = λ k h signal. omega (arith, ends.below k h signal, few) }))
+    (c.requires.components.1.0, record { long = ends.long; below = λ k h signal. omega (arith, ends.below k h signal, few) })
 
 pub put_rows-requires-clause-components : goal.put_rows-requires-clause-components
 put_rows-requires-clause-components c = (c.requires.components.0, members_within _ c.requires.components.0.few c.requires.numbers.0)

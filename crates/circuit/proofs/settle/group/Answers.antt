@@ -38,11 +38,17 @@ ends c =
     ends_settled cs ps 1 (sinks c) (omega (arith, c.requires.connections.few, c.settle-2.auto.places)) (c.settle-2.ensures cs t) in
     rw (table_long t) (first, second)
 
-pub groups-net_count-requires-clause-ends : goal.groups-net_count-requires-clause-ends
-groups-net_count-requires-clause-ends c = rw (length-take-le (length c.args.keys.now) c.args.nets.now c.requires.keys_len_bound.1.0) (ends (goal.at.groups-net_count-requires-clause-ends c).After-settle-2)
+pub groups-net_count-requires-clause-sources : goal.groups-net_count-requires-clause-sources
+groups-net_count-requires-clause-sources c = rw (length-take-le (length c.args.keys.now) c.args.nets.now c.requires.keys_len_bound.1.0) (ends (goal.at.groups-net_count-requires-clause-sources c).After-settle-2).0
 
-pub groups-fragment_count-requires-clause-ends : goal.groups-fragment_count-requires-clause-ends
-groups-fragment_count-requires-clause-ends c = rw (length-take-le (length c.args.keys.now) c.args.fragments.now c.requires.keys_len_bound.1.1) (ends (goal.at.groups-fragment_count-requires-clause-ends c).After-settle-2)
+pub groups-net_count-requires-clause-sinks : goal.groups-net_count-requires-clause-sinks
+groups-net_count-requires-clause-sinks c = rw (length-take-le (length c.args.keys.now) c.args.nets.now c.requires.keys_len_bound.1.0) (ends (goal.at.groups-net_count-requires-clause-sinks c).After-settle-2).1
+
+pub groups-fragment_count-requires-clause-sources : goal.groups-fragment_count-requires-clause-sources
+groups-fragment_count-requires-clause-sources c = rw (length-take-le (length c.args.keys.now) c.args.fragments.now c.requires.keys_len_bound.1.1) (ends (goal.at.groups-fragment_count-requires-clause-sources c).After-settle-2).0
+
+pub groups-fragment_count-requires-clause-sinks : goal.groups-fragment_count-requires-clause-sinks
+groups-fragment_count-requires-clause-sinks c = rw (length-take-le (length c.args.keys.now) c.args.fragments.now c.requires.keys_len_bound.1.1) (ends (goal.at.groups-fragment_count-requires-clause-sinks c).After-settle-2).1
 
 pub returns : goal.returns
 returns c cs t =

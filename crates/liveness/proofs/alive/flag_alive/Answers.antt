@@ -7,8 +7,7 @@ use mathlib.Core.List.{List}
 use Prim.Native.Nat.{ℕ, ◌≤◌}
 use native.Mathlib.Omega.{arith}
 use lib.Dec.{eqb}
-use lib.ListN.{length, get_or, take}
-use lib.Seq.{length-take-le}
+use lib.ListN.{length, get_or}
 use lib.IntN.{ℤ}
 use Rattle.lists.specs.Limits.{component_limit}
 use Rattle.lists.specs.Records.{component_count}
@@ -24,7 +23,6 @@ use Rattle.signals.proofs.Within.{labels_count, labels_under, places_under}
 use Rattle.assessment.proofs.Reached.{drive_is, potential_is}
 use Rattle.liveness.proofs.Inferring.{SceneRegions, regions_of_lem, crossings_of}
 use Rattle.liveness.proofs.alive.flag_alive.Goals as goal
-use Rattle.liveness.proofs.alive.flag_alive.Goals.{After-find_crossings-count}
 
 -- ---- the regions of a scene
 module _ {cs ps : List ℤ} {forward labelled region_of : List ℕ} (r : SceneRegions cs ps forward labelled region_of) where
@@ -51,34 +49,27 @@ module _ {cs ps : List ℤ} {forward labelled region_of : List ℕ} (r : SceneRe
   }
 
 -- ---- the calls
-pub find_crossings-count-requires : goal.find_crossings-count-requires
-find_crossings-count-requires c =
+pub find_crossings-crossings-requires : goal.find_crossings-crossings-requires
+find_crossings-crossings-requires c =
     let r = regions_of_lem c.args.plot.now.plot.accepted.scene c.args.plot.now.prepared in record {
       rows = (r.rows, (r.few, r.few));
       indices = labels_small r;
     }
 
-pub possible_regions-requires : goal.possible_regions-requires
-possible_regions-requires c =
-    let r = regions_of_lem c.args.plot.now.plot.accepted.scene c.args.plot.now.prepared in record {
-      indices = (regions_small r, omega (arith, all r, c.requires.inferred_room));
-      component_limit_in_bounds = (omega (arith, c.requires.regions_room), omega arith);
-    }
-
--- the keys that were found
-lent : (c : After-find_crossings-count)
-    → length (take c.find_crossings-count.result c.find_crossings-count.new.keys) ≡ c.find_crossings-count.result
-lent c = length-take-le _ _ c.find_crossings-count.ensures.few
+pub possible_regions-requires-clause-indices : goal.possible_regions-requires-clause-indices
+possible_regions-requires-clause-indices c =
+    let r = regions_of_lem c.args.plot.now.plot.accepted.scene c.args.plot.now.prepared in
+    (regions_small r, omega (arith, all r, c.requires.inferred_room))
 
 keys_as : {m n : ℕ} {keys : List ℕ} → m ≡ n → KeysBelow m keys → KeysBelow n keys
 keys_as e k = record { first = λ i h. omega (arith, e, k.first i h); second = λ i h. omega (arith, e, k.second i h) }
 
 pub carry_marks-requires : goal.carry_marks-requires
 carry_marks-requires c =
-    let below = c.find_crossings-count.ensures.below in
+    let below = c.find_crossings-crossings.ensures.below in
     let r = regions_of_lem c.args.plot.now.plot.accepted.scene c.args.plot.now.prepared in
     let small = labels_small r in
-    let long-a = c.copy_flags.auto.out in
+    let long-a = c.copy_from_slice.ensures.len in
     let long-b = c.possible_regions.auto.possible in record {
       keys_below = (keys_as (sym long-a) below, keys_as (sym long-b) below);
       indices = (indices_same (sym long-a) small, omega (arith, c.requires.drive_room, all r));
@@ -93,15 +84,10 @@ returns c fs driven inferred =
     let r = regions_of_lem p.plot.accepted.scene p.prepared in
     let carried = c.carry_marks in
     let possible = c.possible_regions in
-    let copied = c.copy_flags in
-    let found = c.find_crossings-count in
     let room = c.requires in
-    let keys = take found.result found.new.keys in
-    let pairs : Crossings (signals cs ps) (labels cs ps) keys = crossings_of r found.ensures.pairs in
-    let marks : Flags component_limit (holds_drive cs ps fs) copied.new.out = record {
-      long = omega (arith, copied.auto.out);
-      at = λ k h. copied.ensures.at k (omega (arith, room.regions_room)) ∙ driven.at k h;
-    } in
+    let keys = c.find_crossings-crossings.result.now in
+    let pairs : Crossings (signals cs ps) (labels cs ps) keys = crossings_of r c.find_crossings-crossings.ensures.pairs in
+    let marks : Flags component_limit (holds_drive cs ps fs) c.copy_from_slice.new.self = rw c.copy_from_slice.ensures.after driven in
     let joined : Flags component_limit
     (λ k. marked c.args.has_drive.now k || some (λ p. marked c.args.inferred.now p && eqb (get_or c.args.plot.now.region_at.now p 0) k)
     (component_count cs))
@@ -109,11 +95,8 @@ returns c fs driven inferred =
     rw (all r) at possible.ensures in
     record {
       drive_is = drive_is cs ps (few r) r.scene.ends pairs fs (carried.auto.out_a ∙ room.drive_room)
-          (by_labels r (carry keys (marked copied.new.out)) carried.ensures.0) marks;
+          (by_labels r (carry keys (marked c.copy_from_slice.new.self)) carried.ensures.0) marks;
       potential_is = potential_is cs ps (few r) r.scene.ends pairs fs (carried.auto.out_b ∙ room.potential_room)
           (by_labels r (carry keys (marked possible.new.possible)) carried.ensures.1)
           r.regions_are driven inferred joined;
     }
-
-pub slice_bounds-carry_marks-end : goal.slice_bounds-carry_marks-end
-slice_bounds-carry_marks-end c = sym (lent ((goal.at.slice_bounds-carry_marks-end c).After-find_crossings-count))

@@ -43,7 +43,15 @@ is_inferred-requires c =
     let now = (goal.at.is_inferred-requires c).In-loop-p in
     record {
       components = (scene.components, c.loop-p-test.true);
-      rows = (forward_rows scene p.prepared, (backward_rows scene p.prepared, (member_index now).below c.loop-p.p c.loop-p-test.true));
+      node = (member_index now).below c.loop-p.p c.loop-p-test.true;
+    }
+
+pub invariant_of-network : goal.invariant_of-network
+invariant_of-network c =
+    let p = c.args.plot.now in
+    record {
+      forward_rows = forward_rows p.plot.accepted.scene p.prepared;
+      backward_rows = backward_rows p.plot.accepted.scene p.prepared;
     }
 
 pub loop-p-init : goal.loop-p-init

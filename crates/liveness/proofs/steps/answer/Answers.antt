@@ -7,6 +7,8 @@ use lib.ListN.{length}
 use Rattle.lists.specs.Limits.{component_limit}
 use Rattle.signals.proofs.Within.{labels_under}
 use Rattle.liveness.proofs.Inferring.{labels_long, forward_rows}
+use Rattle.std.proofs.Common.{length-take-le}
+use Rattle.sets.proofs.Flagged.{set_of_front}
 use Rattle.liveness.proofs.Answers.{set_where}
 use Rattle.liveness.proofs.steps.answer.Goals as goal
 use Rattle.liveness.proofs.steps.answer.Goals.{Start}
@@ -30,10 +32,14 @@ few s =
     omega (arith, labels_long p.plot.accepted.scene p.prepared, p.plot.accepted.scene.components.few)
 
 pub of_flags-requires : goal.of_flags-requires
-of_flags-requires c = let s = (goal.at.of_flags-requires c).Start in (c.requires.labels_in_bounds.0, few s)
+of_flags-requires c =
+    let s = (goal.at.of_flags-requires c).Start in
+    omega (arith, few s, length-take-le _ _ c.requires.labels_in_bounds.0)
 
 pub of_flags-requires-2 : goal.of_flags-requires-2
-of_flags-requires-2 c = let s = (goal.at.of_flags-requires-2 c).Start in (c.requires.labels_in_bounds.1, few s)
+of_flags-requires-2 c =
+    let s = (goal.at.of_flags-requires-2 c).Start in
+    omega (arith, few s, length-take-le _ _ c.requires.labels_in_bounds.1)
 
 pub returns : goal.returns
 returns c =
@@ -41,8 +47,8 @@ returns c =
       regions_is = refl;
       sources_is = refl;
       inputs_is = refl;
-      drive_set = c.of_flags.ensures;
-      potential_set = c.of_flags-2.ensures;
-      cyclic_set = set_where c.requires.count.0 c.of_flags-3.ensures c.find_cyclic.ensures;
-      has_drive_set = c.of_flags-4.ensures;
+      drive_set = set_of_front _ _ _ c.requires.labels_in_bounds.0 c.of_flags.ensures;
+      potential_set = set_of_front _ _ _ c.requires.labels_in_bounds.1 c.of_flags-2.ensures;
+      cyclic_set = set_where c.requires.count.0 (set_of_front _ _ _ (omega (arith, c.find_cyclic.auto.flags, c.requires.count.0)) c.of_flags-3.ensures) c.find_cyclic.ensures;
+      has_drive_set = set_of_front _ _ _ c.requires.count.1 c.of_flags-4.ensures;
     }

@@ -15,7 +15,10 @@ use Rattle.signals.specs.Sources.{source_kind, is_on_frontier, is_drive}
 use Rattle.signals.specs.Regions.{region_of_place, holds_drive}
 use Rattle.signals.specs.Flags.{Flags, Numbers, Gathered}
 use Rattle.signals.proofs.Tabulated.{first_cong}
+use Rattle.signals.specs.Flags.{Indices}
+use Rattle.signals.proofs.Lent.{gathered_front, indices_front}
 use Rattle.signals.proofs.Within.{places_under}
+use Rattle.liveness.specs.Scene.{Scene}
 use Rattle.liveness.proofs.steps.flag_drive.Goals as goal
 
 pub drive_flags-requires : goal.drive_flags-requires
@@ -25,14 +28,15 @@ drive_flags-requires c =
       components_in_bounds = (c.frontier_flags.ensures.long, c.requires.components_in_bounds.1.0);
     }
 
-pub gather-requires : goal.gather-requires
-gather-requires c =
-    let cs = c.args.components.now in
-    let scene = c.requires.scene.1.0 in (
-      places_under cs c.requires.scene.0 scene.ends _ (omega (arith, scene.components.few, c.requires.components_in_bounds.1.1))
-          c.requires.scene.1.1,
-      c.drive_flags.ensures.long,
-    )
+-- each component's region has a flag
+regions_small : (cs ps : List ℤ) {region_at : List ℕ} {m : ℕ} → Scene cs ps → Numbers (component_count cs) (region_of_place cs ps) region_at → m ≡ component_limit
+    → Indices (component_count cs) m region_at
+regions_small cs ps scene numbers e = places_under cs ps scene.ends _ (omega (arith, scene.components.few, e)) numbers
+
+pub gather-requires-clause-indices : goal.gather-requires-clause-indices
+gather-requires-clause-indices c =
+    let (ps, (scene, numbers)) = c.requires.scene in
+    indices_front c.args.region_at.now (regions_small c.args.components.now ps scene numbers c.requires.components_in_bounds.1.1)
 
 -- a component on a frontier is a drive source
 drives_too : (cs fs : List ℤ) {frontier driven : List Bool} → Flags (component_count cs) (is_on_frontier cs fs) frontier
@@ -61,7 +65,7 @@ returns c ps placed =
       frontier_flags = c.frontier_flags.ensures;
       drive_flags = drives;
       region_flags = regions_driven c.args.components.now ps fs (c.gather.auto.out ∙ c.requires.components_in_bounds.1.1) placed drives
-          c.gather.ensures;
+          (gathered_front c.args.region_at.now placed.long c.gather.ensures);
     }
 
 pub frontier_flags-requires : goal.frontier_flags-requires

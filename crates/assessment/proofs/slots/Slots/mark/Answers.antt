@@ -6,7 +6,7 @@ use Rattle.assessment.proofs.slots.Slots.mark.Goals as goal
 pub loop-k-init : goal.loop-k-init
 loop-k-init c =
     let fresh = c.requires.none_marked in
-    rw (fresh.0, fresh.1.0, fresh.1.1) record {
+    rw (fresh.fed_none, fresh.driven_none, fresh.possible_none) record {
       room = record { fed_room = simp length-replicate; driven_room = simp length-replicate; possible_room = simp length-replicate };
       marked = slots_none _ _ _ _ _;
     }

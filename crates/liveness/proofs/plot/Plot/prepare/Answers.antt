@@ -1,10 +1,13 @@
 -- `liveness::plot::Plot::prepare` meets its contract: the tables are the graph of the signal connections, and its regions are those of the scene.
 -- Assumes nothing.
-use mathlib.Core.Path.{◌≡◌, ◌∙◌}
-use Prim.Native.Nat.{ℕ, ◌≤◌}
+use mathlib.Core.Path.{◌≡◌, ap, ◌∙◌}
+use Prim.Native.Nat.{ℕ, ◌≤◌, ◌<◌}
 use mathlib.Core.List.{List}
 use native.Mathlib.Omega.{arith}
-use lib.ListN.{length, get_or}
+use lib.ListN.{length, get_or, take}
+use Rattle.std.proofs.Common.{length-take-le}
+use Rattle.std.proofs.lemmas.List.{get_or-take}
+use Rattle.signals.proofs.Lent.{indices_front}
 use lib.IntN.{ℤ}
 use Rattle.lists.specs.Limits.{component_limit}
 use Rattle.lists.specs.Records.{component_count}
@@ -65,8 +68,8 @@ find_regions-count-requires c =
       labels_len_bound = (
         omega (arith, room.labels_room, few s),
         (
-          omega (arith, room.labels_room, room.stack_room, c.clear.auto.numbers),
-          rw c.clear.ensures
+          omega (arith, room.labels_room, room.stack_room, c.fill.auto.self),
+          rw (c.fill.ensures.after (λ y e. e))
               (cleared_zeros (length s.args.stack.now)),
         ),
       );
@@ -80,19 +83,34 @@ place_members-requires c =
 indices_at : {n m k : ℕ} {index : List ℕ} → n ≡ k → m ≡ k → Indices k k index → Indices n m index
 indices_at e f i = record { long = omega (arith, e, i.long); below = λ p h. omega (arith, f, i.below p (omega (arith, e))) }
 
-pub place_labels-requires : goal.place_labels-requires
-place_labels-requires c =
-    let s = (goal.at.place_labels-requires c).Start in
+pub spread-requires : goal.spread-requires
+spread-requires c =
+    let s = (goal.at.spread-requires c).Start in
     -- there is a label for each component
-    let long = c.find_regions-count.auto.labels ∙ s.requires.labels_room in (
-      indices_at long long (members_below (cs s) (c.place_members.ensures (cs s) s.args.self.now.accepted.table s.args.self.now.accepted.scene.distinct)),
-      omega (arith, long, s.requires.regions_room),
+    let long = c.find_regions-count.auto.labels ∙ s.requires.labels_room in
+    let members = indices_front c.place_members.new.members
+    (indices_at long long (members_below (cs s) (c.place_members.ensures (cs s) s.args.self.now.accepted.table s.args.self.now.accepted.scene.distinct))) in (
+      members,
+      omega (
+        arith,
+        long,
+        s.requires.regions_room,
+        members.long,
+        length-take-le (length c.find_regions-count.new.labels) c.place_members.new.members (omega (arith, long, s.requires.members_room, c.place_members.auto.members)),
+      ),
     )
 
 -- the labels of the members, of which there are as many, by another name
-numbers_at : (members : List ℕ) {n m : ℕ} {labels labels' out : List ℕ} → n ≡ m → labels ≡ labels'
-    → Numbers n (λ p. get_or labels (get_or members p 0) 0) out → Numbers m (λ p. get_or labels' (get_or members p 0) 0) out
-numbers_at members e f o = rw (e, f) at o
+numbers_at : (members : List ℕ) {n m : ℕ} {labels labels' out : List ℕ} → n ≡ m → labels ≡ labels' → m ≤ length members → m ≤ length out
+    → ((p d : ℕ) → p < length (take n members) → get_or out p d ≡ get_or labels (get_or (take n members) p 0) d)
+    → Numbers m (λ p. get_or labels' (get_or members p 0) 0) out
+numbers_at members {n} {m} {labels} {labels'} e f long room o = record {
+  long = room;
+  at = λ p h.
+      let less : p < n = omega arith in
+      o p 0 (omega (arith, length-take-le n members (omega arith))) ∙ ap (λ (i : ℕ). get_or labels i 0) (get_or-take n members p 0 less)
+      ∙ ap (λ (l : List ℕ). get_or l (get_or members p 0) 0) f;
+}
 
 pub returns : goal.returns
 returns c =
@@ -110,11 +128,12 @@ returns c =
         sinks_long = s.args.self.now.accepted.ends.sinks_long;
         labels_are = regions.0;
         members_are = numbers;
-        regions_are = labels_placed (cs s) numbers (ps s) (numbers_at c.place_members.new.members long regions.0 c.place_labels.ensures);
+        regions_are = labels_placed (cs s) numbers (ps s) (numbers_at c.place_members.new.members long regions.0 numbers.long
+            (omega (arith, room.regions_room, c.spread.auto.out)) c.spread.ensures);
       };
       count = regions.1;
       stack_zeros = c.find_regions-count.ensures.stack_zeros;
     }
 
 pub shape_of-stack : goal.shape_of-stack
-shape_of-stack c = c.find_regions-count.auto.stack ∙ c.clear.auto.numbers
+shape_of-stack c = c.find_regions-count.auto.stack ∙ c.fill.auto.self
