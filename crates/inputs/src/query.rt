@@ -27,7 +27,7 @@ use liveness::steps::{flag_drive, flag_inferred};
 use regions::HINTED;
 use sets::ComponentSet;
 use signals::edges::PORTS;
-use signals::flags::{and_flags, gather};
+use signals::flags::{combine_flags, gather};
 use signals::stages::build_fed;
 use tables::SPAN;
 
@@ -63,7 +63,6 @@ fn upstream_inputs(
     let n = inferred.len();
     let mut upstream = [false; COMPONENTS];
     let mut order = [0usize; COMPONENTS];
-    let mut both = [false; COMPONENTS];
     regions::reach_from(
         backward,
         immediate,
@@ -71,8 +70,8 @@ fn upstream_inputs(
         &mut order,
         stack,
     );
-    and_flags(n, &upstream[..n], inferred, &mut both);
-    ComponentSet::of_flags(&both[..n])
+    combine_flags(&mut upstream[..n], inferred, |reached, input| reached & input);
+    ComponentSet::of_flags(&upstream[..n])
 }
 
 // The sources where the port asked for has no verdict row, or none feeds it.
@@ -140,12 +139,8 @@ pub(crate) fn inferred_members(plot: &PreparedPlot, inferred: &mut [bool])
         &mut has_drive,
     );
     flag_inferred(plot, &has_drive, &mut inferred_at);
-    gather(
-        lists.components.len() / COMPONENT,
-        plot.members,
-        &inferred_at,
-        inferred,
-    );
+    let count = lists.components.len() / COMPONENT;
+    gather(&plot.members[..count], &inferred_at, inferred);
 }
 
 // Prepares a plot, and flags its inferred inputs by member. Leaves the stack zero.

@@ -94,14 +94,6 @@ find_crossings-count-requires c =
       indices = labels_below s c.find_inputs.new.labels c.find_inputs.ensures.prepared.labels_are;
     }
 
-pub build_fed-requires : goal.build_fed-requires
-build_fed-requires c =
-    let s = (goal.at.build_fed-requires c).Start in
-    let p = c.find_inputs.ensures.prepared in record {
-      port_connections = (c.args.plot.now.accepted.scene.connections, (cs s, (few s, (p.tables.source_members, p.tables.sink_members))));
-      ports_in_bounds = (p.sources_long, (p.sinks_long, c.find_inputs.auto.forward ∙ c.requires.fed_len));
-    }
-
 pub upstream_rows-requires : goal.upstream_rows-requires
 upstream_rows-requires c =
     let s = (goal.at.upstream_rows-requires c).Start in
@@ -143,16 +135,6 @@ returns c =
       e.stack_zeros,
     )
 
-pub slice_bounds-pairs-end : goal.slice_bounds-pairs-end
-slice_bounds-pairs-end c =
-    let s = (goal.at.slice_bounds-pairs-end c).Start in
-    edges_few s
-
-pub slice_bounds-find_inputs-end : goal.slice_bounds-find_inputs-end
-slice_bounds-find_inputs-end c =
-    let s = (goal.at.slice_bounds-find_inputs-end c).Start in
-    sym (keys-lent s)
-
 pub slice_bounds-inferred-end : goal.slice_bounds-inferred-end
 slice_bounds-inferred-end c =
     let s = (goal.at.slice_bounds-inferred-end c).Start in
@@ -163,17 +145,6 @@ slice_bounds-find_inputs-end-2 c =
     let s = (goal.at.slice_bounds-find_inputs-end-2 c).Start in
     sym (flags-lent s)
 
-pub slice_bounds-find_crossings-end : goal.slice_bounds-find_crossings-end
-slice_bounds-find_crossings-end c =
-    let s = (goal.at.slice_bounds-find_crossings-end c).Start in
-    sym (lent_long s c.find_inputs.new.backward c.find_inputs.auto.backward)
-
-pub slice_bounds-pairs-end-2 : goal.slice_bounds-pairs-end-2
-slice_bounds-pairs-end-2 c = c.find_crossings-count.ensures.few
-
-pub slice_bounds-upstream_rows-end : goal.slice_bounds-upstream_rows-end
-slice_bounds-upstream_rows-end c = sym (length-take-le _ _ c.find_crossings-count.ensures.few)
-
 pub slice_bounds-inferred-end-2 : goal.slice_bounds-inferred-end-2
 slice_bounds-inferred-end-2 c =
     let s = (goal.at.slice_bounds-inferred-end-2 c).Start in
@@ -183,15 +154,3 @@ pub slice_bounds-upstream_rows-end-2 : goal.slice_bounds-upstream_rows-end-2
 slice_bounds-upstream_rows-end-2 c =
     let s = (goal.at.slice_bounds-upstream_rows-end-2 c).Start in
     front_length _ c.find_inputs.new.inferred (flags_rest s) (flags_long s c.find_inputs.new.inferred c.find_inputs.auto.inferred)
-
-pub shape_of-fed : goal.shape_of-fed
-shape_of-fed c = c.build_fed.auto.fed ∙ c.find_inputs.auto.forward
-
-pub shape_of-labels : goal.shape_of-labels
-shape_of-labels c = c.find_inputs.auto.labels
-
-pub shape_of-upstream : goal.shape_of-upstream
-shape_of-upstream c = c.upstream_rows.auto.rows
-
-pub shape_of-stack : goal.shape_of-stack
-shape_of-stack c = c.find_inputs.auto.stack

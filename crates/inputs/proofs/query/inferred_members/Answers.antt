@@ -6,18 +6,6 @@ use Rattle.signals.proofs.Lent.{indices_same}
 use Rattle.signals.proofs.Staged.{members_below, marks_are}
 use Rattle.inputs.proofs.query.inferred_members.Goals as goal
 
-pub flag_drive-requires : goal.flag_drive-requires
-flag_drive-requires c =
-    let p = c.args.plot.now in
-    let scene = p.plot.accepted.scene in
-    let few = scene.components.few in record {
-      scene = (p.plot.ports.now, (scene, p.prepared.regions_are));
-      components_in_bounds = (few, (few, omega arith));
-    }
-
-pub flag_inferred-requires : goal.flag_inferred-requires
-flag_inferred-requires c = (c.flag_drive.auto.has_drive, c.args.plot.now.plot.accepted.scene.components.few)
-
 pub gather-requires : goal.gather-requires
 gather-requires c =
     let p = c.args.plot.now in (
@@ -31,6 +19,3 @@ returns c =
     let d = c.flag_drive.ensures p.plot.ports.now p.prepared.regions_are in
     let i = c.flag_inferred.ensures p.plot.frontiers.now d.region_flags in
     marks_are p.plot.components.now p.prepared.members_are i (c.gather.auto.out ∙ c.requires) c.gather.ensures
-
-pub shape_of-inferred : goal.shape_of-inferred
-shape_of-inferred c = c.gather.auto.out

@@ -135,26 +135,6 @@ returns c =
       stack_left = zeros_cleared _ sources.1 ∙ ap (λ (k : ℕ). replicate k 0) (c.row_sources.auto.stack ∙ w.auto.stack);
     }
 
-pub slice_bounds-fed-end : goal.slice_bounds-fed-end
-slice_bounds-fed-end c =
-    let s = (goal.at.slice_bounds-fed-end c).Start in
-    edges_few s
-
-pub slice_bounds-walk_tables-end : goal.slice_bounds-walk_tables-end
-slice_bounds-walk_tables-end c =
-    let s = (goal.at.slice_bounds-walk_tables-end c).Start in
-    sym (keys-lent s)
-
-pub slice_bounds-backward-end : goal.slice_bounds-backward-end
-slice_bounds-backward-end c =
-    let s = (goal.at.slice_bounds-backward-end c).Start in
-    edges_few s
-
-pub slice_bounds-walk_tables-end-2 : goal.slice_bounds-walk_tables-end-2
-slice_bounds-walk_tables-end-2 c =
-    let s = (goal.at.slice_bounds-walk_tables-end-2 c).Start in
-    sym (keys-lent s)
-
 pub slice_bounds-inferred-end : goal.slice_bounds-inferred-end
 slice_bounds-inferred-end c =
     let s = (goal.at.slice_bounds-inferred-end c).Start in
@@ -173,11 +153,6 @@ walk_tables-requires c =
       inferred_len = (flags-lent s ∙ all s, s.requires.stack_room);
     }
 
-pub overflow_mul-p : goal.overflow_mul-p
-overflow_mul-p c =
-    let s = (goal.at.overflow_mul-p c).Start in
-    omega (arith, s.requires.p_bound.0, s.args.plot.now.accepted.scene.components.few)
-
 pub overflow_mul-slot : goal.overflow_mul-slot
 overflow_mul-slot c =
     let s = (goal.at.overflow_mul-slot c).Start in
@@ -192,26 +167,6 @@ overflow_add-slot c =
       s.requires.p_bound.1,
     )
 
-pub slice_bounds-fed-end-2 : goal.slice_bounds-fed-end-2
-slice_bounds-fed-end-2 c =
-    let s = (goal.at.slice_bounds-fed-end-2 c).Start in
-    front_long _ c.walk_tables.new.fed (keys_rest s) (keys_long s c.walk_tables.new.fed c.walk_tables.auto.fed)
-
-pub slice_bounds-row_sources-end : goal.slice_bounds-row_sources-end
-slice_bounds-row_sources-end c =
-    let s = (goal.at.slice_bounds-row_sources-end c).Start in
-    front_length _ c.walk_tables.new.fed (keys_rest s) (keys_long s c.walk_tables.new.fed c.walk_tables.auto.fed)
-
-pub slice_bounds-backward-end-2 : goal.slice_bounds-backward-end-2
-slice_bounds-backward-end-2 c =
-    let s = (goal.at.slice_bounds-backward-end-2 c).Start in
-    front_long _ c.walk_tables.new.backward (keys_rest s) (keys_long s c.walk_tables.new.backward c.walk_tables.auto.backward)
-
-pub slice_bounds-row_sources-end-2 : goal.slice_bounds-row_sources-end-2
-slice_bounds-row_sources-end-2 c =
-    let s = (goal.at.slice_bounds-row_sources-end-2 c).Start in
-    front_length _ c.walk_tables.new.backward (keys_rest s) (keys_long s c.walk_tables.new.backward c.walk_tables.auto.backward)
-
 pub slice_bounds-inferred-end-2 : goal.slice_bounds-inferred-end-2
 slice_bounds-inferred-end-2 c =
     let s = (goal.at.slice_bounds-inferred-end-2 c).Start in
@@ -221,6 +176,3 @@ pub slice_bounds-row_sources-end-3 : goal.slice_bounds-row_sources-end-3
 slice_bounds-row_sources-end-3 c =
     let s = (goal.at.slice_bounds-row_sources-end-3 c).Start in
     front_length _ c.walk_tables.new.inferred (flags_rest s) (flags_long s c.walk_tables.new.inferred c.walk_tables.auto.inferred)
-
-pub shape_of-stack : goal.shape_of-stack
-shape_of-stack c = c.row_sources.auto.stack ∙ c.walk_tables.auto.stack

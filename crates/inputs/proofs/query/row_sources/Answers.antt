@@ -123,6 +123,3 @@ pub slice_bounds-upstream_inputs-end : goal.slice_bounds-upstream_inputs-end
 slice_bounds-upstream_inputs-end c =
     let s = (goal.at.slice_bounds-upstream_inputs-end c).Start in
     sym (front_length s c.immediate_flags.new.flags c.immediate_flags.auto.flags)
-
-pub shape_of-stack : goal.shape_of-stack
-shape_of-stack c = c.upstream_inputs.auto.stack

@@ -36,16 +36,6 @@ find_inputs-requires c =
       stack_room = c.requires.inferred_len.1;
     }
 
-pub build_fed-requires : goal.build_fed-requires
-build_fed-requires c =
-    let p = c.find_inputs.ensures.prepared in record {
-      port_connections = (
-        c.args.plot.now.accepted.scene.connections,
-        (c.args.plot.now.components.now, (c.args.plot.now.accepted.scene.components.few, (p.tables.source_members, p.tables.sink_members))),
-      );
-      ports_in_bounds = (p.sources_long, (p.sinks_long, c.find_inputs.auto.forward ∙ c.requires.fed_len.0));
-    }
-
 pub returns : goal.returns
 returns c =
     let e = c.find_inputs.ensures in
@@ -68,15 +58,3 @@ pub slice_bounds-find_inputs-end : goal.slice_bounds-find_inputs-end
 slice_bounds-find_inputs-end c =
     let s = (goal.at.slice_bounds-find_inputs-end c).Start in
     sym (labels-lent s)
-
-pub shape_of-fed : goal.shape_of-fed
-shape_of-fed c = c.build_fed.auto.fed ∙ c.find_inputs.auto.forward
-
-pub shape_of-backward : goal.shape_of-backward
-shape_of-backward c = c.find_inputs.auto.backward
-
-pub shape_of-inferred : goal.shape_of-inferred
-shape_of-inferred c = c.find_inputs.auto.inferred
-
-pub shape_of-stack : goal.shape_of-stack
-shape_of-stack c = c.find_inputs.auto.stack

@@ -41,26 +41,6 @@ analyze_in-requires c =
       rows_room = c.requires;
     }
 
-pub slice_bounds-forward-end : goal.slice_bounds-forward-end
-slice_bounds-forward-end c =
-    let s = (goal.at.slice_bounds-forward-end c).Start in
-    edges_few s
-
-pub slice_bounds-analyze_in-end : goal.slice_bounds-analyze_in-end
-slice_bounds-analyze_in-end c =
-    let s = (goal.at.slice_bounds-analyze_in-end c).Start in
-    sym (keys-lent s)
-
-pub slice_bounds-backward-end : goal.slice_bounds-backward-end
-slice_bounds-backward-end c =
-    let s = (goal.at.slice_bounds-backward-end c).Start in
-    edges_few s
-
-pub slice_bounds-analyze_in-end-2 : goal.slice_bounds-analyze_in-end-2
-slice_bounds-analyze_in-end-2 c =
-    let s = (goal.at.slice_bounds-analyze_in-end-2 c).Start in
-    sym (keys-lent s)
-
 pub slice_bounds-labels-end : goal.slice_bounds-labels-end
 slice_bounds-labels-end c =
     let s = (goal.at.slice_bounds-labels-end c).Start in
@@ -70,6 +50,3 @@ pub slice_bounds-analyze_in-end-3 : goal.slice_bounds-analyze_in-end-3
 slice_bounds-analyze_in-end-3 c =
     let s = (goal.at.slice_bounds-analyze_in-end-3 c).Start in
     sym (labels-lent s)
-
-pub returns : goal.returns
-returns c = c.analyze_in.ensures

@@ -67,9 +67,6 @@ returns-in-None c =
     sets_at c.args.id (sym c.row_place.ensures ∙ c.in-None.is)
     (c.no_sources.ensures p.components.now p.ports.now p.frontiers.now c.args.port)
 
-pub row_place-requires : goal.row_place-requires
-row_place-requires c = (within (goal.at.row_place-requires c).Start, c.args.self.now.plot.accepted.table)
-
 pub overflow_mul-member_of : goal.overflow_mul-member_of
 overflow_mul-member_of c =
     let s = (goal.at.overflow_mul-member_of c).Start in
