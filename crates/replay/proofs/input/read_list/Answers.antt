@@ -1,51 +1,22 @@
--- `replay::input::read_list` meets its contract: the count, and then the numbers behind it.
--- Assumes nothing.
-use native.Mathlib.Omega.{arith}
-use Rattle.replay.proofs.Lists.{no_count, too_long, list_read, list_unread}
-use Rattle.lines.proofs.Counting.{count_rest}
-use mathlib.Core.Path.{sym, ◌∙◌}
-use lib.Seq.{length-take-le}
+-- Answers for the goals that the search leaves: the count, and then the numbers behind it. Assumes nothing.
+use Rattle.std.proofs.Common.{rules, ◌≡◌, sym, ◌∙◌, None}
+use Rattle.replay.proofs.Lists.{too_long, list_read, list_unread}
 use Rattle.replay.proofs.input.read_list.Goals as goal
 
-pub returns-in_default : goal.returns-in_default
-returns-in_default c =
+pub returns-then-out-n-clause-read_from : goal.returns-then-out-n-clause-read_from
+returns-then-out-n-clause-read_from c =
     let a = c.args in
-    let e = sym c.read_count-head.ensures ∙ c.in_default.is in record {
-      at_most = tt;
-      read_from = no_count a.text.now a.word.now a.at a.out.now e;
-    }
+    too_long a.text.now a.word.now a.at a.out.now _ _ (sym c.read_count.ensures ∙ c.in_ok-count.was) c.if-out-n.true
 
-pub returns-then-out-n : goal.returns-then-out-n
-returns-then-out-n c =
+pub returns-in_err-end-clause-read_from : goal.returns-in_err-end-clause-read_from
+returns-in_err-end-clause-read_from c =
     let a = c.args in
-    let e = sym c.read_count-head.ensures ∙ c.in-Is.is in record {
-      at_most = tt;
-      read_from = too_long a.text.now a.word.now a.at a.out.now _ _ e c.if-out-n.true;
-    }
+    let e = sym c.read_count.ensures ∙ c.in_ok-count.was in
+    let back : c.from_residual-in_err-end.result ≡ None = search rules in
+    rw back (list_unread a.text.now a.word.now a.at a.out.now _ _ e c.read_numbers.new.out c.if-out-n.false c.read_numbers.result c.in_err-end.was c.read_numbers.ensures)
 
-pub slice_bounds-read_numbers-end-2 : goal.slice_bounds-read_numbers-end-2
-slice_bounds-read_numbers-end-2 c = sym (length-take-le _ _ (omega arith))
-
-pub read_numbers-end-requires : goal.read_numbers-end-requires
-read_numbers-end-requires c =
+pub returns-clause-read_from : goal.returns-clause-read_from
+returns-clause-read_from c =
     let a = c.args in
-    let e = sym c.read_count-head.ensures ∙ c.in-Is.is in
-    (count_rest a.text.now a.word.now a.at _ _ e).0
-
-pub returns-in-To : goal.returns-in-To
-returns-in-To c =
-    let a = c.args in
-    let e = sym c.read_count-head.ensures ∙ c.in-Is.is in
-    let t = c.read_numbers-end in record {
-      at_most = c.if-out-n.false;
-      read_from = list_read a.text.now a.word.now a.at a.out.now _ _ e t.new.out c.if-out-n.false t.result c.in-To.p c.in-To.is t.ensures;
-    }
-
-pub returns-in-No : goal.returns-in-No
-returns-in-No c =
-    let a = c.args in
-    let e = sym c.read_count-head.ensures ∙ c.in-Is.is in
-    let t = c.read_numbers-end in record {
-      at_most = tt;
-      read_from = list_unread a.text.now a.word.now a.at a.out.now _ _ e t.new.out c.if-out-n.false t.result c.in-No.is t.ensures;
-    }
+    let e = sym c.read_count.ensures ∙ c.in_ok-count.was in
+    list_read a.text.now a.word.now a.at a.out.now _ _ e c.read_numbers.new.out c.if-out-n.false c.read_numbers.result c.in_ok-end.end c.in_ok-end.was c.read_numbers.ensures
