@@ -23,10 +23,10 @@ loop-at-preserved c =
 
 pub returns-then-key-slot : goal.returns-then-key-slot
 returns-then-key-slot c =
-    slot_sets c.requires.ascending.0 c.lower_bound-first.ensures c.requires.indices.1.0 c.loop-at.invariant c.loop-at.auto.at
+    slot_sets c.requires.ascending.0 c.lower_bound-first.ensures c.requires.indices.1 c.loop-at.invariant c.loop-at.auto.at
     (λ h. c.if-key-slot.true) refl refl
 
 pub returns-after-loop-at : goal.returns-after-loop-at
 returns-after-loop-at c =
-    slot_sets c.requires.ascending.0 c.lower_bound-first.ensures c.requires.indices.1.0 c.loop-at.invariant c.loop-at.auto.at
+    slot_sets c.requires.ascending.0 c.lower_bound-first.ensures c.requires.indices.1 c.loop-at.invariant c.loop-at.auto.at
     (λ h. absurd (omega (arith, c.loop-at-test.false))) refl refl

@@ -13,7 +13,7 @@ room : (c : Else-key-slot) → get_or c.args.keys.now c.loop-at.at 0 % span < le
 room c =
     omega (
       arith,
-      c.loop-at.auto.flags ∙ c.clear_flags.auto.flags,
+      c.loop-at.auto.flags ∙ c.fill.auto.self,
       c.requires.slot_within.0.below c.loop-at.at c.loop-at-test.true c.if-key-slot.false,
     )
 
@@ -23,9 +23,9 @@ loop-at-preserved c = flagged_more c.loop-at.invariant c.loop-at-test.true c.if-
 pub returns-then-key-slot : goal.returns-then-key-slot
 returns-then-key-slot c =
     flagged_all c.requires.ascending.0 c.lower_bound-first.ensures c.loop-at.invariant c.loop-at.auto.at (λ h. c.if-key-slot.true)
-    (c.loop-at.auto.flags ∙ c.clear_flags.auto.flags) c.requires.slot_within.1
+    (c.loop-at.auto.flags ∙ c.fill.auto.self) c.requires.slot_within.1
 
 pub returns : goal.returns
 returns c =
     flagged_all c.requires.ascending.0 c.lower_bound-first.ensures c.loop-at.invariant c.loop-at.auto.at
-    (λ h. absurd (omega (arith, c.loop-at-test.false))) (c.loop-at.auto.flags ∙ c.clear_flags.auto.flags) c.requires.slot_within.1
+    (λ h. absurd (omega (arith, c.loop-at-test.false))) (c.loop-at.auto.flags ∙ c.fill.auto.self) c.requires.slot_within.1

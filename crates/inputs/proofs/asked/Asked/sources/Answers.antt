@@ -48,7 +48,7 @@ slot_sources-requires c =
     ∥∥₁_elim a.ready (hlevel props) (λ (r : ReadyPlot s).
     let q = slot_asked (row_slot r.fed_scene row (c.member_of.ensures (cs s) a.plot.accepted.table)) (length a.labels.now) (ready_nodes r) in record {
       ascending = (q.0.0, (q.0.1, q.1.0));
-      indices = (ready_labels r, (omega (arith, ready_nodes r, (within s).few), r.rows_long));
+      indices = (ready_labels r, omega (arith, ready_nodes r, (within s).few));
     })
 
 pub returns-in-Some : goal.returns-in-Some
