@@ -89,3 +89,7 @@ module _ (keys words : List ℕ) where
 pub front_taken : (numbers out out' : List ℕ) (r : ℕ) → Written numbers out out' r → take r out' ≡ numbers
 front_taken numbers out out' r w =
     ap (λ k. take k out') w.count ∙ ap (take (length numbers)) w.front ∙ take-append_seam numbers (drop (length numbers) out)
+
+pub ruleset listed_flags = (flags_none, flags_more, flags_all)
+
+pub ruleset listed_names = (front_none, front_more, names_none, names_skip, names_more, names_few)

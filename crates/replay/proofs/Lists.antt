@@ -1,6 +1,6 @@
 -- A recorded list by its count and its numbers, against what the code answers.
 --     long                      as many numbers are read as were asked for
---     no_count, too_long        the count is refused, or the lent list is too short
+--     too_long                  the lent list is too short
 --     list_read, list_unread    the numbers behind the count are read, or refused
 -- Assumes nothing.
 use Prim.Native.Nat.{ℕ, zero, suc, ◌≤◌, ◌<◌}
@@ -12,7 +12,6 @@ use lib.ListN.{length, take, drop}
 use lib.Seq.{length-take-le}
 use Rattle.lines.specs.Line.{Taken, taken, refused, read_number, read_line, natural, taken_in}
 use Rattle.lines.proofs.Counting.{count_rest}
-use Rattle.lines.proofs.Placed.{refused_is}
 use Rattle.replay.specs.Recorded.{before, and_then, read_numbers, numbers_of, read_list, Filled, ReadFrom}
 use Rattle.std.specs.Prelude.{Option, Some, None}
 
@@ -46,11 +45,6 @@ unread m (taken zs s) out mid out' f = let e = f.1 in cc
 unread m refused out mid out' f = tt
 
 module _ (text word : List ℕ) (at : ℕ) (out : List ℤ) where
-  pub no_count : taken_in (length text) (natural (read_line word (drop at text))) ≡ None → ReadFrom (length text) (read_list word (drop at text)) out out None
-  no_count e =
-      let q = refused_is (length text) (natural (read_line word (drop at text))) e in
-      subst (λ (t : Taken ℕ). ReadFrom (length text) (numbers_of t) out out None) (sym q) tt
-
   module _ (n start : ℕ) (e : taken_in (length text) (natural (read_line word (drop at text))) ≡ Some (n, start)) where
     behind : read_numbers n (drop start text) ≡ read_list word (drop at text)
     behind = sym (ap numbers_of (count_rest text word at n start e).1)
@@ -82,3 +76,5 @@ module _ (text word : List ℕ) (at : ℕ) (out : List ℤ) where
           (λ (q : Taken (List ℤ)). ReadFrom (length text) q out (mid ++ drop n out) None)
           behind
           (unread (length text) (read_numbers n (drop start text)) out mid (mid ++ drop n out) (lent r None d f))
+
+pub ruleset lists = (too_long, list_read, list_unread)

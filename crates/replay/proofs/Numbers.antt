@@ -9,7 +9,10 @@ use native.Mathlib.Nat.{sub-zero}
 use mathlib.Core.Path.{◌≡◌, refl, sym, ap, ◌∙◌}
 use mathlib.Core.List.{List, [], ◌∷◌, ◌++◌, append_assoc, append-nil}
 use lib.IntN.{ℤ}
-use lib.ListN.{length, drop, length-append, length-drop}
+use lib.ListN.{length, take, drop, set, length-append, length-drop}
+use lib.Seq.{take-length}
+use Rattle.std.proofs.lemmas.List.{take_more_set}
+use Rattle.lines.proofs.Reading.{starts}
 use Rattle.lines.specs.Decimal.{number}
 use Rattle.lines.specs.Line.{Taken, taken, refused, read_number, has_key, read_line, taken_in}
 use Rattle.std.specs.Prelude.{Some, None}
@@ -87,3 +90,16 @@ module _ (text : List ℕ) (at n : ℕ) where
   ends {i} {p} {zs} s h =
       let z : n - i ≡ 0 = omega arith in
       sym s.whole ∙ rw (z, append-nil zs)
+
+  -- the same of numbers that stand at the front of a list
+  pub step_at : {i p : ℕ} (out : List ℤ) → Passed i p (take i out) → length out ≡ n → i < length out → (z : ℤ) (q : ℕ)
+      → taken_in (length text) (read_number (drop p text)) ≡ Some (z, q) → Passed (i + 1) q (take (i + 1) (set out i z))
+  step_at {i} {p} out s e h z q f = rw (take_more_set out i z h) (step s (omega arith) z q f)
+
+  pub ends_at : {i p : ℕ} (out : List ℤ) → Passed i p (take i out) → length out ≡ n → n ≤ i
+      → (read_numbers n (drop at text) ≡ taken out (drop p text)) × (p ≡ length text - length (drop p text))
+  ends_at {i} {p} out s e h =
+      let same : take i out ≡ out = ap (λ k. take k out) (omega (arith, s.within, e, h)) ∙ take-length out in
+      (ends s h ∙ ap (λ zs. taken zs (drop p text)) same, sym (starts text p s.placed))
+
+pub ruleset numbers = (start, fails, ends_at)

@@ -95,6 +95,7 @@ fn name_of(keys: &[u64], member: usize) -> u64
 }
 
 // Writes the names of a set's members, rising, and answers how many there are.
+#[tactic(auto, using(crate::proofs::Listing::listed_names))]
 fn list_names(keys: &[u64], set: ComponentSet, out: &mut [u64]) -> usize
     requires { member_limit ≤ length out.old }
     ensures { Written (names_below keys.now set.words member_limit) out.old out.new result }
@@ -110,6 +111,7 @@ fn list_names(keys: &[u64], set: ComponentSet, out: &mut [u64]) -> usize
 }
 
 // 1 for each number that is in a set, and 0 for the others.
+#[tactic(auto, using(crate::proofs::Listing::listed_flags))]
 fn list_flags(set: ComponentSet) -> [u64; MEMBERS]
     ensures { result ≡ flags_below set.words member_limit }
 {

@@ -17,6 +17,7 @@ pub(crate) fn refill(text: &mut [u8], at: usize) {
 }
 
 // Fills `out` with the numbers at `at`, and answers where they end.
+#[tactic(auto, using(crate::proofs::Numbers::numbers))]
 fn read_numbers(text: &[u8], at: usize, out: &mut [i64]) -> Option<usize>
     requires { at ≤ length text.now }
     ensures { Filled (length text.now) (read_numbers (length out.old) (drop at text.now)) out.new result }
@@ -31,6 +32,7 @@ fn read_numbers(text: &[u8], at: usize, out: &mut [i64]) -> Option<usize>
 }
 
 // Reads the list of a word at `at` to the front of `out`, and answers how many numbers it has, and the position after it.
+#[tactic(auto, using(crate::proofs::Lists::lists))]
 pub fn read_list(text: &[u8], at: usize, word: &[u8], out: &mut [i64]) -> Option<(usize, usize)>
     ensures at_most { AtMost (length out.old) result }
     ensures read_from { ReadFrom (length text.now) (read_list word.now (drop at text.now)) out.old out.new result }
