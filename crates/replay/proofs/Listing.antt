@@ -3,7 +3,7 @@
 --     front_none, -more            none at first, one more
 --     front_taken                  numbers at the front, taken again
 --     flags_none, -more            the flags below a number
---     names_none, -skip, -more     the names below a number
+--     names_none, -first, -last    the names below a number
 -- Assumes nothing.
 use Prim.Native.Nat.{ℕ, zero, suc, ◌+◌, ◌≤◌, ◌<◌}
 use native.Mathlib.Numerals.{add-one}
@@ -17,7 +17,12 @@ use Rattle.std.proofs.lemmas.List.{take_more_set}
 use Rattle.std.specs.Int.{from_bool}
 use Rattle.lists.specs.Slices.{laid}
 use Rattle.lines.proofs.Writing.{laid_snoc, length_laid}
-use Rattle.sets.specs.Members.{as_nat, member_of}
+use Rattle.sets.specs.Members.{as_nat, member_of, NoneIn, FirstFrom}
+use Rattle.std.specs.Prelude.{Option, Some, None}
+use Rattle.std.specs.Option.{unwrap_or}
+use native.Mathlib.Nat.{add-zero}
+use mathlib.Core.Path.{subst}
+use Prim.Native.Nat.{◌-◌}
 use Rattle.replay.specs.Names.{name_of, names_below, flags_below, Written}
 
 pub record Front (rows : List ℕ) (n : ℕ) (old new : List ℕ) : Type 0 where
@@ -63,18 +68,39 @@ flags_all words ys n k long last e =
     let all : take k ys ≡ ys = ap (λ m. take m ys) (last ∙ sym long) ∙ take-length ys in
     sym all ∙ e ∙ ap (flags_below words) last
 
+-- the next member is past the last one
+pub next_rises : (words : List ℕ) (m : ℕ) (r : Option ℕ) → m < 1024 → FirstFrom words (m + 1) r → 1024 - unwrap_or r 1024 < 1024 - m
+next_rises words m None h f = omega arith
+next_rises words m (Some k) h f = omega (arith, f.0)
+
 module _ (keys words : List ℕ) where
   pub names_none : names_below keys words 0 ≡ []
   unfolding names_below
   names_none = refl
 
-  pub names_skip : (m : ℕ) → member_of words m ≡ false → names_below keys words (m + 1) ≡ names_below keys words m
-  unfolding names_below
-  names_skip m e = rw (add-one, e) (append-nil (names_below keys words m))
-
-  pub names_more : (m : ℕ) → member_of words m ≡ true → names_below keys words (m + 1) ≡ names_below keys words m ++ (name_of keys m ∷ [])
+  names_more : (m : ℕ) → member_of words m ≡ true → names_below keys words (m + 1) ≡ names_below keys words m ++ (name_of keys m ∷ [])
   unfolding names_below
   names_more m e = rw (add-one, e)
+
+  -- no member among d
+  names_skip : (d a : ℕ) → NoneIn words a (a + d) → names_below keys words (a + d) ≡ names_below keys words a
+  unfolding names_below
+  names_skip zero a none = ap (names_below keys words) (add-zero a)
+  names_skip (suc d) a none =
+      let e : a + suc d ≡ suc (a + d) = omega arith in
+      rw (e, none (a + d) (omega arith) (omega arith)) (append-nil (names_below keys words (a + d)) ∙ names_skip d a (λ k h l. none k h (omega arith)))
+
+  names_to : (a b : ℕ) → a ≤ b → NoneIn words a b → names_below keys words b ≡ names_below keys words a
+  names_to a b h none =
+      let e : b ≡ a + (b - a) = omega arith in
+      ap (names_below keys words) e ∙ names_skip (b - a) a (subst (NoneIn words a) e none)
+
+  -- the next member from a start on, and none
+  pub names_first : (a m : ℕ) → FirstFrom words a (Some m) → names_below keys words (m + 1) ≡ names_below keys words a ++ (name_of keys m ∷ [])
+  names_first a m (h, e, none) = names_more m e ∙ ap (λ l. l ++ (name_of keys m ∷ [])) (names_to a m h none)
+
+  pub names_last : (a b : ℕ) → a ≤ b → FirstFrom words a None → names_below keys words b ≡ names_below keys words a
+  names_last a b h f = names_to a b h (λ k l g. f k l)
 
   pub names_few : (m : ℕ) → length (names_below keys words m) ≤ m
   unfolding names_below
@@ -91,5 +117,3 @@ front_taken numbers out out' r w =
     ap (λ k. take k out') w.count ∙ ap (take (length numbers)) w.front ∙ take-append_seam numbers (drop (length numbers) out)
 
 pub ruleset listed_flags = (flags_none, flags_more, flags_all)
-
-pub ruleset listed_names = (front_none, front_more, names_none, names_skip, names_more, names_few)
