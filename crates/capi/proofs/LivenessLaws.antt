@@ -1,7 +1,7 @@
 -- From the liveness entry on lists of numbers to the entry by bytes.
 --     short_refused                    without room for the sets a scene is refused
 --     by_room                          places past those that a scene can fill change no refusal
---     found                            the answer to an accepted scene
+--     refused, accepted, found         what the checks said, and the answer to an accepted scene
 --     regions_there, ..-front          the rows of such a scene stand at the front of their slices
 --     few_regions                      and there are no more regions than components
 --     refused_alive, accepted_alive    the answer and what is left, from the lists of numbers
@@ -18,7 +18,7 @@ use mathlib.Core.Bool.{Bool, true, false}
 use mathlib.Core.List.{List, ◌++◌}
 use Prim.Native.Nat.{ℕ, ◌+◌, ◌*◌, ◌/◌, ◌^◌, ◌≤◌, ◌<◌, min}
 use native.Mathlib.Omega.{arith}
-use lib.Dec.{leb, lit<, lit≤}
+use lib.Dec.{leb, lit≤}
 use lib.ListN.{length, get_or, take, drop, length-append}
 use lib.IntN.{ℤ}
 use borrow.Author.Tests.{leb-true, leb-false, le-leb}
@@ -105,10 +105,16 @@ few_regions cs ps fs enough e =
     let laws = region_laws (component_count cs) (signals cs ps) (signals_within cs ps (scene_of_lem scene)) in
     omega (arith, laws.few, scene.components.few)
 
-pub found : {checks : Result ⊤ Refusal} {cs ps fs : List ℤ} {regions regions' sources sources' inputs inputs' stack stack' : List ℕ} {r : Analysis}
-    → checks ≡ Ok tt → AnalyzedBy checks cs ps fs regions regions' sources sources' inputs inputs' stack stack' r
-    → AnalyzedBy (Ok tt) cs ps fs regions regions' sources sources' inputs inputs' stack stack' r
-found e a = rw e at a
+module _ {checks : Result ⊤ Refusal} {cs ps fs : List ℤ} {regions regions' sources sources' inputs inputs' stack stack' : List ℕ} {r : Result Analysis Refusal}
+    (a : AnalyzedBy checks cs ps fs regions regions' sources sources' inputs inputs' stack stack' r) where
+  pub refused : {refusal : Refusal} → r ≡ Err refusal → checks ≡ Err refusal
+  refused e = let b = rw e at a in sym b.answer
+
+  pub accepted : {analysis : Analysis} → r ≡ Ok analysis → checks ≡ Ok tt
+  accepted e = let b = rw e at a in sym b.answer
+
+  pub found : {analysis : Analysis} → r ≡ Ok analysis → AnalyzedBy (Ok tt) cs ps fs regions regions' sources sources' inputs inputs' stack stack' (Ok analysis)
+  found e = rw (accepted e) at (rw e at a)
 
 -- rows that were laid are there, and are what stands at the front
 laid_there : (rows old new : List ℕ) (k : ℕ) → length rows ≡ k → new ≡ laid rows old → k ≤ length new
@@ -126,35 +132,35 @@ set_words : {n : ℕ} {P : ℕ → Bool} {words : List ℕ} → WordsOfSet words
 set_words {n} {P} {words} w s = set_unique words n P w.long w.fit s.member
 
 module _ {cs ps fs : List ℤ} {regions regions' sources sources' inputs inputs' stack stack' : List ℕ} {r : Analysis}
-    (a : AnalyzedBy (Ok tt) cs ps fs regions regions' sources sources' inputs inputs' stack stack' r) where
+    (a : AnalyzedBy (Ok tt) cs ps fs regions regions' sources sources' inputs inputs' stack stack' (Ok r)) where
   pub regions_there : component_count cs ≤ length regions'
   regions_there = laid_there (regions_of cs ps) regions regions' (component_count cs) (tab_length (region_of_place cs ps) (component_count cs)) a.regions_left
 
   pub sources_there : r.sources * 2 ≤ length sources'
-  sources_there = laid_there (source_rows cs ps fs) sources sources' (r.sources * 2) (sym a.source_count) a.sources_left
+  sources_there = laid_there (source_rows cs ps fs) sources sources' (r.sources * 2) (sym a.analysis.source_count) a.sources_left
 
   pub inputs_there : r.inputs * 3 ≤ length inputs'
-  inputs_there = laid_there (input_rows cs ps fs) inputs inputs' (r.inputs * 3) (sym a.input_count) a.inputs_left
+  inputs_there = laid_there (input_rows cs ps fs) inputs inputs' (r.inputs * 3) (sym a.analysis.input_count) a.inputs_left
 
   regions_front : take (component_count cs) regions' ≡ regions_of cs ps
   regions_front = laid_taken (regions_of cs ps) regions regions' (component_count cs) (tab_length (region_of_place cs ps) (component_count cs)) a.regions_left
 
   sources_front : take (r.sources * 2) sources' ≡ source_rows cs ps fs
-  sources_front = laid_taken (source_rows cs ps fs) sources sources' (r.sources * 2) (sym a.source_count) a.sources_left
+  sources_front = laid_taken (source_rows cs ps fs) sources sources' (r.sources * 2) (sym a.analysis.source_count) a.sources_left
 
   inputs_front : take (r.inputs * 3) inputs' ≡ input_rows cs ps fs
-  inputs_front = laid_taken (input_rows cs ps fs) inputs inputs' (r.inputs * 3) (sym a.input_count) a.inputs_left
+  inputs_front = laid_taken (input_rows cs ps fs) inputs inputs' (r.inputs * 3) (sym a.analysis.input_count) a.inputs_left
 
   sets_are : WordsOfSet r.drive.words → WordsOfSet r.potential.words → WordsOfSet r.cyclic.words → WordsOfSet r.has_drive.words
       → (r.drive.words ++ (r.potential.words ++ (r.cyclic.words ++ r.has_drive.words))) ≡ sets_of cs ps fs
-  sets_are d p c h = rw (set_words d a.drive_set, set_words p a.potential_set, set_words c a.cyclic_set, set_words h a.has_drive_set)
+  sets_are d p c h = rw (set_words d a.analysis.drive_set, set_words p a.analysis.potential_set, set_words c a.analysis.cyclic_set, set_words h a.analysis.has_drive_set)
 
   numbers_are : (n : ℕ) → n ≡ 65536 * r.regions + 4294967296 * r.sources + 281474976710656 * r.inputs
       → n ≡ 65536 * region_count cs ps + 4294967296 * (length (source_rows cs ps fs) / 2) + 281474976710656 * (length (input_rows cs ps fs) / 3)
   numbers_are n e =
-      let two : r.sources ≡ length (source_rows cs ps fs) / 2 = omega (arith, a.source_count) in
-      let three : r.inputs ≡ length (input_rows cs ps fs) / 3 = omega (arith, a.input_count) in
-      omega (arith, e, a.region_count_lem, two, three)
+      let two : r.sources ≡ length (source_rows cs ps fs) / 2 = omega (arith, a.analysis.source_count) in
+      let three : r.inputs ≡ length (input_rows cs ps fs) / 3 = omega (arith, a.analysis.input_count) in
+      omega (arith, e, a.analysis.region_count_lem, two, three)
 
   pub accepted_alive : {checks : Result ⊤ Refusal} {out₁ out₁' out₂ out₂' out₃ out₃' out₄ out₄' work work' : List ℕ} {n : ℕ} → checks ≡ Ok tt
       → WordsOfSet r.drive.words → WordsOfSet r.potential.words → WordsOfSet r.cyclic.words → WordsOfSet r.has_drive.words

@@ -3,7 +3,6 @@
 --     WrittenRoom        so do those that were found
 --     Written            they were written
 --     LivenessByPlaces   the answer to lists of numbers, by the bytes of the lent slices
---     few_ports           the port connections that a smaller array has room for
 -- Assumes nothing: these are definitions.
 use Rattle.std.specs.Prelude.{ℕ, ◌+◌, ◌*◌, ◌≤◌, ◌≡◌, List, ◌++◌, length, take, ℤ}
 use Rattle.sets.specs.Members.{word_count}
@@ -44,6 +43,3 @@ abbrev pub LivenessByPlaces : List ℤ → List ℤ → List ℤ → List ℕ �
 LivenessByPlaces cs ps fs regions regions' sources sources' inputs inputs' sets sets' stack stack' r =
     LivenessLaid (liveness_places cs ps fs (length regions) (length sources) (length inputs) (length sets) (length stack))
     cs ps fs regions regions' sources sources' inputs inputs' sets sets' stack stack' r
-
-abbrev pub few_ports : ℕ
-few_ports = 1024

@@ -8,7 +8,7 @@ ghost use Rattle.checks.specs.Refusals.{room_for, liveness_lists, liveness_refus
 ghost use Rattle.lists.specs.Slices.{laid};
 ghost use Rattle.encoding.specs.Bytes.{number_bytes, numbers, bytes_of};
 ghost use Rattle.capi.specs.Liveness.{set_count, liveness_whole, LivenessLaid, LivenessByBytes};
-ghost use Rattle.capi.specs.Written.{Written, WrittenRoom, RowRoom, LivenessByPlaces, few_ports};
+ghost use Rattle.capi.specs.Written.{Written, WrittenRoom, RowRoom, LivenessByPlaces};
 
 use checks::refusals::{liveness_lists, pack, room_for};
 use encoding::bytes::{NUMBER, decode, encode, encode_at, places, wipe};
@@ -19,8 +19,27 @@ use sets::{ComponentSet, WORDS};
 // The sets of an answer.
 const SETS: usize = 4;
 
-// The port connections that a smaller array has room for.
-const FEW: usize = 1024;
+// The numbers of the most port connections, and of so few that a smaller array serves.
+const PORT_NUMBERS: usize = CONNECTIONS * PORT;
+
+const FEW_PORT_NUMBERS: usize = 1024 * PORT;
+
+// The lists of a scene, with no more components than the limit.
+#[derive(Clone, Copy)]
+struct Lists<'a> {
+    components: &'a [i64],
+    ports: &'a [i64],
+    frontiers: &'a [i64],
+    ghost few: { component_count components.now ≤ component_limit },
+}
+
+// The rows of a scene as numbers.
+#[derive(Clone, Copy)]
+struct Rows<'a> {
+    regions: &'a [u64],
+    sources: &'a [u64],
+    inputs: &'a [u64],
+}
 
 // The counts of an accepted scene as one number.
 fn pack_counts(regions: usize, sources: usize, inputs: usize) -> u64
@@ -51,21 +70,19 @@ fn put_sets(
 fn write_answer(
     count: usize,
     analysis: Analysis,
-    region_rows: &[u64],
-    source_rows: &[u64],
-    input_rows: &[u64],
+    rows: &Rows,
     regions: &mut [u8],
     sources: &mut [u8],
     inputs: &mut [u8],
     sets: &mut [u8],
     stack: &mut [u8],
 ) -> u64
-    requires { WrittenRoom count analysis region_rows.now source_rows.now input_rows.now regions.old sources.old inputs.old sets.old }
-    ensures { Written count analysis region_rows.now source_rows.now input_rows.now regions.old regions.new sources.old sources.new inputs.old inputs.new sets.old sets.new stack.old stack.new result }
+    requires { WrittenRoom count analysis rows.now.regions.now rows.now.sources.now rows.now.inputs.now regions.old sources.old inputs.old sets.old }
+    ensures { Written count analysis rows.now.regions.now rows.now.sources.now rows.now.inputs.now regions.old regions.new sources.old sources.new inputs.old inputs.new sets.old sets.new stack.old stack.new result }
 {
-    encode(&region_rows[..count], regions);
-    encode(&source_rows[..analysis.sources * 2], sources);
-    encode(&input_rows[..analysis.inputs * 3], inputs);
+    encode(&rows.regions[..count], regions);
+    encode(&rows.sources[..analysis.sources * 2], sources);
+    encode(&rows.inputs[..analysis.inputs * 3], inputs);
     put_sets(
         analysis.drive,
         analysis.potential,
@@ -78,10 +95,9 @@ fn write_answer(
 }
 
 // The liveness of a scene as bytes, by way of the rows of numbers.
+// Ten parameters: the lent slices would stand in a struct only with a ghost name for what each is left as.
 fn by_rows(
-    components: &[i64],
-    ports: &[i64],
-    frontiers: &[i64],
+    lists: &Lists,
     region_rows: &mut [u64],
     source_rows: &mut [u64],
     input_rows: &mut [u64],
@@ -93,49 +109,46 @@ fn by_rows(
     stack: &mut [u8],
 ) -> u64
     requires { RowRoom region_rows.old source_rows.old input_rows.old regions.old sources.old inputs.old sets.old }
-    ensures { LivenessLaid (liveness_refusal components.now ports.now frontiers.now (length region_rows.old) (length source_rows.old) (length input_rows.old) (length pairs.old)) components.now ports.now frontiers.now regions.old regions.new sources.old sources.new inputs.old inputs.new sets.old sets.new stack.old stack.new result }
+    ensures { let cs = lists.now.components.now in let ps = lists.now.ports.now in let fs = lists.now.frontiers.now in
+        LivenessLaid (liveness_refusal cs ps fs (length region_rows.old) (length source_rows.old) (length input_rows.old) (length pairs.old))
+        cs ps fs regions.old regions.new sources.old sources.new inputs.old inputs.new sets.old sets.new stack.old stack.new result }
 {
-    let analysis = analyze_signal_liveness(
-        components,
-        ports,
-        frontiers,
+    let analyzed = analyze_signal_liveness(
+        lists.components,
+        lists.ports,
+        lists.frontiers,
         region_rows,
         source_rows,
         input_rows,
         pairs,
     );
-    let checked = analysis.checked;
-    let Ok(()) = checked else {
-        return pack(checked);
-    };
-    write_answer(
-        components.len() / COMPONENT,
-        analysis,
-        region_rows,
-        source_rows,
-        input_rows,
-        regions,
-        sources,
-        inputs,
-        sets,
-        stack,
-    )
+    match analyzed {
+        Err(refusal) => pack(Err(refusal)),
+        Ok(analysis) => {
+            let rows = Rows {
+                regions: region_rows,
+                sources: source_rows,
+                inputs: input_rows,
+            };
+            let count = lists.components.len() / COMPONENT;
+            write_answer(
+                count, analysis, &rows, regions, sources, inputs, sets, stack,
+            )
+        }
+    }
 }
 
 // The liveness of a scene as bytes. There are no more rows than a scene's components can have, so longer slices give no further places.
 fn by_places(
-    components: &[i64],
-    ports: &[i64],
-    frontiers: &[i64],
+    lists: &Lists,
     regions: &mut [u8],
     sources: &mut [u8],
     inputs: &mut [u8],
     sets: &mut [u8],
     stack: &mut [u8],
 ) -> u64
-    requires components_bound { component_count components.now ≤ component_limit }
-    requires number_bytes_value { room_for set_count word_count (length sets.old / number_bytes) ≡ true }
-    ensures { LivenessByPlaces components.now ports.now frontiers.now regions.old regions.new sources.old sources.new inputs.old inputs.new sets.old sets.new stack.old stack.new result }
+    requires { room_for set_count word_count (length sets.old / number_bytes) ≡ true }
+    ensures { LivenessByPlaces lists.now.components.now lists.now.ports.now lists.now.frontiers.now regions.old regions.new sources.old sources.new inputs.old inputs.new sets.old sets.new stack.old stack.new result }
 {
     let mut region_rows = [0u64; COMPONENTS];
     let mut source_rows = [0u64; 4 * COMPONENTS];
@@ -146,9 +159,7 @@ fn by_places(
     let input_places = places(inputs.len(), 12 * COMPONENTS);
     let pair_places = places(stack.len(), 2 * COMPONENTS);
     by_rows(
-        components,
-        ports,
-        frontiers,
+        lists,
         &mut region_rows[..region_places],
         &mut source_rows[..source_places],
         &mut input_rows[..input_places],
@@ -162,16 +173,16 @@ fn by_places(
 }
 
 // The refusal of a scene for whose sets there is no room.
-fn refuse_short(components: &[i64], ports: &[i64], frontiers: &[i64]) -> u64
-    ensures { result ≡ packed (liveness_lists components.now ports.now frontiers.now false) }
+fn refuse_short(lists: &Lists) -> u64
+    ensures { result ≡ packed (liveness_lists lists.now.components.now lists.now.ports.now lists.now.frontiers.now false) }
 {
     let mut keys = [0u64; COMPONENTS];
     let mut source_at = [0usize; CONNECTIONS];
     let mut sink_at = [0usize; CONNECTIONS];
     pack(liveness_lists(
-        components,
-        ports,
-        frontiers,
+        lists.components,
+        lists.ports,
+        lists.frontiers,
         false,
         &mut keys,
         &mut source_at,
@@ -181,28 +192,23 @@ fn refuse_short(components: &[i64], ports: &[i64], frontiers: &[i64]) -> u64
 
 // The liveness of a scene as bytes.
 fn of_numbers(
-    components: &[i64],
-    ports: &[i64],
-    frontiers: &[i64],
+    lists: &Lists,
     regions: &mut [u8],
     sources: &mut [u8],
     inputs: &mut [u8],
     sets: &mut [u8],
     stack: &mut [u8],
 ) -> u64
-    requires { component_count components.now ≤ component_limit }
-    ensures { LivenessByPlaces components.now ports.now frontiers.now regions.old regions.new sources.old sources.new inputs.old inputs.new sets.old sets.new stack.old stack.new result }
+    ensures { LivenessByPlaces lists.now.components.now lists.now.ports.now lists.now.frontiers.now regions.old regions.new sources.old sources.new inputs.old inputs.new sets.old sets.new stack.old stack.new result }
 {
     if room_for(SETS, WORDS, sets.len() / NUMBER) {
-        return by_places(
-            components, ports, frontiers, regions, sources, inputs, sets, stack,
-        );
+        return by_places(lists, regions, sources, inputs, sets, stack);
     }
-    refuse_short(components, ports, frontiers)
+    refuse_short(lists)
 }
 
-// The liveness of a scene whose port connections are lent as bytes.
-fn with_ports(
+// The liveness of a scene whose port connections are lent as bytes, of at most N numbers: so many are cleared, not as many as there can be.
+fn with_ports<const N: usize>(
     components: &[i64],
     ports: &[u8],
     frontiers: &[i64],
@@ -213,52 +219,18 @@ fn with_ports(
     stack: &mut [u8],
 ) -> u64
     requires components_bound { component_count components.now ≤ component_limit }
-    requires number_bytes_len_bound { length ports.now / number_bytes ≤ connection_limit * port_width }
+    requires ports_fit { (length ports.now / number_bytes ≤ N) × (N ≤ connection_limit * port_width) }
     ensures { LivenessByPlaces components.now (numbers ports.now) frontiers.now regions.old regions.new sources.old sources.new inputs.old inputs.new sets.old sets.new stack.old stack.new result }
 {
-    let mut port_numbers = [0i64; CONNECTIONS * PORT];
+    let mut port_numbers = [0i64; N];
     decode(ports, &mut port_numbers);
     let port_count = ports.len() / NUMBER;
-    of_numbers(
+    let lists = Lists {
         components,
-        &port_numbers[..port_count],
+        ports: &port_numbers[..port_count],
         frontiers,
-        regions,
-        sources,
-        inputs,
-        sets,
-        stack,
-    )
-}
-
-// The same for few of them: a small array is cleared, not one for as many as there can be.
-fn with_few_ports(
-    components: &[i64],
-    ports: &[u8],
-    frontiers: &[i64],
-    regions: &mut [u8],
-    sources: &mut [u8],
-    inputs: &mut [u8],
-    sets: &mut [u8],
-    stack: &mut [u8],
-) -> u64
-    requires components_bound { component_count components.now ≤ component_limit }
-    requires number_bytes_len_bound { length ports.now / number_bytes ≤ few_ports * port_width }
-    ensures { LivenessByPlaces components.now (numbers ports.now) frontiers.now regions.old regions.new sources.old sources.new inputs.old inputs.new sets.old sets.new stack.old stack.new result }
-{
-    let mut port_numbers = [0i64; FEW * PORT];
-    decode(ports, &mut port_numbers);
-    let port_count = ports.len() / NUMBER;
-    of_numbers(
-        components,
-        &port_numbers[..port_count],
-        frontiers,
-        regions,
-        sources,
-        inputs,
-        sets,
-        stack,
-    )
+    };
+    of_numbers(&lists, regions, sources, inputs, sets, stack)
 }
 
 // The liveness of a scene whose lists are whole records within their limits.
@@ -283,8 +255,8 @@ pub(crate) fn of_bytes(
     let frontier_count = frontiers.len() / NUMBER;
     let component_list = &component_numbers[..component_count];
     let frontier_list = &frontier_numbers[..frontier_count];
-    if ports.len() / NUMBER <= FEW * PORT {
-        return with_few_ports(
+    if ports.len() / NUMBER <= FEW_PORT_NUMBERS {
+        return with_ports::<FEW_PORT_NUMBERS>(
             component_list,
             ports,
             frontier_list,
@@ -295,7 +267,7 @@ pub(crate) fn of_bytes(
             stack,
         );
     }
-    with_ports(
+    with_ports::<PORT_NUMBERS>(
         component_list,
         ports,
         frontier_list,

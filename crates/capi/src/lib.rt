@@ -4,12 +4,58 @@
 
 mod alive;
 
-ghost use Rattle.encoding.specs.Entry.{GroupsByBytes};
-ghost use Rattle.capi.specs.Liveness.{LivenessByBytes};
+ghost use Rattle.std.specs.Prelude.{Some, ◌≡◌, ◌*◌, ◌<◌, length};
+ghost use Rattle.lists.specs.Limits.{component_limit, component_width};
+ghost use Rattle.lists.specs.declared.Fault.{Fault};
+ghost use Rattle.lists.specs.declared.Section.{Section};
+ghost use Rattle.checks.specs.Refusals.{refuse, not_whole};
+ghost use Rattle.encoding.specs.Bytes.{number_bytes};
+ghost use Rattle.encoding.specs.Entry.{groups_whole, GroupsByBytes};
+ghost use Rattle.capi.specs.Liveness.{liveness_whole, LivenessByBytes};
 
-use checks::refusals::{not_whole, or_else, pack, refuse_at};
+use checks::refusals::{not_whole, pack, refuse_at};
 use encoding::bytes::NUMBER;
-use lists::{COMPONENT, COMPONENTS, CONNECTION, CONNECTIONS, FRONTIER, FRONTIERS, PORT};
+use lists::{
+    COMPONENT, COMPONENTS, CONNECTION, CONNECTIONS, FRONTIER, FRONTIERS, Fault, PORT, Refusal,
+    Section,
+};
+
+// 1, of a list of so many bytes.
+fn whole_list(list: Section, width: usize, limit: usize, len: usize) -> Result<(), Refusal>
+    requires { 0 < width }
+    ensures { result ≡ refuse Fault.ListLength (Some list) (not_whole width limit len) }
+{
+    let found = not_whole(width, limit, len);
+    refuse_at(Fault::ListLength, Some(list), found)
+}
+
+// 1, of the components.
+fn whole_components(components: &[u8]) -> Result<(), Refusal>
+    ensures { result ≡ refuse Fault.ListLength (Some Section.Components) (not_whole (number_bytes * component_width) component_limit (length components.now)) }
+{
+    let width = NUMBER * COMPONENT;
+    whole_list(Section::Components, width, COMPONENTS, components.len())
+}
+
+// 1, of both lists of a grouping.
+fn whole_groups(components: &[u8], connections: &[u8]) -> Result<(), Refusal>
+    ensures { result ≡ groups_whole components.now connections.now }
+{
+    whole_components(components)?;
+    let width = NUMBER * CONNECTION;
+    whole_list(Section::Connections, width, CONNECTIONS, connections.len())
+}
+
+// 1, of the three lists of a scene.
+fn whole_scene(components: &[u8], ports: &[u8], frontiers: &[u8]) -> Result<(), Refusal>
+    ensures { result ≡ liveness_whole components.now ports.now frontiers.now }
+{
+    whole_components(components)?;
+    let width = NUMBER * PORT;
+    whole_list(Section::Connections, width, CONNECTIONS, ports.len())?;
+    let width = NUMBER * FRONTIER;
+    whole_list(Section::Frontiers, width, FRONTIERS, frontiers.len())
+}
 
 // The number of each component's net and fragment, at the front of the lent slices.
 #[unsafe(no_mangle)]
@@ -21,16 +67,10 @@ pub extern "C" fn dustroute_groups(
 ) -> u64
     ensures { GroupsByBytes components.now connections.now nets.old nets.new fragments.old fragments.new result }
 {
-    let first = not_whole(NUMBER * COMPONENT, COMPONENTS, components.len());
-    let second = not_whole(NUMBER * CONNECTION, CONNECTIONS, connections.len());
-    let whole = or_else(
-        refuse_at(Fault::ListLength, Some(Section::Components), first),
-        refuse_at(Fault::ListLength, Some(Section::Connections), second),
-    );
-    let Ok(()) = whole else {
-        return pack(whole);
-    };
-    encoding::groups::of_bytes(components, connections, nets, fragments)
+    match whole_groups(components, connections) {
+        Err(refusal) => pack(Err(refusal)),
+        Ok(()) => encoding::groups::of_bytes(components, connections, nets, fragments),
+    }
 }
 
 // The region of each component, the source rows and the verdict rows, and the four sets, at the front of the lent slices.
@@ -47,21 +87,10 @@ pub extern "C" fn dustroute_liveness(
 ) -> u64
     ensures { LivenessByBytes components.now ports.now frontiers.now regions.old regions.new sources.old sources.new inputs.old inputs.new sets.old sets.new stack.old stack.new result }
 {
-    let in_components = not_whole(NUMBER * COMPONENT, COMPONENTS, components.len());
-    let in_ports = not_whole(NUMBER * PORT, CONNECTIONS, ports.len());
-    let in_frontiers = not_whole(NUMBER * FRONTIER, FRONTIERS, frontiers.len());
-    let later = or_else(
-        refuse_at(Fault::ListLength, Some(Section::Connections), in_ports),
-        refuse_at(Fault::ListLength, Some(Section::Frontiers), in_frontiers),
-    );
-    let whole = or_else(
-        refuse_at(Fault::ListLength, Some(Section::Components), in_components),
-        later,
-    );
-    let Ok(()) = whole else {
-        return pack(whole);
-    };
-    alive::of_bytes(
-        components, ports, frontiers, regions, sources, inputs, sets, stack,
-    )
+    match whole_scene(components, ports, frontiers) {
+        Err(refusal) => pack(Err(refusal)),
+        Ok(()) => alive::of_bytes(
+            components, ports, frontiers, regions, sources, inputs, sets, stack,
+        ),
+    }
 }

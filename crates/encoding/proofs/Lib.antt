@@ -2,4 +2,5 @@
 pub mod Laid
 pub mod Reading
 pub mod Writing
+pub mod Words
 pub mod Answers

@@ -1,19 +1,17 @@
 -- Numbers written as bytes.
 --     length_low, length_bytes    the bytes of one number, and of a list of numbers
---     low_more, rest_more         one byte more of a number, and what is left of the slice
---     low_end                     all bytes of a number are written
 --     encode_more                 one number more
 --     bytes_then                  further numbers, after those at the front
 --     read_written                bytes that were written are read as the same number
 -- Assumes nothing.
-use mathlib.Core.Path.{◌≡◌, refl, sym, ap, ◌∙◌}
+use mathlib.Core.Path.{◌≡◌, refl, ap, ◌∙◌}
 use mathlib.Core.List.{List, [], ◌∷◌, ◌++◌, append_assoc, append-nil}
-use Prim.Native.Nat.{ℕ, zero, suc, ◌+◌, ◌*◌, ◌/◌, ◌-◌, ◌%◌, ◌^◌, ◌<◌}
+use Prim.Native.Nat.{ℕ, zero, suc, ◌+◌, ◌*◌, ◌/◌, ◌-◌, ◌^◌, ◌<◌}
 use native.Mathlib.Nat.{pow-suc}
 use native.Mathlib.Numerals.{add-one}
 use native.Mathlib.Omega.{arith}
-use lib.ListN.{length, get_or, take, drop, set, length-append, length-take, length-drop, take-append-drop, drop_of_length-le}
-use lib.Seq.{take_all, take-suc, take-suc-set, drop-set-lt, drop-drop}
+use lib.ListN.{length, get_or, take, drop, length-append, length-take, length-drop, drop_of_length-le}
+use lib.Seq.{take_all, take-suc}
 use borrow.Rule.Slice.PartMut.{mid_of, put_mid}
 use Rattle.lists.specs.Slices.{laid}
 use Rattle.encoding.specs.Bytes.{number_bytes, little_endian, low_bytes, bytes_of}
@@ -23,21 +21,6 @@ pub length_low : (k n : ℕ) → length (low_bytes k n) ≡ k
 unfolding low_bytes
 length_low zero n = refl
 length_low (suc k) n = ap suc (length_low k (n / 256))
-
-low_none : (n : ℕ) → low_bytes 0 n ≡ []
-unfolding low_bytes
-low_none n = refl
-
-pub low_more : (out whole : List ℕ) (k m rest : ℕ) → k < length out → take k out ++ low_bytes (m + 1) rest ≡ whole
-    → take (k + 1) (set out k (rest % 256)) ++ low_bytes m (rest / 256) ≡ whole
-unfolding low_bytes
-low_more out whole k m rest h e = rw (add-one, take-suc-set out k (rest % 256) h, append_assoc) (rw add-one at e)
-
-pub rest_more : (out old : List ℕ) (k b : ℕ) → drop k out ≡ drop k old → drop (k + 1) (set out k b) ≡ drop (k + 1) old
-rest_more out old k b e = rw (drop-set-lt (k + 1) out k b (omega arith), ← drop-drop 1 k out, ← drop-drop 1 k old, e)
-
-pub low_end : (n : ℕ) (out old whole : List ℕ) (rest : ℕ) → length whole ≡ n → drop n out ≡ drop n old → take n out ++ low_bytes 0 rest ≡ whole → out ≡ laid whole old
-low_end n out old whole rest l d e = rw (l, ← e, low_none rest, append-nil, ← d) (sym (take-append-drop n out))
 
 bytes_one : (n : ℕ) → bytes_of (n ∷ []) ≡ low_bytes number_bytes n
 unfolding bytes_of

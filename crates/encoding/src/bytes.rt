@@ -12,11 +12,9 @@ fn word_at(bytes: &[u8], i: usize) -> u64
     ensures { result ≡ word_at bytes.now i }
 {
     let start = i * NUMBER;
-    let mut value: u64 = 0;
-    for k in (0..NUMBER).rev() {
-        value = bytes[start + k] as u64 + 256 * value;
-    }
-    value
+    let mut word = [0u8; NUMBER];
+    word.copy_from_slice(&bytes[start..start + NUMBER]);
+    u64::from_le_bytes(word)
 }
 
 // The signed number of a word.
@@ -49,11 +47,7 @@ fn put_number(out: &mut [u8], value: u64)
     requires { number_bytes ≤ length out.old }
     ensures { out.new ≡ laid (low_bytes number_bytes value) out.old }
 {
-    let mut rest = value;
-    for k in 0..NUMBER {
-        out[k] = (rest % 256) as u8;
-        rest /= 256;
-    }
+    out[..NUMBER].copy_from_slice(&value.to_le_bytes());
 }
 
 // Writes the bytes of each number at the front of a slice.
@@ -61,9 +55,9 @@ pub fn encode(values: &[u64], out: &mut [u8])
     requires { length values.now * number_bytes ≤ length out.old }
     ensures { out.new ≡ laid (bytes_of values.now) out.old }
 {
-    for k in 0..values.len() {
+    for (k, value) in values.iter().enumerate() {
         let start = k * NUMBER;
-        put_number(&mut out[start..], values[k]);
+        put_number(&mut out[start..], *value);
     }
 }
 

@@ -32,8 +32,7 @@ fn by_rows(
     requires { (length net_rows.old * number_bytes ≤ length nets.old) × (length fragment_rows.old * number_bytes ≤ length fragments.old) }
     ensures { GroupsLaid (grouping_refusal components.now connections.now (length net_rows.old) (length fragment_rows.old)) components.now connections.now nets.old nets.new fragments.old fragments.new result }
 {
-    let grouping = from_parts(components, connections, net_rows, fragment_rows);
-    match grouping {
+    match from_parts(components, connections, net_rows, fragment_rows) {
         Err(refusal) => pack(Err(refusal)),
         Ok(counts) => {
             let count = components.len() / COMPONENT;

@@ -1,17 +1,17 @@
--- The flat list after i turns of `copy_records`: the fields of the first i records, and what stood behind them.
---     filled_zero, filled_suc    before the first turn, and after one more
---     length_filled    no turn changes the length
+-- The numbers of records, and of one record more.
 -- Assumes nothing.
-use mathlib.Core.Path.{◌≡◌, refl, sym, ◌∙◌, ap}
-use mathlib.Core.List.{List, [], ◌∷◌, ◌++◌}
-use Prim.Native.Nat.{ℕ, ◌+◌, ◌*◌, ◌<◌, ◌≤◌}
+use mathlib.Core.Path.{◌≡◌, refl, ap}
+use mathlib.Core.List.{List, [], ◌∷◌, ◌++◌, append_assoc}
+use Prim.Native.Nat.{ℕ, ◌+◌, ◌-◌, ◌*◌, ◌<◌}
 use native.Mathlib.Numerals.{add-one}
 use native.Mathlib.Omega.{arith}
-use lib.ListN.{length, get_or, take, drop, length-append, length-drop}
-use lib.Seq.{sets-eq, take-suc, take_at, drop-append-add, drop-drop, length-take-le}
-use lib.IntN.{ℤ}
+use lib.ListN.{length, get_or, take, drop, length-append}
+use lib.Seq.{take-suc, take-append_seam, drop_at, drop-drop, length-take-le}
+use lib.IntN.{ℤ, pos}
+use borrow.Rule.Slice.PartMut.{put_mid}
 use Rattle.records.specs.declared.PortRecord.{PortRecord}
-use Rattle.records.specs.Records.{nil, fields, flatten, put_fields}
+use Rattle.lists.specs.Slices.{laid}
+use Rattle.records.specs.Records.{fields, flatten}
 
 flatten_append : (xs ys : List PortRecord) → flatten (xs ++ ys) ≡ flatten xs ++ flatten ys
 unfolding flatten
@@ -23,35 +23,18 @@ unfolding flatten
 length_flatten [] = refl
 length_flatten (r ∷ xs) = omega (arith, length_flatten xs)
 
-unfoldable pub filled : List PortRecord → List ℤ → ℕ → List ℤ
-filled xs zs i = flatten (take i xs) ++ drop (i * 5) zs
+-- what a read past the end gives
+abbrev pub nil : PortRecord
+nil = record { source = pos 0; source_port = pos 0; sink = pos 0; sink_port = pos 0; transfer = pos 0 }
 
-module _ (xs : List PortRecord) (zs : List ℤ) (m : ℕ) (few : m ≤ length xs) (room : m * 5 ≤ length zs) where
-  length_front : (i : ℕ) → i ≤ m → length (flatten (take i xs)) ≡ i * 5
-  length_front i h = length_flatten (take i xs) ∙ ap (λ (k : ℕ). k * 5) (length-take-le i xs (omega arith))
-
-  pub filled_zero : filled xs zs 0 ≡ zs
-  unfolding filled flatten
-  filled_zero = refl
-
-  pub length_filled : (i : ℕ) → i ≤ m → length (filled xs zs i) ≡ length zs
-  unfolding filled
-  length_filled i h = simp (length-append, length-drop) (omega (arith, length_front i h))
-
-  pub filled_suc : (i : ℕ) → i < m → put_fields (filled xs zs i) i (get_or xs i nil) ≡ filled xs zs (i + 1)
-  unfolding put_fields flatten filled
-  filled_suc i h =
-      let within : i < length xs = omega arith in
-      let r = get_or xs i nil in
-      let front = flatten (take i xs) in
-      let back = drop (i * 5) zs in
-      let size : length front ≡ i * 5 = length_front i (omega arith) in
-      let fits : i * 5 + 5 ≤ length (front ++ back) = omega (arith, length_filled i (omega arith)) in
-      let behind : drop (i * 5 + 5) (front ++ back) ≡ drop (i * 5 + 5) zs =
-      ap (λ (k : ℕ). drop (k + 5) (front ++ back)) (sym size) ∙ drop-append-add front back 5 ∙ drop-drop 5 (i * 5) zs in
-      let next : flatten (take (i + 1) xs) ≡ front ++ fields r = rw (add-one, take-suc xs i nil) (flatten_append (take i xs) (r ∷ [])) in
-      let five : (i + 1) * 5 ≡ i * 5 + 5 = omega arith in
-      sets-eq (fields r) (front ++ back) (i * 5) fits
-      ∙ ap (λ (l : List ℤ). l ++ fields r ++ drop (i * 5 + 5) (front ++ back)) (take_at front back (i * 5) size)
-      ∙ ap (λ (l : List ℤ). front ++ fields r ++ l) behind
-      ∙ sym (ap (λ (l : List ℤ). l ++ drop ((i + 1) * 5) zs) next ∙ ap (λ (k : ℕ). front ++ fields r ++ drop k zs) five)
+-- one record more, written over the five numbers after those of the first i
+pub one_more : (rs : List PortRecord) (old flat part : List ℤ) (i : ℕ) → i < length rs → flat ≡ laid (flatten (take i rs)) old → part ≡ fields (get_or rs i nil)
+    → put_mid (i * 5) (i * 5 + 5 - i * 5) flat part ≡ laid (flatten (take (i + 1) rs)) old
+unfolding flatten
+one_more rs old flat part i h e f =
+    let r = get_or rs i nil in
+    let front = flatten (take i rs) in
+    let size : length front ≡ i * 5 = omega (arith, length_flatten (take i rs), length-take-le i rs (omega arith)) in
+    let width : i * 5 + 5 - i * 5 ≡ 5 = omega arith in
+    let next : flatten (take (i + 1) rs) ≡ front ++ fields r = rw (add-one, take-suc rs i nil) (flatten_append (take i rs) (r ∷ [])) in
+    rw (f, e, width, ← size, next, length-append, append_assoc, take-append_seam, drop_at front (drop (length front) old) (length front) refl, drop-drop)

@@ -4,9 +4,9 @@
 -- Assumes nothing.
 use Rattle.lists.specs.declared.Fault.{Fault}
 use Rattle.lists.specs.declared.Section.{Section}
-use Rattle.std.specs.Prelude.{⊤, Option, Some, None, Result, Err}
-use mathlib.Core.Path.{◌≡◌, refl, sym, ◌∙◌, ap, subst}
-use mathlib.Core.Bool.{Bool, ◌&&◌}
+use Rattle.std.specs.Prelude.{⊤, Option, Some, None, Result, Ok, Err, IfOk}
+use mathlib.Core.Path.{◌≡◌, refl, sym, ◌∙◌, ap}
+use mathlib.Core.Bool.{Bool}
 use mathlib.Core.List.{List}
 use mathlib.Core.Logic.{⊎_elim}
 use Prim.Native.Nat.{ℕ, ◌*◌, ◌/◌, ◌%◌, ◌≤◌, ◌<◌}
@@ -18,10 +18,10 @@ use Rattle.tables.specs.Laws.{order?}
 use Rattle.lists.specs.Limits.{component_limit, connection_limit, component_width, port_width}
 use Rattle.checks.specs.Refusals.{refuse, ◌or_else◌, not_whole, liveness_lists, liveness_room}
 use Rattle.lists.specs.declared.Refusal.{Refusal}
-use Rattle.liveness.specs.Sets.{SetWhere}
+use Rattle.liveness.specs.Sets.{checked}
 use Rattle.liveness.specs.Entry.{AnalyzedBy, Analyzed}
 use Rattle.liveness.specs.declared.Analysis.{Analysis}
-use Rattle.liveness.proofs.Answers.{analyzed_refused}
+use Rattle.checks.proofs.Chain.{refused_not}
 
 pub too_long : (n : ℕ) → connection_limit * port_width < n → not_whole port_width connection_limit n ≡ Some connection_limit
 unfolding not_whole
@@ -43,33 +43,34 @@ lists_over : (cs ps fs : List ℤ) (enough : Bool) → connection_limit * port_w
 unfolding liveness_lists
 lists_over cs ps fs enough h = rw (too_long (length ps) h)
 
--- the empty set is that of any test
-empty_any : {P Q : ℕ → Bool} {words : List ℕ} → SetWhere 0 P words → SetWhere 0 Q words
-empty_any {P} {Q} s = record { member = λ k. s.member k ∙ ap (λ (t : Bool). t && P k) (le-ltb k 0 (omega arith)) ∙ sym (ap (λ (t : Bool). t && Q k) (le-ltb k 0 (omega arith))) }
+none_found : {refused : Refusal} (P : Analysis → Type 0) (r : Result Analysis Refusal) → checked r ≡ Err refused → IfOk r P
+none_found P (Ok analysis) e = absurd (refused_not (sym e))
+none_found P (Err refusal) e = tt
 
-module _ {cs ps ps' fs : List ℤ} {regions regions' sources sources' inputs inputs' stack stack' : List ℕ} {r : Analysis} where
+module _ {cs ps ps' fs : List ℤ} {regions regions' sources sources' inputs inputs' stack stack' : List ℕ} where
   -- a refusal says nothing of the connections
-  refused_any : {refused : Refusal} → AnalyzedBy (Err refused) cs ps fs regions regions' sources sources' inputs inputs' stack stack' r
-      → AnalyzedBy (Err refused) cs ps' fs regions regions' sources sources' inputs inputs' stack stack' r
-  refused_any a = record {
-    answer = a.answer;
-    regions_left = a.regions_left;
-    sources_left = a.sources_left;
-    inputs_left = a.inputs_left;
-    stack_left = a.stack_left;
-    region_count_lem = a.region_count_lem;
-    source_count = a.source_count;
-    input_count = a.input_count;
-    drive_set = empty_any a.drive_set;
-    potential_set = empty_any a.potential_set;
-    cyclic_set = empty_any a.cyclic_set;
-    has_drive_set = empty_any a.has_drive_set;
-  }
+  refused_any : {checks checks' : Result ⊤ Refusal} {refused : Refusal} (r : Result Analysis Refusal) → checks ≡ Err refused → checks' ≡ Err refused
+      → AnalyzedBy checks cs ps fs regions regions' sources sources' inputs inputs' stack stack' r
+      → AnalyzedBy checks' cs ps' fs regions regions' sources sources' inputs inputs' stack stack' r
+  refused_any (Ok analysis) e f a = absurd (refused_not (sym (a.answer ∙ e)))
+  refused_any (Err refusal) e f a =
+      let b = rw e at a in
+      rw f record {
+        answer = b.answer;
+        analysis = tt;
+        regions_left = b.regions_left;
+        sources_left = b.sources_left;
+        inputs_left = b.inputs_left;
+        stack_left = b.stack_left;
+      }
 
-  pub analyzed_over : connection_limit * port_width < length ps → connection_limit * port_width < length ps'
+  pub analyzed_over : {r : Result Analysis Refusal} → connection_limit * port_width < length ps → connection_limit * port_width < length ps'
       → Analyzed cs ps fs regions regions' sources sources' inputs inputs' stack stack' r → Analyzed cs ps' fs regions regions' sources sources' inputs inputs' stack stack' r
-  analyzed_over h h' a =
+  analyzed_over {r} h h' a =
       let enough = liveness_room cs (length regions) (length sources) (length inputs) (length stack) in
       let (refused, e) = refused_over (not_whole component_width component_limit (length cs)) (record { fault = Fault.ListLength; list = Some Section.Connections; item = connection_limit }) in
-      analyzed_refused (lists_over cs ps' fs enough h' ∙ e)
-      (refused_any (subst (λ (k : Result ⊤ Refusal). AnalyzedBy k cs ps fs regions regions' sources sources' inputs inputs' stack stack' r) (lists_over cs ps fs enough h ∙ e) a.by))
+      let was = lists_over cs ps fs enough h ∙ e in
+      record {
+        by = refused_any r was (lists_over cs ps' fs enough h' ∙ e) a.by;
+        demand = none_found _ r (a.by.answer ∙ was);
+      }

@@ -1,12 +1,10 @@
--- `records::copy_records` meets its contract. The loop's invariant: the flat list is that after i turns (`Filled.antt`).
--- The measure is what is left of the records. Assumes nothing.
-use Prim.Native.Nat.{◌-◌, ◌≤◌}
+-- `records::copy_records` meets its contract. The loop's invariant: the numbers of the first i records stand at the front of the flat list.
+-- Assumes nothing.
 use mathlib.Core.Path.{◌≡◌}
-use Rattle.records.proofs.Filled.{filled}
+use lib.ListN.{take}
+use Rattle.lists.specs.Slices.{laid}
+use Rattle.records.specs.Records.{flatten}
 use Rattle.records.proofs.copy_records.Given as goal
 
 abbrev pub invariant-loop-i : goal.invariant-loop-i
-invariant-loop-i l = (l.i ≤ l.count) × (l.flat ≡ filled l.list l.initial.flat l.i)
-
-abbrev pub decreases-loop-i : goal.decreases-loop-i
-decreases-loop-i l = l.count - l.i
+invariant-loop-i l = l.flat ≡ laid (flatten (take l.i l.records)) l.initial.flat

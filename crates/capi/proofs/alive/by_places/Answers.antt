@@ -38,7 +38,7 @@ by_rows-requires c =
       regions_fit = omega (arith, regions, c.places-region_places.ensures);
       sources_fit = omega (arith, sources, c.places-source_places.ensures);
       inputs_fit = omega (arith, inputs, c.places-input_places.ensures);
-      sets_fit = omega (arith, leb-true set_count (length sets / number_bytes / word_count) c.requires.number_bytes_value);
+      sets_fit = omega (arith, leb-true set_count (length sets / number_bytes / word_count) c.requires);
       sources_few = omega (arith, sources, c.places-source_places.ensures);
       inputs_few = omega (arith, inputs, c.places-input_places.ensures);
     }
@@ -51,7 +51,7 @@ returns c =
     let inputs = rows (12 * component_limit) _ _ c.places-input_places.ensures ∙ c.places-input_places.ensures in
     let pairs = rows (2 * component_limit) _ _ c.places-pair_places.ensures ∙ c.places-pair_places.ensures in
     alive_as
-    (by_room a.components.now a.ports.now a.frontiers.now _ _ _ _
+    (by_room a.lists.now.components.now a.lists.now.ports.now a.lists.now.frontiers.now _ _ _ _
     (length a.regions.now) (length a.sources.now) (length a.inputs.now) (length a.sets.now) (length a.stack.now)
-    c.requires.components_bound c.requires.number_bytes_value regions sources inputs pairs)
+    a.lists.now.few c.requires regions sources inputs pairs)
     c.by_rows.ensures

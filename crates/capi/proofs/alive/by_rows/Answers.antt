@@ -1,38 +1,33 @@
 -- `capi::alive::by_rows` meets its contract: the answer on lists of numbers is packed where it refuses, and written as bytes where it
 -- does not. Assumes nothing.
-use Rattle.std.specs.Prelude.{⊤, Result}
-use Rattle.lists.specs.declared.Refusal.{Refusal}
 use borrow.Author.Rules.{rules}
-use mathlib.Core.Path.{◌≡◌, sym, ap, ◌∙◌, subst}
 use Prim.Native.Nat.{ℕ}
 use native.Mathlib.Omega.{arith}
-use lib.ListN.{get_or}
+use lib.ListN.{length, get_or}
 use mir.Val.{Fits}
 use mir.Syntax.{w64}
-use Rattle.checks.specs.Refusals.{Small, packed}
+use Rattle.checks.specs.Refusals.{liveness_room}
 use Rattle.checks.proofs.Small.{liveness_small}
-use Rattle.capi.proofs.LivenessLaws.{WordsOfSet, found, few_regions, regions_there, sources_there, inputs_there, accepted_alive, refused_alive}
+use Rattle.capi.proofs.LivenessLaws.{WordsOfSet, refused, accepted, found, few_regions, regions_there, sources_there, inputs_there, accepted_alive, refused_alive}
 use Rattle.capi.proofs.alive.by_rows.Goals as goal
-
--- ---- refused
-small_as : {a b : Result ⊤ Refusal} → a ≡ b → Small b → Small a
-small_as {a} {b} e h = subst (λ (x : Result ⊤ Refusal). Small x) (sym e) h
+use Rattle.capi.proofs.alive.by_rows.Goals.{In-Ok}
 
 pub pack-requires : goal.pack-requires
 pack-requires c =
-    small_as c.analyze_signal_liveness-analysis.ensures.by.answer (liveness_small c.args.components.now c.args.ports.now c.args.frontiers.now _)
+    let l = c.args.lists.now in
+    let room = liveness_room l.components.now (length c.args.region_rows.now) (length c.args.source_rows.now) (length c.args.input_rows.now) (length c.args.pairs.now) in
+    let small = liveness_small l.components.now l.ports.now l.frontiers.now room in
+    rw (refused c.analyze_signal_liveness-analyzed.ensures.by c.in-Err.is) at small
 
-pub returns-in_default : goal.returns-in_default
-returns-in_default c =
-    refused_alive _ _ _ _ _ _ _ _ _ _ _ (sym c.analyze_signal_liveness-analysis.ensures.by.answer ∙ c.in_default.is) (c.pack.ensures ∙ ap packed c.in_default.is)
+pub returns-in-Err : goal.returns-in-Err
+returns-in-Err c = refused_alive _ _ _ _ _ _ _ _ _ _ _ (refused c.analyze_signal_liveness-analyzed.ensures.by c.in-Err.is) c.pack.ensures
 
 pub write_answer-requires : goal.write_answer-requires
 write_answer-requires c =
-    let call = c.analyze_signal_liveness-analysis in
+    let call = c.analyze_signal_liveness-analyzed in
     let room = c.requires in
-    let accepted = sym call.ensures.by.answer ∙ c.in-Ok.is in
-    let answer = found accepted call.ensures.by in
-    let few = few_regions _ _ _ _ accepted in
+    let answer = found call.ensures.by c.in-Ok.is in
+    let few = few_regions _ _ _ _ (accepted call.ensures.by c.in-Ok.is) in
     record {
       rows = record {
         regions_fit = omega (arith, room.regions_fit, call.auto.regions);
@@ -45,24 +40,33 @@ write_answer-requires c =
       regions_there = regions_there answer;
       sources_there = sources_there answer;
       inputs_there = inputs_there answer;
-      regions_few = omega (arith, few, answer.region_count_lem);
+      regions_few = omega (arith, few, answer.analysis.region_count_lem);
     }
 
-pub returns : goal.returns
-returns c =
-    let call = c.analyze_signal_liveness-analysis in
-    let accepted = sym call.ensures.by.answer ∙ c.in-Ok.is in
-    let answer = found accepted call.ensures.by in
-    let drive : WordsOfSet call.result.drive.words =
-    let word : (i : ℕ) → Fits w64 (get_or call.result.drive.words i 0) = λ i. search rules in
-    record { long = search rules; fit = λ i. (word i).fits } in
-    let potential : WordsOfSet call.result.potential.words =
-    let word : (i : ℕ) → Fits w64 (get_or call.result.potential.words i 0) = λ i. search rules in
-    record { long = search rules; fit = λ i. (word i).fits } in
-    let cyclic : WordsOfSet call.result.cyclic.words =
-    let word : (i : ℕ) → Fits w64 (get_or call.result.cyclic.words i 0) = λ i. search rules in
-    record { long = search rules; fit = λ i. (word i).fits } in
-    let has_drive : WordsOfSet call.result.has_drive.words =
-    let word : (i : ℕ) → Fits w64 (get_or call.result.has_drive.words i 0) = λ i. search rules in
-    record { long = search rules; fit = λ i. (word i).fits } in
-    accepted_alive answer accepted drive potential cyclic has_drive c.write_answer.ensures
+-- the sets have as many words as a set has, of 64 bits each
+drive : (c : In-Ok) → WordsOfSet c.in-Ok.analysis.drive.words
+drive c =
+    let word : (i : ℕ) → Fits w64 (get_or c.in-Ok.analysis.drive.words i 0) = λ i. search rules in
+    record { long = search rules; fit = λ i. (word i).fits }
+
+potential : (c : In-Ok) → WordsOfSet c.in-Ok.analysis.potential.words
+potential c =
+    let word : (i : ℕ) → Fits w64 (get_or c.in-Ok.analysis.potential.words i 0) = λ i. search rules in
+    record { long = search rules; fit = λ i. (word i).fits }
+
+cyclic : (c : In-Ok) → WordsOfSet c.in-Ok.analysis.cyclic.words
+cyclic c =
+    let word : (i : ℕ) → Fits w64 (get_or c.in-Ok.analysis.cyclic.words i 0) = λ i. search rules in
+    record { long = search rules; fit = λ i. (word i).fits }
+
+has_drive : (c : In-Ok) → WordsOfSet c.in-Ok.analysis.has_drive.words
+has_drive c =
+    let word : (i : ℕ) → Fits w64 (get_or c.in-Ok.analysis.has_drive.words i 0) = λ i. search rules in
+    record { long = search rules; fit = λ i. (word i).fits }
+
+pub returns-in-Ok : goal.returns-in-Ok
+returns-in-Ok c =
+    let call = c.analyze_signal_liveness-analyzed in
+    let now = (goal.at.returns-in-Ok c).In-Ok in
+    accepted_alive (found call.ensures.by c.in-Ok.is) (accepted call.ensures.by c.in-Ok.is)
+    (drive now) (potential now) (cyclic now) (has_drive now) c.write_answer.ensures

@@ -11,11 +11,7 @@ use Rattle.capi.proofs.LivenessLaws.{short_refused, refused_alive}
 use Rattle.capi.proofs.alive.of_numbers.Goals as goal
 
 pub by_places-requires : goal.by_places-requires
-by_places-requires c =
-    record {
-      components_bound = c.requires;
-      number_bytes_value = sym c.room_for.ensures ∙ c.if-room_for.true;
-    }
+by_places-requires c = sym c.room_for.ensures ∙ c.if-room_for.true
 
 no_room : (f : Bool → Result ⊤ Refusal) {t : Bool} (rest : Bool) → t ≡ false → f (t && rest) ≡ f false
 no_room f rest e = rw e
@@ -23,9 +19,9 @@ no_room f rest e = rw e
 pub returns : goal.returns
 returns c =
     let a = c.args in
-    let cs = a.components.now in
-    let ps = a.ports.now in
-    let fs = a.frontiers.now in
+    let cs = a.lists.now.components.now in
+    let ps = a.lists.now.ports.now in
+    let fs = a.lists.now.frontiers.now in
     let (refusal, e) = short_refused cs ps fs in
     let room = liveness_room cs (length a.regions.now / number_bytes) (length a.sources.now / number_bytes) (length a.inputs.now / number_bytes) (length a.stack.now / number_bytes) in
     let none = no_room (liveness_lists cs ps fs) room (sym c.room_for.ensures ∙ c.if-room_for.false) in

@@ -6,8 +6,8 @@ use Rattle.encoding.proofs.Answers.{numbers_front}
 use Rattle.capi.proofs.LivenessLaws.{ports_alive}
 use Rattle.capi.proofs.alive.with_ports.Goals as goal
 
-pub slice_bounds-of_numbers-end : goal.slice_bounds-of_numbers-end
-slice_bounds-of_numbers-end c = sym (ap length (numbers_front _ _ _ c.decode.ensures) ∙ length_numbers _ _)
+pub slice_bounds-lists-end : goal.slice_bounds-lists-end
+slice_bounds-lists-end g c = sym (ap length (numbers_front _ _ _ c.decode.ensures) ∙ length_numbers _ _)
 
 pub returns : goal.returns
-returns c = ports_alive (numbers_front _ _ _ c.decode.ensures) c.of_numbers.ensures
+returns g c = ports_alive (numbers_front _ _ _ c.decode.ensures) c.of_numbers.ensures

@@ -58,37 +58,37 @@ module _ {cs ps : List ℤ} {nets nets' fragments fragments' : List ℕ} {r : Re
 
 pub pack-requires : goal.pack-requires
 pack-requires c =
-    let small : Small (checked c.from_parts-grouping.ensures) = grouping_small _ _ _ _ in
-    rw (refused c.from_parts-grouping.ensures c.in-Err.is) at small
+    let small : Small (checked c.from_parts.ensures) = grouping_small _ _ _ _ in
+    rw (refused c.from_parts.ensures c.in-Err.is) at small
 
 pub returns-in-Err : goal.returns-in-Err
-returns-in-Err c = refused_laid _ _ _ _ _ _ _ (refused c.from_parts-grouping.ensures c.in-Err.is) c.pack.ensures
+returns-in-Err c = refused_laid _ _ _ _ _ _ _ (refused c.from_parts.ensures c.in-Err.is) c.pack.ensures
 
 pub slice_bounds-encode-end : goal.slice_bounds-encode-end
-slice_bounds-encode-end c = (net_rows c.from_parts-grouping.ensures c.in-Ok.is c.from_parts-grouping.auto.nets).0
+slice_bounds-encode-end c = (net_rows c.from_parts.ensures c.in-Ok.is c.from_parts.auto.nets).0
 
 pub slice_bounds-encode-end-in-Ok : goal.slice_bounds-encode-end-in-Ok
-slice_bounds-encode-end-in-Ok c = sym (net_rows c.from_parts-grouping.ensures c.in-Ok.is c.from_parts-grouping.auto.nets).1
+slice_bounds-encode-end-in-Ok c = sym (net_rows c.from_parts.ensures c.in-Ok.is c.from_parts.auto.nets).1
 
 pub encode-requires : goal.encode-requires
 encode-requires c =
-    let g = c.from_parts-grouping.ensures in
-    omega (arith, (net_rows g c.in-Ok.is c.from_parts-grouping.auto.nets).1, (room g c.in-Ok.is).net_places, c.requires)
+    let g = c.from_parts.ensures in
+    omega (arith, (net_rows g c.in-Ok.is c.from_parts.auto.nets).1, (room g c.in-Ok.is).net_places, c.requires)
 
 pub slice_bounds-encode-end-in-Ok-2 : goal.slice_bounds-encode-end-in-Ok-2
-slice_bounds-encode-end-in-Ok-2 c = (fragment_rows c.from_parts-grouping.ensures c.in-Ok.is c.from_parts-grouping.auto.fragments).0
+slice_bounds-encode-end-in-Ok-2 c = (fragment_rows c.from_parts.ensures c.in-Ok.is c.from_parts.auto.fragments).0
 
 pub slice_bounds-encode-end-in-Ok-3 : goal.slice_bounds-encode-end-in-Ok-3
-slice_bounds-encode-end-in-Ok-3 c = sym (fragment_rows c.from_parts-grouping.ensures c.in-Ok.is c.from_parts-grouping.auto.fragments).1
+slice_bounds-encode-end-in-Ok-3 c = sym (fragment_rows c.from_parts.ensures c.in-Ok.is c.from_parts.auto.fragments).1
 
 pub encode-requires-in-Ok : goal.encode-requires-in-Ok
 encode-requires-in-Ok c =
-    let g = c.from_parts-grouping.ensures in
-    omega (arith, (fragment_rows g c.in-Ok.is c.from_parts-grouping.auto.fragments).1, (room g c.in-Ok.is).fragment_places, c.requires)
+    let g = c.from_parts.ensures in
+    omega (arith, (fragment_rows g c.in-Ok.is c.from_parts.auto.fragments).1, (room g c.in-Ok.is).fragment_places, c.requires)
 
 pub pack_counts-requires : goal.pack_counts-requires
 pack_counts-requires c =
-    let g = c.from_parts-grouping.ensures in
+    let g = c.from_parts.ensures in
     let cs = c.args.components.now in
     let ps = c.args.connections.now in
     let n = count g in (
@@ -98,6 +98,6 @@ pack_counts-requires c =
 
 pub returns-in-Ok : goal.returns-in-Ok
 returns-in-Ok c =
-    let g = c.from_parts-grouping.ensures in
+    let g = c.from_parts.ensures in
     accepted_laid _ _ _ _ _ _ _ _ _ _ _ (accepted g c.in-Ok.is) c.encode.ensures (nets_are g c.in-Ok.is)
     c.encode-in-Ok.ensures (fragments_are g c.in-Ok.is) c.pack_counts.ensures
