@@ -1,6 +1,5 @@
 -- From the liveness entry on lists of numbers to the entry by bytes.
 --     short_refused                    without room for the sets a scene is refused
---     by_room                          places past those that a scene can fill change no refusal
 --     refused, accepted, found         what the checks said, and the answer to an accepted scene
 --     regions_there, ..-front          the rows of such a scene stand at the front of their slices
 --     few_regions                      and there are no more regions than components
@@ -14,20 +13,19 @@ use Rattle.lists.specs.declared.Section.{Section}
 use Rattle.std.specs.Prelude.{Some}
 use Rattle.std.specs.Prelude.{⊤, Result, Ok, Err}
 use mathlib.Core.Path.{◌≡◌, refl, sym, ap, ◌∙◌}
-use mathlib.Core.Bool.{Bool, true, false}
+use mathlib.Core.Bool.{Bool, false}
 use mathlib.Core.List.{List, ◌++◌}
-use Prim.Native.Nat.{ℕ, ◌+◌, ◌*◌, ◌/◌, ◌^◌, ◌≤◌, ◌<◌, min}
+use Prim.Native.Nat.{ℕ, ◌+◌, ◌*◌, ◌/◌, ◌^◌, ◌≤◌, ◌<◌}
 use native.Mathlib.Omega.{arith}
-use lib.Dec.{leb, lit≤}
+use lib.Dec.{lit≤}
 use lib.ListN.{length, get_or, take, drop, length-append}
 use lib.IntN.{ℤ}
-use borrow.Author.Tests.{leb-true, leb-false, le-leb}
 use Rattle.sets.specs.Members.{word_count, words_of_set}
 use Rattle.sets.proofs.Words.{true_not_false}
 use Rattle.sets.proofs.Unique.{set_unique}
 use Rattle.lists.specs.Limits.{component_limit, connection_limit, frontier_limit, component_width, port_width, frontier_width}
 use Rattle.lists.specs.Records.{component_count}
-use Rattle.checks.specs.Refusals.{refuse, ◌or_else◌, not_whole, room_for, liveness_lists, liveness_room, liveness_refusal, Small, packed}
+use Rattle.checks.specs.Refusals.{refuse, ◌or_else◌, not_whole, liveness_lists, Small, packed}
 use Rattle.lists.specs.Slices.{laid}
 use Rattle.lists.specs.declared.Refusal.{Refusal}
 use Rattle.checks.proofs.Chain.{both_accept}
@@ -45,7 +43,7 @@ use Rattle.signals.proofs.Tabulated.{tab_length}
 use Rattle.liveness.proofs.Answers.{scene_of_lem}
 use Rattle.liveness.proofs.Demands.{signals_within}
 use Rattle.encoding.specs.Bytes.{number_bytes, numbers, bytes_of}
-use Rattle.capi.specs.Liveness.{set_count, liveness_whole, liveness_places, liveness_bytes_refusal, sets_of, LivenessLaid, LivenessByBytes}
+use Rattle.capi.specs.Liveness.{liveness_whole, liveness_bytes_refusal, sets_of, LivenessLaid, LivenessByBytes}
 use Rattle.capi.specs.Written.{Written, LivenessByPlaces}
 use Rattle.encoding.proofs.Laid.{laid_front}
 
@@ -58,39 +56,6 @@ short_refused cs ps fs = go (liveness_lists cs ps fs false) refl
     go : (checked : Result ⊤ Refusal) → liveness_lists cs ps fs false ≡ checked → (refusal : Refusal) × (liveness_lists cs ps fs false ≡ Err refusal)
     go (Ok tt) e = absurd (true_not_false (sym (liveness_accept cs ps fs false e).scene.lengths.room))
     go (Err refusal) e = (refusal, e)
-
-room_same : (places width a b : ℕ) → (places ≤ a / width → places ≤ b / width) → (places ≤ b / width → places ≤ a / width) → room_for places width a ≡ room_for places width b
-room_same places width a b to from = go (leb places (b / width)) refl
-  where
-    go : (t : Bool) → leb places (b / width) ≡ t → leb places (a / width) ≡ t
-    go true e = le-leb places (a / width) (from (leb-true places (b / width) e))
-    go false e = go_false (leb places (a / width)) refl
-      where
-        go_false : (t : Bool) → leb places (a / width) ≡ t → leb places (a / width) ≡ false
-        go_false true f = absurd (omega (arith, to (leb-true places (a / width) f), leb-false places (b / width) e))
-        go_false false f = f
-
-room_enough : (cs : List ℤ) (regions sources inputs stack : ℕ) → component_count cs ≤ component_limit
-    → liveness_room cs (min regions component_limit) (min sources (4 * component_limit)) (min inputs (12 * component_limit)) (min stack (2 * component_limit))
-    ≡ liveness_room cs regions sources inputs stack
-room_enough cs regions sources inputs stack h =
-    let n = component_count cs in
-    rw (
-      room_same n 1 (min regions component_limit) regions (λ l. omega arith) (λ l. omega arith),
-      room_same (n * 2) 2 (min sources (4 * component_limit)) sources (λ l. omega arith) (λ l. omega arith),
-      room_same (n * 4) 3 (min inputs (12 * component_limit)) inputs (λ l. omega arith) (λ l. omega arith),
-      room_same n 2 (min stack (2 * component_limit)) stack (λ l. omega arith) (λ l. omega arith),
-    )
-
--- rows for as many places as a scene can fill
-pub by_room : (cs ps fs : List ℤ) (a b c d regions sources inputs sets stack : ℕ) → component_count cs ≤ component_limit
-    → room_for set_count word_count (sets / number_bytes) ≡ true
-    → a ≡ min (regions / number_bytes) component_limit → b ≡ min (sources / number_bytes) (4 * component_limit)
-    → c ≡ min (inputs / number_bytes) (12 * component_limit) → d ≡ min (stack / number_bytes) (2 * component_limit)
-    → liveness_refusal cs ps fs a b c d ≡ liveness_places cs ps fs regions sources inputs sets stack
-by_room cs ps fs a b c d regions sources inputs sets stack few room ea eb ec ed =
-    let e = room_enough cs (regions / number_bytes) (sources / number_bytes) (inputs / number_bytes) (stack / number_bytes) few in
-    rw (ea, eb, ec, ed, e, room)
 
 pub alive_as : {checks checks' : Result ⊤ Refusal} {cs ps fs : List ℤ} {regions regions' sources sources' inputs inputs' sets sets' stack stack' : List ℕ} {r : ℕ}
     → checks ≡ checks' → LivenessLaid checks cs ps fs regions regions' sources sources' inputs inputs' sets sets' stack stack' r

@@ -77,8 +77,10 @@ fn write_answer(
     sets: &mut [u8],
     stack: &mut [u8],
 ) -> u64
-    requires { WrittenRoom count analysis rows.now.regions.now rows.now.sources.now rows.now.inputs.now regions.old sources.old inputs.old sets.old }
-    ensures { Written count analysis rows.now.regions.now rows.now.sources.now rows.now.inputs.now regions.old regions.new sources.old sources.new inputs.old inputs.new sets.old sets.new stack.old stack.new result }
+    requires { WrittenRoom count analysis rows.now.regions.now rows.now.sources.now rows.now.inputs.now
+        regions.old sources.old inputs.old sets.old }
+    ensures { Written count analysis rows.now.regions.now rows.now.sources.now rows.now.inputs.now
+        regions.old regions.new sources.old sources.new inputs.old inputs.new sets.old sets.new stack.old stack.new result }
 {
     encode(&rows.regions[..count], regions);
     encode(&rows.sources[..analysis.sources * 2], sources);
@@ -110,7 +112,8 @@ fn by_rows(
 ) -> u64
     requires { RowRoom region_rows.old source_rows.old input_rows.old regions.old sources.old inputs.old sets.old }
     ensures { let cs = lists.now.components.now in let ps = lists.now.ports.now in let fs = lists.now.frontiers.now in
-        LivenessLaid (liveness_refusal cs ps fs (length region_rows.old) (length source_rows.old) (length input_rows.old) (length pairs.old))
+        LivenessLaid (liveness_refusal cs ps fs (length region_rows.old)
+        (length source_rows.old) (length input_rows.old) (length pairs.old))
         cs ps fs regions.old regions.new sources.old sources.new inputs.old inputs.new sets.old sets.new stack.old stack.new result }
 {
     let analyzed = analyze_signal_liveness(
@@ -148,7 +151,8 @@ fn by_places(
     stack: &mut [u8],
 ) -> u64
     requires { room_for set_count word_count (length sets.old / number_bytes) ≡ true }
-    ensures { LivenessByPlaces lists.now.components.now lists.now.ports.now lists.now.frontiers.now regions.old regions.new sources.old sources.new inputs.old inputs.new sets.old sets.new stack.old stack.new result }
+    ensures { LivenessByPlaces lists.now.components.now lists.now.ports.now lists.now.frontiers.now
+        regions.old regions.new sources.old sources.new inputs.old inputs.new sets.old sets.new stack.old stack.new result }
 {
     let mut region_rows = [0u64; COMPONENTS];
     let mut source_rows = [0u64; 4 * COMPONENTS];
@@ -199,7 +203,8 @@ fn of_numbers(
     sets: &mut [u8],
     stack: &mut [u8],
 ) -> u64
-    ensures { LivenessByPlaces lists.now.components.now lists.now.ports.now lists.now.frontiers.now regions.old regions.new sources.old sources.new inputs.old inputs.new sets.old sets.new stack.old stack.new result }
+    ensures { LivenessByPlaces lists.now.components.now lists.now.ports.now lists.now.frontiers.now
+        regions.old regions.new sources.old sources.new inputs.old inputs.new sets.old sets.new stack.old stack.new result }
 {
     if room_for(SETS, WORDS, sets.len() / NUMBER) {
         return by_places(lists, regions, sources, inputs, sets, stack);
@@ -220,7 +225,8 @@ fn with_ports<const N: usize>(
 ) -> u64
     requires components_bound { component_count components.now ≤ component_limit }
     requires ports_fit { (length ports.now / number_bytes ≤ N) × (N ≤ connection_limit * port_width) }
-    ensures { LivenessByPlaces components.now (numbers ports.now) frontiers.now regions.old regions.new sources.old sources.new inputs.old inputs.new sets.old sets.new stack.old stack.new result }
+    ensures { LivenessByPlaces components.now (numbers ports.now) frontiers.now
+        regions.old regions.new sources.old sources.new inputs.old inputs.new sets.old sets.new stack.old stack.new result }
 {
     let mut port_numbers = [0i64; N];
     decode(ports, &mut port_numbers);
@@ -245,7 +251,8 @@ pub(crate) fn of_bytes(
     stack: &mut [u8],
 ) -> u64
     requires { liveness_whole components.now ports.now frontiers.now ≡ (Ok tt) }
-    ensures { LivenessByBytes components.now ports.now frontiers.now regions.old regions.new sources.old sources.new inputs.old inputs.new sets.old sets.new stack.old stack.new result }
+    ensures { LivenessByBytes components.now ports.now frontiers.now
+        regions.old regions.new sources.old sources.new inputs.old inputs.new sets.old sets.new stack.old stack.new result }
 {
     let mut component_numbers = [0i64; COMPONENTS * COMPONENT];
     let mut frontier_numbers = [0i64; FRONTIERS * FRONTIER];

@@ -31,7 +31,8 @@ fn whole_list(list: Section, width: usize, limit: usize, len: usize) -> Result<(
 
 // 1, of the components.
 fn whole_components(components: &[u8]) -> Result<(), Refusal>
-    ensures { result ≡ refuse Fault.ListLength (Some Section.Components) (not_whole (number_bytes * component_width) component_limit (length components.now)) }
+    ensures { result ≡ refuse Fault.ListLength (Some Section.Components)
+        (not_whole (number_bytes * component_width) component_limit (length components.now)) }
 {
     let width = NUMBER * COMPONENT;
     whole_list(Section::Components, width, COMPONENTS, components.len())
@@ -85,7 +86,8 @@ pub extern "C" fn dustroute_liveness(
     sets: &mut [u8],
     stack: &mut [u8],
 ) -> u64
-    ensures { LivenessByBytes components.now ports.now frontiers.now regions.old regions.new sources.old sources.new inputs.old inputs.new sets.old sets.new stack.old stack.new result }
+    ensures { LivenessByBytes components.now ports.now frontiers.now
+        regions.old regions.new sources.old sources.new inputs.old inputs.new sets.old sets.new stack.old stack.new result }
 {
     match whole_scene(components, ports, frontiers) {
         Err(refusal) => pack(Err(refusal)),

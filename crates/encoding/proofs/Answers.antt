@@ -1,7 +1,6 @@
 -- From the entry on lists of numbers to the entry by bytes.
 --     refused_by, counted           the refusal and the counts of an answer
 --     accepted_room                 an accepted scene has places in its slices, and no more components than the limit
---     places_enough, by_places      places past the limit change no refusal
 --     rows_front, numbers_front     the rows of an accepted scene, and the numbers that were read, stand at the front of their slice
 --     refused_laid, accepted_laid   the answer and what is left, from the lists of numbers
 --     whole_lists, whole_fits       lists of bytes that pass number 1, and its refusal as one number
@@ -12,14 +11,13 @@ use Rattle.lists.specs.declared.Section.{Section}
 use Rattle.std.specs.Prelude.{Some}
 use Rattle.std.specs.Prelude.{⊤, Result, Ok, Err}
 use mathlib.Core.Path.{◌≡◌, refl, ap, ◌∙◌}
-use mathlib.Core.Bool.{Bool, true, false, ◌&&◌}
+use mathlib.Core.Bool.{◌&&◌}
 use mathlib.Core.List.{List, []}
-use Prim.Native.Nat.{ℕ, ◌+◌, ◌*◌, ◌/◌, ◌≤◌, min}
+use Prim.Native.Nat.{ℕ, ◌+◌, ◌*◌, ◌/◌, ◌≤◌}
 use native.Mathlib.Omega.{arith}
-use lib.Dec.{leb, lit≤}
+use lib.Dec.{lit≤}
 use lib.ListN.{length, take}
 use lib.IntN.{ℤ}
-use borrow.Author.Tests.{leb-true, leb-false, le-leb, lt-leb}
 use Rattle.lists.specs.Limits.{component_limit, connection_limit, component_width, connection_width}
 use Rattle.lists.specs.Records.{component_count}
 use Rattle.checks.specs.Refusals.{refuse, not_whole, room_for, grouping_refusal, Small, packed}
@@ -72,18 +70,6 @@ accepted_room cs ps nets fragments e =
       fragment_places = room_places n fragments tests.1;
     }
 
-room_enough : (n a : ℕ) → n ≤ component_limit → room_for n 1 (min a component_limit) ≡ room_for n 1 a
-room_enough n a h = go (leb n (a / 1)) refl
-  where
-    go : (t : Bool) → leb n (a / 1) ≡ t → leb n (min a component_limit / 1) ≡ t
-    go true e = le-leb n _ (omega (arith, leb-true n (a / 1) e))
-    go false e = lt-leb n _ (omega (arith, leb-false n (a / 1) e))
-
-pub places_enough : (cs ps : List ℤ) (nets fragments : ℕ) → component_count cs ≤ component_limit
-    → grouping_refusal cs ps (min nets component_limit) (min fragments component_limit) ≡ grouping_refusal cs ps nets fragments
-places_enough cs ps nets fragments h =
-    rw (room_enough (component_count cs) nets h, room_enough (component_count cs) fragments h)
-
 -- the rows of an accepted scene stand at the front
 pub rows_front : (checked : Result ⊤ Refusal) (rows old new : List ℕ) (n : ℕ) → length rows ≡ n → checked ≡ Ok tt → new ≡ left_of checked rows old → take n new ≡ rows
 rows_front checked rows old new n l e f = rw (f, e) (laid_front rows old n l)
@@ -102,15 +88,6 @@ module _ (checked : Result ⊤ Refusal) (cs ps : List ℤ) (nets fragments : Lis
         nets_left = rw c.accepted (n ∙ rw ns);
         fragments_left = rw c.accepted (f ∙ rw fs);
       }
-
--- rows for as many places as a scene can fill
-pub by_places : (cs ps : List ℤ) (nets nets' fragments fragments' : List ℕ) (a b r : ℕ) → component_count cs ≤ component_limit
-    → a ≡ min (length nets / number_bytes) component_limit → b ≡ min (length fragments / number_bytes) component_limit
-    → GroupsLaid (grouping_refusal cs ps a b) cs ps nets nets' fragments fragments' r
-    → GroupsLaid (grouping_refusal cs ps (length nets / number_bytes) (length fragments / number_bytes)) cs ps nets nets' fragments fragments' r
-by_places cs ps nets nets' fragments fragments' a b r few ea eb laid_so =
-    let e = places_enough cs ps (length nets / number_bytes) (length fragments / number_bytes) few in
-    rw (ea, eb, e) at laid_so
 
 -- ---- the bytes of both lists
 

@@ -73,7 +73,8 @@ pub fn analyze_records(
     inputs: &mut [u64],
     stack: &mut [usize],
 ) -> Result<Analysis, Refusal>
-    ensures { Analyzed components.now (flatten ports.now) frontiers.now regions.old regions.new sources.old sources.new inputs.old inputs.new stack.old stack.new result }
+    ensures { Analyzed components.now (flatten ports.now) frontiers.now
+        regions.old regions.new sources.old sources.new inputs.old inputs.new stack.old stack.new result }
 {
     let mut flat = [0i64; ROOM];
     let count = stand_in(ports, &mut flat);

@@ -2,7 +2,7 @@
 use mathlib.Core.Path.{sym, ◌∙◌}
 use Rattle.checks.specs.Refusals.{Small}
 use Rattle.encoding.specs.Entry.{groups_whole}
-use Rattle.encoding.proofs.Answers.{whole_fits, part_laid}
+use Rattle.encoding.proofs.Answers.{whole_fits}
 use Rattle.capi.proofs.dustroute_groups.Goals as goal
 
 pub pack-requires : goal.pack-requires
@@ -10,12 +10,3 @@ pack-requires c =
     let args = c.args in
     let small : Small (groups_whole args.components.now args.connections.now) = whole_fits args.components.now args.connections.now in
     rw (sym c.whole_groups.ensures ∙ c.in-Err.is) at small
-
-pub returns-in-Err : goal.returns-in-Err
-returns-in-Err c = part_laid _ _ _ _ _ _ (sym c.whole_groups.ensures ∙ c.in-Err.is) c.pack.ensures
-
-pub of_bytes-requires : goal.of_bytes-requires
-of_bytes-requires c = sym c.whole_groups.ensures ∙ c.in-Ok.is
-
-pub returns-in-Ok : goal.returns-in-Ok
-returns-in-Ok c = c.of_bytes.ensures

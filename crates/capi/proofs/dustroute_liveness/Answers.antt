@@ -2,7 +2,7 @@
 use mathlib.Core.Path.{sym, ◌∙◌}
 use Rattle.checks.specs.Refusals.{Small}
 use Rattle.capi.specs.Liveness.{liveness_whole}
-use Rattle.capi.proofs.LivenessLaws.{three_fit, part_alive}
+use Rattle.capi.proofs.LivenessLaws.{three_fit}
 use Rattle.capi.proofs.dustroute_liveness.Goals as goal
 
 pub pack-requires : goal.pack-requires
@@ -10,12 +10,3 @@ pack-requires c =
     let args = c.args in
     let small : Small (liveness_whole args.components.now args.ports.now args.frontiers.now) = three_fit args.components.now args.ports.now args.frontiers.now in
     rw (sym c.whole_scene.ensures ∙ c.in-Err.is) at small
-
-pub returns-in-Err : goal.returns-in-Err
-returns-in-Err c = part_alive _ _ _ _ _ _ _ _ _ _ (sym c.whole_scene.ensures ∙ c.in-Err.is) c.pack.ensures
-
-pub of_bytes-requires : goal.of_bytes-requires
-of_bytes-requires c = sym c.whole_scene.ensures ∙ c.in-Ok.is
-
-pub returns-in-Ok : goal.returns-in-Ok
-returns-in-Ok c = c.of_bytes.ensures

@@ -8,7 +8,7 @@ use mir.Val.{Fits}
 use mir.Syntax.{w64}
 use Rattle.checks.specs.Refusals.{liveness_room}
 use Rattle.checks.proofs.Small.{liveness_small}
-use Rattle.capi.proofs.LivenessLaws.{WordsOfSet, refused, accepted, found, few_regions, regions_there, sources_there, inputs_there, accepted_alive, refused_alive}
+use Rattle.capi.proofs.LivenessLaws.{WordsOfSet, refused, accepted, found, few_regions, regions_there, sources_there, inputs_there, accepted_alive}
 use Rattle.capi.proofs.alive.by_rows.Goals as goal
 use Rattle.capi.proofs.alive.by_rows.Goals.{In-Ok}
 
@@ -18,9 +18,6 @@ pack-requires c =
     let room = liveness_room l.components.now (length c.args.region_rows.now) (length c.args.source_rows.now) (length c.args.input_rows.now) (length c.args.pairs.now) in
     let small = liveness_small l.components.now l.ports.now l.frontiers.now room in
     rw (refused c.analyze_signal_liveness-analyzed.ensures.by c.in-Err.is) at small
-
-pub returns-in-Err : goal.returns-in-Err
-returns-in-Err c = refused_alive _ _ _ _ _ _ _ _ _ _ _ (refused c.analyze_signal_liveness-analyzed.ensures.by c.in-Err.is) c.pack.ensures
 
 pub write_answer-requires : goal.write_answer-requires
 write_answer-requires c =

@@ -36,12 +36,6 @@ slice_bounds-frontier_numbers-end c = omega (arith, (whole_three _ _ _ c.require
 pub slice_bounds-frontier_list-end : goal.slice_bounds-frontier_list-end
 slice_bounds-frontier_list-end c = sym (ap length (numbers_front _ _ _ c.decode-2.ensures) ∙ length_numbers _ _)
 
-pub with_ports-requires : goal.with_ports-requires
-with_ports-requires c = record {
-  components_bound = few _ (numbers_front _ _ _ c.decode.ensures) (whole_three _ _ _ c.requires).components_few;
-  ports_fit = (c.if-ports-le-FEW_PORT_NUMBERS.true, omega arith);
-}
-
 pub returns-then-ports-le-FEW_PORT_NUMBERS : goal.returns-then-ports-le-FEW_PORT_NUMBERS
 returns-then-ports-le-FEW_PORT_NUMBERS c = decoded_alive _ _ _ _ _ _ _ _ _ _ _ _ _ _ _ _ (numbers_front _ _ _ c.decode.ensures) (numbers_front _ _ _ c.decode-2.ensures)
     c.requires c.with_ports.ensures

@@ -10,9 +10,6 @@ use Rattle.encoding.specs.Bytes.{number_bytes}
 use Rattle.capi.proofs.LivenessLaws.{short_refused, refused_alive}
 use Rattle.capi.proofs.alive.of_numbers.Goals as goal
 
-pub by_places-requires : goal.by_places-requires
-by_places-requires c = sym c.room_for.ensures ∙ c.if-room_for.true
-
 no_room : (f : Bool → Result ⊤ Refusal) {t : Bool} (rest : Bool) → t ≡ false → f (t && rest) ≡ f false
 no_room f rest e = rw e
 
@@ -26,6 +23,3 @@ returns c =
     let room = liveness_room cs (length a.regions.now / number_bytes) (length a.sources.now / number_bytes) (length a.inputs.now / number_bytes) (length a.stack.now / number_bytes) in
     let none = no_room (liveness_lists cs ps fs) room (sym c.room_for.ensures ∙ c.if-room_for.false) in
     refused_alive _ cs ps fs _ _ _ _ _ refusal _ (none ∙ e) (c.refuse_short.ensures ∙ ap packed e)
-
-pub returns-then-room_for : goal.returns-then-room_for
-returns-then-room_for c = c.by_places.ensures

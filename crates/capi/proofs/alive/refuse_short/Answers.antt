@@ -1,9 +1,9 @@
 -- `capi::alive::refuse_short` meets its contract: the checks of the lists, as one number. Assumes nothing.
 use Rattle.std.specs.Prelude.{⊤, Result}
 use Rattle.lists.specs.declared.Refusal.{Refusal}
-use mathlib.Core.Path.{◌≡◌, sym, ap, ◌∙◌, subst}
+use mathlib.Core.Path.{◌≡◌, sym, subst}
 use mathlib.Core.Bool.{false}
-use Rattle.checks.specs.Refusals.{Small, packed}
+use Rattle.checks.specs.Refusals.{Small}
 use Rattle.checks.proofs.Small.{liveness_small}
 use Rattle.capi.proofs.alive.refuse_short.Goals as goal
 
@@ -14,6 +14,3 @@ pub pack-requires : goal.pack-requires
 pack-requires c =
     let args = c.args.lists.now in
     small_as c.liveness_lists.ensures.lists.answer (liveness_small args.components.now args.ports.now args.frontiers.now false)
-
-pub returns : goal.returns
-returns c = c.pack.ensures ∙ ap packed c.liveness_lists.ensures.lists.answer

@@ -1,10 +1,9 @@
 -- Answers for the goals that the search leaves.
-use Prim.Native.Nat.{◌/◌}
-use mathlib.Core.Path.{◌≡◌, refl, ap, ◌∙◌}
-use lib.ListN.{length, length-set}
+use mathlib.Core.Path.{refl, ap, ◌∙◌}
+use lib.ListN.{length-set}
 use mir.Syntax.{w64}
 use mir.Facts.{to_z-of_z}
-use Rattle.encoding.specs.Bytes.{number_bytes, signed, first_numbers}
+use Rattle.encoding.specs.Bytes.{signed, first_numbers}
 use Rattle.encoding.proofs.Laid.{laid_more}
 use Rattle.encoding.proofs.Reading.{numbers_more, length_numbers}
 use native.Mathlib.Omega.{arith}
@@ -23,10 +22,3 @@ loop-k-preserved c =
       simp length-set sized,
       rw (done, number, numbers_more) (laid_more (first_numbers args.bytes.now l.k) args.out.now l.k (length_numbers args.bytes.now l.k) _ (omega arith)),
     )
-
-pub returns : goal.returns
-returns c =
-    let l = c.loop-k in
-    let (sized, done) = l.invariant in
-    let all : l.k ≡ length c.args.bytes.now / number_bytes = omega arith in
-    rw all at done

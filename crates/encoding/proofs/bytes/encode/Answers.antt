@@ -2,7 +2,6 @@
 use Prim.Native.Nat.{◌*◌, ◌-◌}
 use mathlib.Core.Path.{refl, ◌∙◌}
 use lib.ListN.{length}
-use lib.Seq.{take_all}
 use borrow.Rule.Slice.PartMut.{same_len_mid}
 use Rattle.encoding.specs.Bytes.{number_bytes, bytes_of}
 use Rattle.encoding.proofs.Writing.{encode_more}
@@ -19,10 +18,3 @@ loop-k-preserved c =
     let args = c.args in
     let (sized, done) = l.invariant in
     (same_len_mid (l.k * number_bytes) (length l.out - l.k * number_bytes) l.out c.put_number.new.out c.put_number.auto.out ∙ sized, encode_more args.values.now l.out args.out.now _ l.k (omega arith) done c.put_number.ensures)
-
-pub returns : goal.returns
-returns c =
-    let l = c.loop-k in
-    let values = c.args.values.now in
-    let (sized, done) = l.invariant in
-    rw (take_all l.k values (omega arith)) at done

@@ -16,7 +16,7 @@ use Rattle.circuit.specs.Topology.{net_kinds, fragment_kinds, forest_of, nets_of
 use Rattle.circuit.specs.declared.Counts.{Counts}
 use Rattle.circuit.proofs.Roots.{length_groups}
 use Rattle.circuit.proofs.Numbering.{roots_most}
-use Rattle.encoding.proofs.Answers.{refused_by, Counted, counted, Room, accepted_room, rows_front, refused_laid, accepted_laid}
+use Rattle.encoding.proofs.Answers.{refused_by, Counted, counted, Room, accepted_room, rows_front, accepted_laid}
 use Rattle.encoding.proofs.groups.by_rows.Goals as goal
 
 -- the lists, the rows before and after, and what was found
@@ -61,30 +61,17 @@ pack-requires c =
     let small : Small (checked c.from_parts.ensures) = grouping_small _ _ _ _ in
     rw (refused c.from_parts.ensures c.in-Err.is) at small
 
-pub returns-in-Err : goal.returns-in-Err
-returns-in-Err c = refused_laid _ _ _ _ _ _ _ (refused c.from_parts.ensures c.in-Err.is) c.pack.ensures
-
 pub slice_bounds-encode-end : goal.slice_bounds-encode-end
 slice_bounds-encode-end c = (net_rows c.from_parts.ensures c.in-Ok.is c.from_parts.auto.nets).0
 
 pub slice_bounds-encode-end-in-Ok : goal.slice_bounds-encode-end-in-Ok
 slice_bounds-encode-end-in-Ok c = sym (net_rows c.from_parts.ensures c.in-Ok.is c.from_parts.auto.nets).1
 
-pub encode-requires : goal.encode-requires
-encode-requires c =
-    let g = c.from_parts.ensures in
-    omega (arith, (net_rows g c.in-Ok.is c.from_parts.auto.nets).1, (room g c.in-Ok.is).net_places, c.requires)
-
 pub slice_bounds-encode-end-in-Ok-2 : goal.slice_bounds-encode-end-in-Ok-2
 slice_bounds-encode-end-in-Ok-2 c = (fragment_rows c.from_parts.ensures c.in-Ok.is c.from_parts.auto.fragments).0
 
 pub slice_bounds-encode-end-in-Ok-3 : goal.slice_bounds-encode-end-in-Ok-3
 slice_bounds-encode-end-in-Ok-3 c = sym (fragment_rows c.from_parts.ensures c.in-Ok.is c.from_parts.auto.fragments).1
-
-pub encode-requires-in-Ok : goal.encode-requires-in-Ok
-encode-requires-in-Ok c =
-    let g = c.from_parts.ensures in
-    omega (arith, (fragment_rows g c.in-Ok.is c.from_parts.auto.fragments).1, (room g c.in-Ok.is).fragment_places, c.requires)
 
 pub pack_counts-requires : goal.pack_counts-requires
 pack_counts-requires c =

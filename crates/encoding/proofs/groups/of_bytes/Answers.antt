@@ -1,10 +1,8 @@
 -- `encoding::groups::of_bytes` meets its contract: lists that are whole and within their limits have room in the local arrays, and are read
 -- whole. Assumes nothing.
 use mathlib.Core.Path.{sym, ap, ◌∙◌}
-use Prim.Native.Nat.{◌/◌}
 use native.Mathlib.Omega.{arith}
 use lib.ListN.{length}
-use Rattle.encoding.specs.Bytes.{number_bytes}
 use Rattle.encoding.proofs.Reading.{length_numbers}
 use Rattle.encoding.proofs.Answers.{whole_lists, decoded_laid, numbers_front}
 use Rattle.encoding.proofs.groups.of_bytes.Goals as goal
@@ -26,16 +24,6 @@ slice_bounds-connection_numbers-end c = omega (arith, (whole_lists _ _ c.require
 
 pub slice_bounds-of_numbers-end-2 : goal.slice_bounds-of_numbers-end-2
 slice_bounds-of_numbers-end-2 c = sym (ap length (numbers_front _ _ _ c.decode-2.ensures) ∙ length_numbers _ _)
-
-pub of_numbers-requires : goal.of_numbers-requires
-of_numbers-requires c =
-    let components = c.args.components.now in
-    omega (
-      arith,
-      ap length (numbers_front _ _ _ c.decode.ensures),
-      length_numbers components (length components / number_bytes),
-      (whole_lists _ _ c.requires).components_few,
-    )
 
 pub returns : goal.returns
 returns c =
