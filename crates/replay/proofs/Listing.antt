@@ -1,9 +1,9 @@
 -- Sets listed a number at a time.
 --     Front                        rows stand at the front of a list, and the rest is as it was
 --     front_none, -more            none at first, one more
---     front_taken                  numbers at the front, taken again
---     flags_none, -more            the flags below a number
+--     flags_none, -more, -all      the flags below a number
 --     names_none, -first, -last    the names below a number
+--     next_rises                   the next member is past the last one
 -- Assumes nothing.
 use Prim.Native.Nat.{ℕ, zero, suc, ◌+◌, ◌≤◌, ◌<◌}
 use native.Mathlib.Numerals.{add-one}
@@ -11,19 +11,19 @@ use native.Mathlib.Omega.{arith}
 use mathlib.Core.Path.{◌≡◌, refl, sym, ap, ◌∙◌}
 use mathlib.Core.Bool.{Bool, true, false, cond}
 use mathlib.Core.List.{List, [], ◌∷◌, ◌++◌, append-nil}
-use lib.ListN.{length, take, drop, set, length-append}
-use lib.Seq.{take-length, take-append_seam}
+use lib.ListN.{length, take, set, length-append}
+use lib.Seq.{take-length}
 use Rattle.std.proofs.lemmas.List.{take_more_set}
 use Rattle.std.specs.Int.{from_bool}
 use Rattle.lists.specs.Slices.{laid}
-use Rattle.lines.proofs.Writing.{laid_snoc, length_laid}
+use Rattle.lines.proofs.Writing.{laid_snoc}
 use Rattle.sets.specs.Members.{as_nat, member_of, NoneIn, FirstFrom}
 use Rattle.std.specs.Prelude.{Option, Some, None}
 use Rattle.std.specs.Option.{unwrap_or}
 use native.Mathlib.Nat.{add-zero}
 use mathlib.Core.Path.{subst}
 use Prim.Native.Nat.{◌-◌}
-use Rattle.replay.specs.Names.{name_of, names_below, flags_below, Written}
+use Rattle.replay.specs.Names.{name_of, names_below, flags_below}
 
 pub record Front (rows : List ℕ) (n : ℕ) (old new : List ℕ) : Type 0 where
   pub count : length rows ≡ n
@@ -32,9 +32,6 @@ pub record Front (rows : List ℕ) (n : ℕ) (old new : List ℕ) : Type 0 where
 
 pub front_none : (old : List ℕ) → Front [] 0 old old
 front_none old = record { count = refl; few = omega arith; front = refl }
-
-pub front_length : {rows old new : List ℕ} {n : ℕ} → Front rows n old new → length new ≡ length old
-front_length {rows} {old} {new} f = rw f.front (length_laid rows old (omega (arith, f.count, f.few)))
 
 pub front_more : {rows old new : List ℕ} {n : ℕ} (a : ℕ) → Front rows n old new → n < length old → Front (rows ++ (a ∷ [])) (n + 1) old (set new n a)
 front_more {rows} {old} {new} {n} a f h =
@@ -110,10 +107,5 @@ module _ (keys words : List ℕ) where
       go : (b : Bool) → length (names_below keys words m) ≤ m → length (names_below keys words m ++ cond b (name_of keys m ∷ []) []) ≤ suc m
       go true h = omega (arith, h, length-append (names_below keys words m) (name_of keys m ∷ []))
       go false h = omega (arith, h, length-append (names_below keys words m) [])
-
--- numbers at the front of a list, taken again
-pub front_taken : (numbers out out' : List ℕ) (r : ℕ) → Written numbers out out' r → take r out' ≡ numbers
-front_taken numbers out out' r w =
-    ap (λ k. take k out') w.count ∙ ap (take (length numbers)) w.front ∙ take-append_seam numbers (drop (length numbers) out)
 
 pub ruleset listed_flags = (flags_none, flags_more, flags_all)
