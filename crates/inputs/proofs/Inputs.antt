@@ -58,7 +58,8 @@ use Rattle.inputs.specs.Inputs.{FedScene, SlotOf, Walkable, UpstreamSet}
 use Rattle.inputs.specs.declared.InputSources.{InputSources}
 use Rattle.signals.proofs.Tabulated.{first_cong, tabulated_length, tabulated_at}
 use Rattle.signals.proofs.Ends.{ends_within, sink_is}
-use Rattle.signals.proofs.Graph.{no_slot, fed_at, edges_back, and_assoc}
+use Rattle.signals.proofs.Graph.{no_slot, fed_at, edges_back}
+use mathlib.Core.Bool.{and_assoc}
 use Rattle.signals.proofs.Marks.{set_marked}
 use Rattle.assessment.proofs.Fed.{here, outside}
 use Rattle.signals.proofs.Tested.{same_truth}

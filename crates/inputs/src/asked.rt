@@ -6,14 +6,13 @@ ghost use Rattle.lists.specs.Records.{component_count, port_count};
 ghost use Rattle.regions.specs.Search.{Zeros};
 ghost use Rattle.signals.specs.Flags.{Indices};
 ghost use Rattle.assessment.specs.Rows.{SlotWithin};
-ghost use Rattle.assessment.specs.Upstream.{table_words};
 ghost use Rattle.inputs.specs.Query.{row_place, PortSets};
 ghost use Rattle.inputs.specs.Inputs.{Ready, SlotSets};
 
 use super::InputSources;
 use super::query::{find_inputs, no_sources};
 use super::row::row_place;
-use assessment::upstream::{add_row, upstream_rows};
+use assessment::upstream::{TABLE, add_row, upstream_rows};
 use lists::ids::member_of;
 use lists::{COMPONENTS, CONNECTIONS, PORT};
 use liveness::plot::Plot;
@@ -30,7 +29,7 @@ pub struct Asked<'a> {
     pub plot: Plot<'a>,
     pub fed: &'a [u64],
     pub labels: &'a [usize],
-    pub upstream: &'a [u64],
+    pub upstream: &'a [u64; TABLE],
     pub ghost ready: { ∥ Ready plot.components.now plot.ports.now plot.frontiers.now fed.now labels.now upstream.now ∥₁ },
 }
 
@@ -41,12 +40,12 @@ pub fn make_ready(
     plot: &Plot,
     fed: &mut [u64],
     labels: &mut [usize],
-    upstream: &mut [u64],
+    upstream: &mut [u64; TABLE],
     stack: &mut [usize],
 )
     requires fed_len { length fed.old ≡ port_count plot.now.ports.now }
     requires labels_len { let n = component_count plot.now.components.now in (length labels.old ≡ n) × (2 * n ≤ length stack.old) }
-    requires upstream_len { (length upstream.old ≡ table_words) × Zeros upstream.old }
+    requires upstream { Zeros upstream.old }
     ensures { let p = plot.now in Ready p.components.now p.ports.now p.frontiers.now fed.new labels.new upstream.new × Zeros stack.new }
 {
     let n = plot.keys.len();
@@ -61,15 +60,15 @@ pub fn make_ready(
         &mut inferred[..n],
         stack,
     );
-    let count = find_crossings(fed, labels, &mut pairs);
+    let crossings = find_crossings(fed, labels, &mut pairs);
     build_fed(plot.ports, plot.source_at, plot.sink_at, fed);
-    upstream_rows(&pairs[..count], labels, &inferred[..n], upstream);
+    upstream_rows(crossings, labels, &inferred[..n], upstream);
 }
 
 // The nodes that feed a slot, and all members of the rows of their regions.
-fn slot_sources(fed: &[u64], slot: usize, labels: &[usize], upstream: &[u64]) -> InputSources
+fn slot_sources(fed: &[u64], slot: usize, labels: &[usize], upstream: &[u64; TABLE]) -> InputSources
     requires ascending { Ascending fed.now × ((slot < 2 ^ 32) × SlotWithin fed.now slot (length labels.now)) }
-    requires indices { Indices (length labels.now) component_limit labels.now × ((length labels.now ≤ component_limit) × (length upstream.now ≡ table_words)) }
+    requires indices { Indices (length labels.now) component_limit labels.now × (length labels.now ≤ component_limit) }
     ensures { SlotSets fed.now slot labels.now upstream.now result }
 {
     let mut immediate = ComponentSet::empty();

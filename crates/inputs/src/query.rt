@@ -1,13 +1,14 @@
 // The input query: the immediate sources of a port, and the inferred inputs among these and all upstream of them.
 ghost use Rattle.lists.specs.declared.Fault.{Fault};
 ghost use Rattle.std.specs.Prelude.{Some, None, Ok};
-ghost use Rattle.std.specs.Prelude.{◌≡◌, List, ℕ, ◌*◌, ◌^◌, ◌≤◌, ◌<◌, length, ℤ};
+ghost use Rattle.std.specs.Prelude.{◌≡◌, ◌&&◌, List, ℕ, ◌*◌, ◌^◌, ◌≤◌, ◌<◌, length, ℤ};
 ghost use Rattle.tables.specs.Order.{Ascending, member};
 ghost use Rattle.tables.specs.Pairs.{pair, span};
 ghost use Rattle.lists.specs.Records.{component_count, port_count};
 ghost use Rattle.lists.specs.First.{is_found};
 ghost use Rattle.checks.specs.Refusals.{refuse, too_short};
 ghost use Rattle.regions.specs.Search.{Zeros};
+ghost use Rattle.regions.specs.Graph.{marked};
 ghost use Rattle.regions.specs.Keys.{edges};
 ghost use Rattle.signals.specs.Regions.{is_inferred};
 ghost use Rattle.signals.specs.Drive.{members_where};
@@ -27,7 +28,7 @@ use liveness::steps::{flag_drive, flag_inferred};
 use regions::HINTED;
 use sets::ComponentSet;
 use signals::edges::PORTS;
-use signals::flags::{and_flags, gather};
+use signals::flags::{combine_flags, gather};
 use signals::stages::build_fed;
 use tables::SPAN;
 
@@ -50,6 +51,15 @@ fn immediate_flags(keys: &[u64], slot: usize, flags: &mut [bool])
     }
 }
 
+// Keeps the flags of inferred inputs alone. A function of its own: in one that has more lent slices the check says of the closure's call "a bug in
+// rattle keeps any answer from counting".
+fn keep_inputs(flags: &mut [bool], inferred: &[bool])
+    requires { length flags.old ≤ length inferred.now }
+    ensures { Flags (length flags.old) (λ m. marked flags.old m && marked inferred.now m) flags.new }
+{
+    combine_flags(flags, inferred, |reached, input| reached & input);
+}
+
 // The inferred inputs among the flagged members and all upstream of them.
 fn upstream_inputs(
     backward: &[u64],
@@ -63,16 +73,9 @@ fn upstream_inputs(
     let n = inferred.len();
     let mut upstream = [false; COMPONENTS];
     let mut order = [0usize; COMPONENTS];
-    let mut both = [false; COMPONENTS];
-    regions::reach_from(
-        backward,
-        immediate,
-        &mut upstream[..n],
-        &mut order,
-        stack,
-    );
-    and_flags(n, &upstream[..n], inferred, &mut both);
-    ComponentSet::of_flags(&both[..n])
+    regions::reach_from(backward, immediate, &mut upstream[..n], &mut order, stack);
+    keep_inputs(&mut upstream[..n], inferred);
+    ComponentSet::of_flags(&upstream[..n])
 }
 
 // The sources where the port asked for has no verdict row, or none feeds it.
@@ -140,12 +143,8 @@ pub(crate) fn inferred_members(plot: &PreparedPlot, inferred: &mut [bool])
         &mut has_drive,
     );
     flag_inferred(plot, &has_drive, &mut inferred_at);
-    gather(
-        lists.components.len() / COMPONENT,
-        plot.members,
-        &inferred_at,
-        inferred,
-    );
+    let count = lists.components.len() / COMPONENT;
+    gather(&plot.members[..count], &inferred_at, inferred);
 }
 
 // Prepares a plot, and flags its inferred inputs by member. Leaves the stack zero.

@@ -7,7 +7,7 @@ ghost use Rattle.lists.specs.Ids.{IdTable};
 ghost use Rattle.assessment.specs.Rows.{first_required, required_count};
 ghost use Rattle.inputs.specs.Query.{with_row, row_place};
 
-use assessment::verdicts::{first_required, required_count};
+use assessment::verdicts::required_ports;
 use lists::COMPONENT;
 use lists::ids::place_of;
 use lists::numbers::natural_at;
@@ -19,8 +19,8 @@ const IDS: u64 = 1 << 32;
 fn has_row(kind: u64, port: u64) -> bool
     ensures { result ≡ (leb (first_required kind) port && ltb port (first_required kind + required_count kind)) }
 {
-    let first = first_required(kind) as u64;
-    (first <= port) & (port < first + required_count(kind) as u64)
+    let ports = required_ports(kind);
+    (ports.start as u64 <= port) & (port < ports.end as u64)
 }
 
 // The place, where the port of its component has a verdict row.

@@ -6,7 +6,7 @@
 --     scene_of_lem                          an accepted scene
 --     analyzed_accepted, ..-refused     the entry's answer, by what the checks say
 -- Assumes nothing.
-use Rattle.std.specs.Prelude.{Result, Ok, Err}
+use Rattle.std.specs.Prelude.{Result, Ok, Err, IfOk}
 use mathlib.Core.Path.{◌≡◌, refl, sym, ap, ◌∙◌}
 use mathlib.Core.Bool.{Bool, true, false, ◌&&◌}
 use mathlib.Core.List.{List}
@@ -22,10 +22,11 @@ use Rattle.tables.specs.Laws.{order?}
 use Rattle.lists.specs.First.{tabulate}
 use Rattle.checks.specs.Refusals.{liveness_refusal}
 use Rattle.lists.specs.declared.Refusal.{Refusal}
+use Rattle.checks.proofs.Chain.{refused_not}
 use Rattle.checks.proofs.Accepted.{LivenessScene}
 use Rattle.regions.specs.Graph.{marked}
 use Rattle.signals.specs.Flags.{Flags}
-use Rattle.liveness.specs.Sets.{SetWhere}
+use Rattle.liveness.specs.Sets.{SetWhere, checked}
 use Rattle.signals.specs.Regions.{regions_of}
 use Rattle.liveness.specs.Scene.{Scene}
 use Rattle.liveness.specs.Entry.{AnalyzedBy, Analyzed}
@@ -104,11 +105,17 @@ analyzed_accepted {cs} {ps} {regions = regions} e s a = record {
   demand = rw (a.regions_left, a.analysis.region_count_lem) (demand_3 cs ps s (drop (length (regions_of cs ps)) regions));
 }
 
--- nothing is written
-pub analyzed_refused : {cs ps fs : List ℤ} {regions sources inputs stack : List ℕ} {refusal : Refusal} {r : Result Analysis Refusal}
-    → liveness_refusal cs ps fs (length regions) (length sources) (length inputs) (length stack) ≡ Err refusal → r ≡ Err refusal
-    → Analyzed cs ps fs regions regions sources sources inputs inputs stack stack r
-analyzed_refused e f = rw f record {
-  by = rw e record { answer = refl; analysis = tt; regions_left = refl; sources_left = refl; inputs_left = refl; stack_left = refl };
-  demand = tt;
+-- a refusal counts nothing
+pub if_refused : {A : Type 0} (r : Result A Refusal) (P : A → Type 0) {refusal : Refusal} → checked r ≡ Err refusal → IfOk r P
+if_refused (Ok value) P e = absurd (refused_not (sym e))
+if_refused (Err refused) P e = tt
+
+-- and nothing is written
+pub analyzed_refused : {cs ps fs : List ℤ} {regions regions' sources sources' inputs inputs' stack stack' : List ℕ} {refusal : Refusal} {r : Result Analysis Refusal}
+    → liveness_refusal cs ps fs (length regions) (length sources) (length inputs) (length stack) ≡ Err refusal → checked r ≡ Err refusal
+    → regions' ≡ regions → sources' ≡ sources → inputs' ≡ inputs → stack' ≡ stack
+    → Analyzed cs ps fs regions regions' sources sources' inputs inputs' stack stack' r
+analyzed_refused {r = r} e f p q u v = record {
+  by = rw e record { answer = f; analysis = if_refused r _ f; regions_left = p; sources_left = q; inputs_left = u; stack_left = v };
+  demand = if_refused r _ f;
 }

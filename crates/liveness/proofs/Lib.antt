@@ -3,7 +3,9 @@
 --     Inferring                         the inferred inputs
 --     Answers                           sets and rows of an answer
 --     Demands                           demand 3
+--     Lent                              fronts of arrays, lent for nodes or edges
 pub mod Outside
 pub mod Inferring
 pub mod Demands
 pub mod Answers
+pub mod Lent

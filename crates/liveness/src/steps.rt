@@ -143,7 +143,8 @@ fn report(
     requires rows_room { RowsRoom plot.now.plot.components.now regions.old sources.old inputs.old stack.old }
     requires stack_zeros { Zeros stack.old }
     ensures { let p = plot.now.plot in
-        AnalyzedBy (Ok tt) p.components.now p.ports.now p.frontiers.now regions.old regions.new sources.old sources.new inputs.old inputs.new stack.old stack.new (Ok result) }
+        AnalyzedBy (Ok tt) p.components.now p.ports.now p.frontiers.now
+        regions.old regions.new sources.old sources.new inputs.old inputs.new stack.old stack.new (Ok result) }
 {
     let lists = plot.plot;
     let n = plot.labels.len();
@@ -199,7 +200,8 @@ fn analyze_in(
     requires labels_room { length labels.old ≡ component_count plot.now.components.now }
     requires rows_room { RowsRoom plot.now.components.now regions.old sources.old inputs.old stack.old }
     ensures { let p = plot.now in
-        AnalyzedBy (Ok tt) p.components.now p.ports.now p.frontiers.now regions.old regions.new sources.old sources.new inputs.old inputs.new stack.old stack.new (Ok result) }
+        AnalyzedBy (Ok tt) p.components.now p.ports.now p.frontiers.now
+        regions.old regions.new sources.old sources.new inputs.old inputs.new stack.old stack.new (Ok result) }
 {
     let mut members = [0usize; COMPONENTS];
     let mut region_at = [0usize; COMPONENTS];
@@ -238,7 +240,8 @@ pub fn analyze(
 ) -> Analysis
     requires { RowsRoom plot.now.components.now regions.old sources.old inputs.old stack.old }
     ensures { let p = plot.now in
-        AnalyzedBy (Ok tt) p.components.now p.ports.now p.frontiers.now regions.old regions.new sources.old sources.new inputs.old inputs.new stack.old stack.new (Ok result) }
+        AnalyzedBy (Ok tt) p.components.now p.ports.now p.frontiers.now
+        regions.old regions.new sources.old sources.new inputs.old inputs.new stack.old stack.new (Ok result) }
 {
     let n = plot.keys.len();
     let m = plot.ports.len() / PORT;

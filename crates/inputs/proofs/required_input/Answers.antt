@@ -1,8 +1,7 @@
 -- `inputs::required_input` meets its contract: the checks first, and where they accept the query, by the table of ids that they left.
 -- Assumes nothing.
-use Rattle.std.specs.Prelude.{Ok, Err}
-use Rattle.std.proofs.Common.{rules}
-use mathlib.Core.Path.{◌≡◌, refl, sym, ap, ◌∙◌}
+use Rattle.std.specs.Prelude.{Ok}
+use mathlib.Core.Path.{◌≡◌, sym, ap, ◌∙◌}
 use Prim.Native.Nat.{◌*◌, ◌/◌, ◌≤◌}
 use native.Mathlib.Omega.{arith}
 use lib.ListN.{length}
@@ -12,7 +11,6 @@ use Rattle.lists.specs.Records.{component_count}
 use Rattle.checks.specs.Refusals.{room_for, liveness_lists, query_refusal}
 use Rattle.checks.proofs.Accepted.{LivenessScene, liveness_accept}
 use Rattle.liveness.proofs.Answers.{scene_of_lem}
-use Rattle.inputs.proofs.Inputs.{inputs_checked}
 use Rattle.inputs.proofs.required_input.Goals as goal
 use Rattle.inputs.proofs.required_input.Goals.{After-liveness_lists}
 
@@ -46,17 +44,6 @@ invariant_of-plot c =
     let scene = scene_of_lem (live (goal.at.invariant_of-plot c).After-liveness_lists was) in
     record { accepted = record { scene = scene; table = left.lists.table was; ends = left.ends was } }
 
--- a refusal leaves the stack as it was
-pub returns-in_err-liveness_lists : goal.returns-in_err-liveness_lists
-returns-in_err-liveness_lists c =
-    let back : c.from_residual.result ≡ Err c.in_err-liveness_lists.field-0.0 = search rules in
-    inputs_checked c.args.id (sym (says (goal.at.returns-in_err-liveness_lists c).After-liveness_lists) ∙ c.in_err-liveness_lists.was)
-    (rw back (record { answer = refl; sets = tt; stack_left = refl }))
-
-pub returns : goal.returns
-returns c =
-    inputs_checked c.args.id (sym (says (goal.at.returns c).After-liveness_lists) ∙ c.in_ok-liveness_lists.was) c.query_plot.ensures
-
 pub slice_bounds-keys-end : goal.slice_bounds-keys-end
 slice_bounds-keys-end c = long (goal.at.slice_bounds-keys-end c).After-liveness_lists c.in_ok-liveness_lists.was
 
@@ -64,6 +51,3 @@ pub slice_bounds-plot-end : goal.slice_bounds-plot-end
 slice_bounds-plot-end c =
     sym (length-take-le _ c.liveness_lists.new.keys
     (long (goal.at.slice_bounds-plot-end c).After-liveness_lists c.in_ok-liveness_lists.was))
-
-pub shape_of-stack : goal.shape_of-stack
-shape_of-stack c = c.query_plot.auto.stack

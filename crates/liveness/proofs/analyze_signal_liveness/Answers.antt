@@ -1,8 +1,7 @@
 -- `liveness::analyze_signal_liveness` meets its contract: the checks first, and where they accept the analysis, by the table of ids that they
 -- left; its regions are those of demand 3.
 -- Assumes nothing.
-use Rattle.std.specs.Prelude.{Ok, Err}
-use Rattle.std.proofs.Common.{rules}
+use Rattle.std.specs.Prelude.{Ok}
 use mathlib.Core.Path.{◌≡◌, refl, sym, ap, ◌∙◌}
 use mathlib.Core.Bool.{Bool, ◌&&◌}
 use Prim.Native.Nat.{◌*◌, ◌/◌, ◌≤◌}
@@ -15,7 +14,7 @@ use Rattle.checks.specs.Refusals.{room_for, liveness_room, liveness_lists, liven
 use Rattle.lists.proofs.Search.{both}
 use Rattle.checks.proofs.Accepted.{LivenessScene, liveness_accept, room_places}
 use Rattle.liveness.specs.Scene.{Scene, RowsRoom}
-use Rattle.liveness.proofs.Answers.{scene_of_lem, analyzed_accepted, analyzed_refused}
+use Rattle.liveness.proofs.Answers.{scene_of_lem, analyzed_accepted}
 use Rattle.liveness.proofs.analyze_signal_liveness.Goals as goal
 use Rattle.liveness.proofs.analyze_signal_liveness.Goals.{After-liveness_lists}
 
@@ -76,11 +75,6 @@ invariant_of-plot c =
     let left = c.liveness_lists.ensures in
     let was = c.in_ok-liveness_lists.was in
     record { accepted = record { scene = scene now was; table = left.lists.table was; ends = left.ends was } }
-
-pub returns-in_err-liveness_lists : goal.returns-in_err-liveness_lists
-returns-in_err-liveness_lists c =
-    let back : c.from_residual.result ≡ Err c.in_err-liveness_lists.field-0.0 = search rules in
-    analyzed_refused (sym (says (goal.at.returns-in_err-liveness_lists c).After-liveness_lists) ∙ c.in_err-liveness_lists.was) back
 
 pub returns : goal.returns
 returns c =

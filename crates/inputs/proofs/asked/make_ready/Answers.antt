@@ -7,14 +7,14 @@ use mathlib.Core.List.{List, ◌++◌}
 use Prim.Native.Nat.{ℕ, ◌≤◌}
 use native.Mathlib.Omega.{arith}
 use lib.ListN.{length, take, drop, replicate, length-append, length-drop}
-use lib.Seq.{length-take-le}
 use lib.IntN.{ℤ}
 use Rattle.lists.specs.Limits.{component_limit, connection_limit}
 use Rattle.lists.specs.Records.{component_count, port_count}
-use Rattle.lists.proofs.Table.{table_long}
+use Rattle.liveness.proofs.Lent.{edges_few, edges_lent, flags_lent, nodes_are, nodes_few}
 use Rattle.signals.specs.Regions.{labels}
 use Rattle.signals.specs.Flags.{Indices}
 use Rattle.signals.proofs.Lent.{front, front_long, front_length}
+use Rattle.std.proofs.Common.{rules}
 use Rattle.signals.proofs.Within.{labels_under}
 use Rattle.liveness.proofs.Inferring.{regions_of_lem, crossings_of}
 use Rattle.inputs.proofs.Inputs.{fed_scene}
@@ -34,32 +34,16 @@ edge_count s = port_count (ps s)
 abbrev nodes : Start → ℕ
 nodes s = length s.args.plot.now.keys.now
 
-all : (s : Start) → nodes s ≡ component_count (cs s)
-all s = table_long s.args.plot.now.accepted.table
-
-edges_few : (s : Start) → edge_count s ≤ connection_limit
-edges_few s = s.args.plot.now.accepted.scene.connections.few
-
 few : (s : Start) → component_count (cs s) ≤ component_limit
 few s = s.args.plot.now.accepted.scene.components.few
 
-nodes-few : (s : Start) → nodes s ≤ component_limit
-nodes-few s = omega (arith, all s, few s)
-
-keys-lent : (s : Start) → length {A = ℕ} (take (edge_count s) (replicate connection_limit 0)) ≡ edge_count s
-keys-lent s = length-take-le _ _ (edges_few s)
-
-flags-lent : (s : Start) → length (take (nodes s) (replicate component_limit false)) ≡ nodes s
-flags-lent s = length-take-le _ _ (nodes-few s)
-
 pub find_inputs-requires : goal.find_inputs-requires
 find_inputs-requires c =
-    let s = (goal.at.find_inputs-requires c).Start in
     record {
       forward_room = c.requires.fed_len;
-      backward_room = keys-lent s;
+      backward_room = edges_lent c.args.plot.now.accepted;
       labels_room = c.requires.labels_len.0;
-      inferred_room = flags-lent s ∙ all s;
+      inferred_room = flags_lent c.args.plot.now.accepted ∙ nodes_are c.args.plot.now.accepted;
       stack_room = c.requires.labels_len.1;
     }
 
@@ -69,7 +53,7 @@ flags_rest s = drop (nodes s) (replicate component_limit false)
 
 flags_long : (s : Start) (flags : List Bool) → length flags ≡ length (take (nodes s) (replicate component_limit false))
     → length flags ≡ nodes s
-flags_long s flags e = e ∙ flags-lent s
+flags_long s flags e = e ∙ flags_lent s.args.plot.now.accepted
 
 -- the array of which the edges backward had the front
 abbrev lent : Start → List ℕ → List ℕ
@@ -79,27 +63,19 @@ lent_long : (s : Start) (backward : List ℕ) → length backward ≡ length {A 
     → length (lent s backward) ≡ connection_limit
 lent_long s backward e =
     let rest : List ℕ = replicate connection_limit 0 in
-    omega (arith, length-append backward (drop (edge_count s) rest), keys-lent s, edges_few s, length-drop (edge_count s) rest)
+    omega (arith, length-append backward (drop (edge_count s) rest), edges_lent s.args.plot.now.accepted, edges_few s.args.plot.now.accepted, length-drop (edge_count s) rest)
 
 labels_below : (s : Start) (labelled : List ℕ) → labelled ≡ labels (cs s) (ps s) → Indices (length labelled) component_limit labelled
 labels_below s labelled e =
     subst (λ (l : List ℕ). Indices (length l) component_limit l) (sym e)
     (labels_under (cs s) (ps s) s.args.plot.now.accepted.scene.ends component_limit (few s))
 
-pub find_crossings-count-requires : goal.find_crossings-count-requires
-find_crossings-count-requires c =
-    let s = (goal.at.find_crossings-count-requires c).Start in
+pub find_crossings-crossings-requires : goal.find_crossings-crossings-requires
+find_crossings-crossings-requires c =
+    let s = (goal.at.find_crossings-crossings-requires c).Start in
     let r = regions_of_lem c.args.plot.now.accepted.scene c.find_inputs.ensures.prepared in record {
       rows = (r.rows, (omega (arith, r.few, lent_long s c.find_inputs.new.backward c.find_inputs.auto.backward), r.few));
       indices = labels_below s c.find_inputs.new.labels c.find_inputs.ensures.prepared.labels_are;
-    }
-
-pub build_fed-requires : goal.build_fed-requires
-build_fed-requires c =
-    let s = (goal.at.build_fed-requires c).Start in
-    let p = c.find_inputs.ensures.prepared in record {
-      port_connections = (c.args.plot.now.accepted.scene.connections, (cs s, (few s, (p.tables.source_members, p.tables.sink_members))));
-      ports_in_bounds = (p.sources_long, (p.sinks_long, c.find_inputs.auto.forward ∙ c.requires.fed_len));
     }
 
 pub upstream_rows-requires : goal.upstream_rows-requires
@@ -114,13 +90,13 @@ upstream_rows-requires c =
             arith,
             c.find_inputs.auto.labels,
             c.requires.labels_len.0,
-            all s,
+            nodes_are s.args.plot.now.accepted,
             front_length _ c.find_inputs.new.inferred (flags_rest s)
                 (flags_long s c.find_inputs.new.inferred c.find_inputs.auto.inferred),
           ),
         ),
       );
-      keys_below = (c.find_crossings-count.ensures.below, c.requires.upstream_len);
+      keys_below = (c.find_crossings-crossings.ensures.below, c.requires.upstream);
     }
 
 pub returns : goal.returns
@@ -128,70 +104,35 @@ returns c =
     let s = (goal.at.returns c).Start in
     let e = c.find_inputs.ensures in
     let p = e.prepared in
-    let crossed = c.find_crossings-count in
+    let crossed = c.find_crossings-crossings in
     let up = c.upstream_rows in (
       record {
         fed_scene = fed_scene c.args.plot.now.accepted.scene p c.build_fed.ensures;
         labels_are = p.labels_are;
-        keys = take crossed.result crossed.new.keys;
+        keys = crossed.result.now;
         pairs = crossings_of (regions_of_lem c.args.plot.now.accepted.scene p) crossed.ensures.pairs;
         rows = rows_as p.labels_are
             (front _ c.find_inputs.new.inferred (flags_rest s) (flags_long s c.find_inputs.new.inferred c.find_inputs.auto.inferred)
             ∙ e.inferred_are) up.ensures;
-        rows_long = up.auto.rows ∙ c.requires.upstream_len.0;
+        rows_long = search rules;
       },
       e.stack_zeros,
     )
 
-pub slice_bounds-pairs-end : goal.slice_bounds-pairs-end
-slice_bounds-pairs-end c =
-    let s = (goal.at.slice_bounds-pairs-end c).Start in
-    edges_few s
-
-pub slice_bounds-find_inputs-end : goal.slice_bounds-find_inputs-end
-slice_bounds-find_inputs-end c =
-    let s = (goal.at.slice_bounds-find_inputs-end c).Start in
-    sym (keys-lent s)
-
 pub slice_bounds-inferred-end : goal.slice_bounds-inferred-end
 slice_bounds-inferred-end c =
-    let s = (goal.at.slice_bounds-inferred-end c).Start in
-    nodes-few s
+    nodes_few c.args.plot.now.accepted
 
 pub slice_bounds-find_inputs-end-2 : goal.slice_bounds-find_inputs-end-2
 slice_bounds-find_inputs-end-2 c =
-    let s = (goal.at.slice_bounds-find_inputs-end-2 c).Start in
-    sym (flags-lent s)
-
-pub slice_bounds-find_crossings-end : goal.slice_bounds-find_crossings-end
-slice_bounds-find_crossings-end c =
-    let s = (goal.at.slice_bounds-find_crossings-end c).Start in
-    sym (lent_long s c.find_inputs.new.backward c.find_inputs.auto.backward)
-
-pub slice_bounds-pairs-end-2 : goal.slice_bounds-pairs-end-2
-slice_bounds-pairs-end-2 c = c.find_crossings-count.ensures.few
-
-pub slice_bounds-upstream_rows-end : goal.slice_bounds-upstream_rows-end
-slice_bounds-upstream_rows-end c = sym (length-take-le _ _ c.find_crossings-count.ensures.few)
+    sym (flags_lent c.args.plot.now.accepted)
 
 pub slice_bounds-inferred-end-2 : goal.slice_bounds-inferred-end-2
 slice_bounds-inferred-end-2 c =
     let s = (goal.at.slice_bounds-inferred-end-2 c).Start in
     front_long _ c.find_inputs.new.inferred (flags_rest s) (flags_long s c.find_inputs.new.inferred c.find_inputs.auto.inferred)
 
-pub slice_bounds-upstream_rows-end-2 : goal.slice_bounds-upstream_rows-end-2
-slice_bounds-upstream_rows-end-2 c =
-    let s = (goal.at.slice_bounds-upstream_rows-end-2 c).Start in
+pub slice_bounds-upstream_rows-end : goal.slice_bounds-upstream_rows-end
+slice_bounds-upstream_rows-end c =
+    let s = (goal.at.slice_bounds-upstream_rows-end c).Start in
     front_length _ c.find_inputs.new.inferred (flags_rest s) (flags_long s c.find_inputs.new.inferred c.find_inputs.auto.inferred)
-
-pub shape_of-fed : goal.shape_of-fed
-shape_of-fed c = c.build_fed.auto.fed ∙ c.find_inputs.auto.forward
-
-pub shape_of-labels : goal.shape_of-labels
-shape_of-labels c = c.find_inputs.auto.labels
-
-pub shape_of-upstream : goal.shape_of-upstream
-shape_of-upstream c = c.upstream_rows.auto.rows
-
-pub shape_of-stack : goal.shape_of-stack
-shape_of-stack c = c.find_inputs.auto.stack

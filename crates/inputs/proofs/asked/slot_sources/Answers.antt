@@ -4,27 +4,15 @@ use Prim.Native.Nat.{◌%◌, ◌<◌}
 use native.Mathlib.Omega.{arith}
 use lib.ListN.{length, get_or}
 use Rattle.tables.specs.Pairs.{span}
-use Rattle.inputs.proofs.Asking.{sought_none, sought_more, slot_sets}
+use Rattle.inputs.proofs.Asking.{sought_more, slot_sets}
 use Rattle.inputs.proofs.asked.slot_sources.Goals as goal
 use Rattle.inputs.proofs.asked.slot_sources.Goals.{Else-key-slot}
-
-pub loop-at-init : goal.loop-at-init
-loop-at-init c =
-    let a = c.args in
-    sought_none a.fed.now a.slot a.labels.now a.upstream.now _ c.empty-immediate.ensures c.empty-inferred.ensures
 
 -- a key of the slot names a node
 node : (c : Else-key-slot)
     → get_or c.args.fed.now c.loop-at.at 0 % span < length c.args.labels.now
 node c =
     c.requires.ascending.1.1.below c.loop-at.at c.loop-at-test.true c.if-key-slot.false
-
-pub insert-immediate-requires : goal.insert-immediate-requires
-insert-immediate-requires c = omega (arith, node c, c.requires.indices.1.0)
-
-pub add_row-inferred-requires : goal.add_row-inferred-requires
-add_row-inferred-requires c =
-    (c.requires.indices.1.1, c.requires.indices.0.below _ (node (goal.at.add_row-inferred-requires c).Else-key-slot))
 
 pub loop-at-preserved : goal.loop-at-preserved
 loop-at-preserved c =
@@ -35,19 +23,10 @@ loop-at-preserved c =
 
 pub returns-then-key-slot : goal.returns-then-key-slot
 returns-then-key-slot c =
-    slot_sets c.requires.ascending.0 c.lower_bound-first.ensures c.requires.indices.1.0 c.loop-at.invariant c.loop-at.auto.at
+    slot_sets c.requires.ascending.0 c.lower_bound-first.ensures c.requires.indices.1 c.loop-at.invariant c.loop-at.auto.at
     (λ h. c.if-key-slot.true) refl refl
 
 pub returns-after-loop-at : goal.returns-after-loop-at
 returns-after-loop-at c =
-    slot_sets c.requires.ascending.0 c.lower_bound-first.ensures c.requires.indices.1.0 c.loop-at.invariant c.loop-at.auto.at
+    slot_sets c.requires.ascending.0 c.lower_bound-first.ensures c.requires.indices.1 c.loop-at.invariant c.loop-at.auto.at
     (λ h. absurd (omega (arith, c.loop-at-test.false))) refl refl
-
-pub overflow_mul-slot : goal.overflow_mul-slot
-overflow_mul-slot c = omega (arith, c.requires.ascending.1.0)
-
-pub offset_bounds-labels-source : goal.offset_bounds-labels-source
-offset_bounds-labels-source c = omega (arith, node (goal.at.offset_bounds-labels-source c).Else-key-slot, c.requires.indices.1.0)
-
-pub bounds-labels-source : goal.bounds-labels-source
-bounds-labels-source c = node (goal.at.bounds-labels-source c).Else-key-slot

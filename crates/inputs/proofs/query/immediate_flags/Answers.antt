@@ -4,21 +4,16 @@ use Prim.Native.Nat.{◌%◌, ◌<◌}
 use native.Mathlib.Omega.{arith}
 use lib.ListN.{length, get_or}
 use Rattle.tables.specs.Pairs.{span}
-use Rattle.inputs.proofs.Inputs.{flagged_none, flagged_more, flagged_all}
+use Rattle.inputs.proofs.Inputs.{flagged_more, flagged_all}
 use Rattle.inputs.proofs.query.immediate_flags.Goals as goal
 use Rattle.inputs.proofs.query.immediate_flags.Goals.{Else-key-slot}
-
-pub loop-at-init : goal.loop-at-init
-loop-at-init c =
-    let a = c.args in
-    rw c.clear_flags.ensures (flagged_none a.keys.now a.slot c.lower_bound-first.result (length a.flags.now))
 
 -- a key of the slot has a flag
 room : (c : Else-key-slot) → get_or c.args.keys.now c.loop-at.at 0 % span < length c.loop-at.flags
 room c =
     omega (
       arith,
-      c.loop-at.auto.flags ∙ c.clear_flags.auto.flags,
+      c.loop-at.auto.flags ∙ c.fill.auto.self,
       c.requires.slot_within.0.below c.loop-at.at c.loop-at-test.true c.if-key-slot.false,
     )
 
@@ -28,15 +23,9 @@ loop-at-preserved c = flagged_more c.loop-at.invariant c.loop-at-test.true c.if-
 pub returns-then-key-slot : goal.returns-then-key-slot
 returns-then-key-slot c =
     flagged_all c.requires.ascending.0 c.lower_bound-first.ensures c.loop-at.invariant c.loop-at.auto.at (λ h. c.if-key-slot.true)
-    (c.loop-at.auto.flags ∙ c.clear_flags.auto.flags) c.requires.slot_within.1
+    (c.loop-at.auto.flags ∙ c.fill.auto.self) c.requires.slot_within.1
 
 pub returns : goal.returns
 returns c =
     flagged_all c.requires.ascending.0 c.lower_bound-first.ensures c.loop-at.invariant c.loop-at.auto.at
-    (λ h. absurd (omega (arith, c.loop-at-test.false))) (c.loop-at.auto.flags ∙ c.clear_flags.auto.flags) c.requires.slot_within.1
-
-pub overflow_mul-slot : goal.overflow_mul-slot
-overflow_mul-slot c = omega (arith, c.requires.ascending.1)
-
-pub bounds-flags-key : goal.bounds-flags-key
-bounds-flags-key c = room c
+    (λ h. absurd (omega (arith, c.loop-at-test.false))) (c.loop-at.auto.flags ∙ c.fill.auto.self) c.requires.slot_within.1

@@ -1,36 +1,19 @@
 -- `inputs::query::inferred_members` meets its contract: the inferred inputs by list place, gathered by member.
 -- Assumes nothing.
 use mathlib.Core.Path.{sym, ◌∙◌}
-use native.Mathlib.Omega.{arith}
-use Rattle.signals.proofs.Lent.{indices_same}
+use Rattle.signals.proofs.Lent.{indices_same, indices_front, gathered_front}
 use Rattle.signals.proofs.Staged.{members_below, marks_are}
 use Rattle.inputs.proofs.query.inferred_members.Goals as goal
 
-pub flag_drive-requires : goal.flag_drive-requires
-flag_drive-requires c =
+pub gather-requires-clause-indices : goal.gather-requires-clause-indices
+gather-requires-clause-indices c =
     let p = c.args.plot.now in
-    let scene = p.plot.accepted.scene in
-    let few = scene.components.few in record {
-      scene = (p.plot.ports.now, (scene, p.prepared.regions_are));
-      components_in_bounds = (few, (few, omega arith));
-    }
-
-pub flag_inferred-requires : goal.flag_inferred-requires
-flag_inferred-requires c = (c.flag_drive.auto.has_drive, c.args.plot.now.plot.accepted.scene.components.few)
-
-pub gather-requires : goal.gather-requires
-gather-requires c =
-    let p = c.args.plot.now in (
-      indices_same (sym c.requires) (members_below p.plot.components.now p.prepared.members_are),
-      omega (arith, p.plot.accepted.scene.components.few, c.flag_inferred.auto.inferred),
-    )
+    indices_front p.members.now (indices_same (sym c.requires) (members_below p.plot.components.now p.prepared.members_are))
 
 pub returns : goal.returns
 returns c =
     let p = c.args.plot.now in
     let d = c.flag_drive.ensures p.plot.ports.now p.prepared.regions_are in
     let i = c.flag_inferred.ensures p.plot.frontiers.now d.region_flags in
-    marks_are p.plot.components.now p.prepared.members_are i (c.gather.auto.out ∙ c.requires) c.gather.ensures
-
-pub shape_of-inferred : goal.shape_of-inferred
-shape_of-inferred c = c.gather.auto.out
+    marks_are p.plot.components.now p.prepared.members_are i (c.gather.auto.out ∙ c.requires)
+    (gathered_front p.members.now p.prepared.members_are.long c.gather.ensures)

@@ -3,15 +3,14 @@
 use mathlib.Core.Path.{◌≡◌, refl, sym, ap, ◌∙◌}
 use mathlib.Core.Bool.{Bool, false}
 use mathlib.Core.List.{List, ◌++◌}
-use Prim.Native.Nat.{ℕ, ◌≤◌, ◌<◌}
+use Prim.Native.Nat.{ℕ, ◌<◌}
 use native.Mathlib.Omega.{arith}
 use lib.ListN.{length, take, drop, replicate}
-use lib.Seq.{length-take-le}
 use lib.IntN.{ℤ}
 use Rattle.lists.specs.Limits.{component_limit, connection_limit}
-use Rattle.lists.specs.Records.{component, component_count, port_count}
+use Rattle.lists.specs.Records.{component, port_count}
 use Rattle.lists.specs.Ids.{smaller_ids, member_of}
-use Rattle.lists.proofs.Table.{table_long}
+use Rattle.liveness.proofs.Lent.{edges_lent, flags_lent, nodes_are, nodes_few}
 use Rattle.lists.proofs.Search.{record_within}
 use Rattle.lists.proofs.Fields.{first_non_neg}
 use Rattle.lists.proofs.Members.{member_below}
@@ -32,21 +31,6 @@ edge_count s = port_count s.args.plot.now.ports.now
 abbrev nodes : Start → ℕ
 nodes s = length s.args.plot.now.keys.now
 
-all : (s : Start) → nodes s ≡ component_count (cs s)
-all s = table_long s.args.plot.now.accepted.table
-
-edges_few : (s : Start) → edge_count s ≤ connection_limit
-edges_few s = s.args.plot.now.accepted.scene.connections.few
-
-nodes-few : (s : Start) → nodes s ≤ component_limit
-nodes-few s = omega (arith, all s, s.args.plot.now.accepted.scene.components.few)
-
-keys-lent : (s : Start) → length {A = ℕ} (take (edge_count s) (replicate connection_limit 0)) ≡ edge_count s
-keys-lent s = length-take-le _ _ (edges_few s)
-
-flags-lent : (s : Start) → length (take (nodes s) (replicate component_limit false)) ≡ nodes s
-flags-lent s = length-take-le _ _ (nodes-few s)
-
 -- the edges and the flags of the nodes, lent from the front of arrays
 abbrev keys_rest : Start → List ℕ
 keys_rest s = drop (edge_count s) (replicate connection_limit 0)
@@ -56,11 +40,11 @@ flags_rest s = drop (nodes s) (replicate component_limit false)
 
 keys_long : (s : Start) (keys : List ℕ) → length keys ≡ length {A = ℕ} (take (edge_count s) (replicate connection_limit 0))
     → length keys ≡ edge_count s
-keys_long s keys e = e ∙ keys-lent s
+keys_long s keys e = e ∙ edges_lent s.args.plot.now.accepted
 
 flags_long : (s : Start) (flags : List Bool) → length flags ≡ length (take (nodes s) (replicate component_limit false))
     → length flags ≡ nodes s
-flags_long s flags e = e ∙ flags-lent s
+flags_long s flags e = e ∙ flags_lent s.args.plot.now.accepted
 
 -- ---- the port by its slot
 pub natural_at-requires : goal.natural_at-requires
@@ -113,7 +97,7 @@ row_sources-requires c =
         omega (
           arith,
           front_length _ w.new.inferred (flags_rest s) (flags_long s w.new.inferred w.auto.inferred),
-          all s,
+          nodes_are s.args.plot.now.accepted,
           s.requires.stack_room,
           w.auto.stack,
         ),
@@ -135,48 +119,21 @@ returns c =
       stack_left = zeros_cleared _ sources.1 ∙ ap (λ (k : ℕ). replicate k 0) (c.row_sources.auto.stack ∙ w.auto.stack);
     }
 
-pub slice_bounds-fed-end : goal.slice_bounds-fed-end
-slice_bounds-fed-end c =
-    let s = (goal.at.slice_bounds-fed-end c).Start in
-    edges_few s
-
-pub slice_bounds-walk_tables-end : goal.slice_bounds-walk_tables-end
-slice_bounds-walk_tables-end c =
-    let s = (goal.at.slice_bounds-walk_tables-end c).Start in
-    sym (keys-lent s)
-
-pub slice_bounds-backward-end : goal.slice_bounds-backward-end
-slice_bounds-backward-end c =
-    let s = (goal.at.slice_bounds-backward-end c).Start in
-    edges_few s
-
-pub slice_bounds-walk_tables-end-2 : goal.slice_bounds-walk_tables-end-2
-slice_bounds-walk_tables-end-2 c =
-    let s = (goal.at.slice_bounds-walk_tables-end-2 c).Start in
-    sym (keys-lent s)
-
 pub slice_bounds-inferred-end : goal.slice_bounds-inferred-end
 slice_bounds-inferred-end c =
-    let s = (goal.at.slice_bounds-inferred-end c).Start in
-    nodes-few s
+    nodes_few c.args.plot.now.accepted
 
 pub slice_bounds-walk_tables-end-3 : goal.slice_bounds-walk_tables-end-3
 slice_bounds-walk_tables-end-3 c =
-    let s = (goal.at.slice_bounds-walk_tables-end-3 c).Start in
-    sym (flags-lent s)
+    sym (flags_lent c.args.plot.now.accepted)
 
 pub walk_tables-requires : goal.walk_tables-requires
 walk_tables-requires c =
     let s = (goal.at.walk_tables-requires c).Start in
     record {
-      fed_len = (keys-lent s, keys-lent s);
-      inferred_len = (flags-lent s ∙ all s, s.requires.stack_room);
+      fed_len = (edges_lent s.args.plot.now.accepted, edges_lent s.args.plot.now.accepted);
+      inferred_len = (flags_lent s.args.plot.now.accepted ∙ nodes_are s.args.plot.now.accepted, s.requires.stack_room);
     }
-
-pub overflow_mul-p : goal.overflow_mul-p
-overflow_mul-p c =
-    let s = (goal.at.overflow_mul-p c).Start in
-    omega (arith, s.requires.p_bound.0, s.args.plot.now.accepted.scene.components.few)
 
 pub overflow_mul-slot : goal.overflow_mul-slot
 overflow_mul-slot c =
@@ -192,26 +149,6 @@ overflow_add-slot c =
       s.requires.p_bound.1,
     )
 
-pub slice_bounds-fed-end-2 : goal.slice_bounds-fed-end-2
-slice_bounds-fed-end-2 c =
-    let s = (goal.at.slice_bounds-fed-end-2 c).Start in
-    front_long _ c.walk_tables.new.fed (keys_rest s) (keys_long s c.walk_tables.new.fed c.walk_tables.auto.fed)
-
-pub slice_bounds-row_sources-end : goal.slice_bounds-row_sources-end
-slice_bounds-row_sources-end c =
-    let s = (goal.at.slice_bounds-row_sources-end c).Start in
-    front_length _ c.walk_tables.new.fed (keys_rest s) (keys_long s c.walk_tables.new.fed c.walk_tables.auto.fed)
-
-pub slice_bounds-backward-end-2 : goal.slice_bounds-backward-end-2
-slice_bounds-backward-end-2 c =
-    let s = (goal.at.slice_bounds-backward-end-2 c).Start in
-    front_long _ c.walk_tables.new.backward (keys_rest s) (keys_long s c.walk_tables.new.backward c.walk_tables.auto.backward)
-
-pub slice_bounds-row_sources-end-2 : goal.slice_bounds-row_sources-end-2
-slice_bounds-row_sources-end-2 c =
-    let s = (goal.at.slice_bounds-row_sources-end-2 c).Start in
-    front_length _ c.walk_tables.new.backward (keys_rest s) (keys_long s c.walk_tables.new.backward c.walk_tables.auto.backward)
-
 pub slice_bounds-inferred-end-2 : goal.slice_bounds-inferred-end-2
 slice_bounds-inferred-end-2 c =
     let s = (goal.at.slice_bounds-inferred-end-2 c).Start in
@@ -221,6 +158,3 @@ pub slice_bounds-row_sources-end-3 : goal.slice_bounds-row_sources-end-3
 slice_bounds-row_sources-end-3 c =
     let s = (goal.at.slice_bounds-row_sources-end-3 c).Start in
     front_length _ c.walk_tables.new.inferred (flags_rest s) (flags_long s c.walk_tables.new.inferred c.walk_tables.auto.inferred)
-
-pub shape_of-stack : goal.shape_of-stack
-shape_of-stack c = c.row_sources.auto.stack ∙ c.walk_tables.auto.stack

@@ -56,7 +56,7 @@ front_length s flags e = ap length (front_is s flags e) ∙ long s flags e
 pub of_flags-requires : goal.of_flags-requires
 of_flags-requires c =
     let s = (goal.at.of_flags-requires c).Start in
-    (omega (arith, front_length s c.immediate_flags.new.flags c.immediate_flags.auto.flags), small s)
+    omega (arith, front_length s c.immediate_flags.new.flags c.immediate_flags.auto.flags, small s)
 
 pub upstream_inputs-requires : goal.upstream_inputs-requires
 upstream_inputs-requires c =
@@ -76,7 +76,8 @@ returns c cs ps fs p port w q =
     let given = rw (lent s) at c.immediate_flags.ensures in (
       record {
         immediate_set = immediate_set w q (long s c.immediate_flags.new.flags c.immediate_flags.auto.flags) given
-            (front_is s c.immediate_flags.new.flags c.immediate_flags.auto.flags) c.of_flags.ensures;
+            (front_is s c.immediate_flags.new.flags c.immediate_flags.auto.flags)
+            (rw (front_length s c.immediate_flags.new.flags c.immediate_flags.auto.flags) at c.of_flags.ensures);
         inferred_set = inferred_set w q (long s c.immediate_flags.new.flags c.immediate_flags.auto.flags) given
             (front_is s c.immediate_flags.new.flags c.immediate_flags.auto.flags) u.ensures;
       },
@@ -123,6 +124,3 @@ pub slice_bounds-upstream_inputs-end : goal.slice_bounds-upstream_inputs-end
 slice_bounds-upstream_inputs-end c =
     let s = (goal.at.slice_bounds-upstream_inputs-end c).Start in
     sym (front_length s c.immediate_flags.new.flags c.immediate_flags.auto.flags)
-
-pub shape_of-stack : goal.shape_of-stack
-shape_of-stack c = c.upstream_inputs.auto.stack

@@ -1,49 +1,20 @@
 -- `inputs::query::walk_tables` meets its contract: the scene is prepared, with local arrays for what is not asked later; then its edges are
 -- sorted by the port that they feed.
 -- Assumes nothing.
-use mathlib.Core.Path.{◌≡◌, sym, ◌∙◌}
-use Prim.Native.Nat.{ℕ, ◌≤◌}
-use native.Mathlib.Omega.{arith}
-use lib.ListN.{length, take, replicate}
-use lib.Seq.{length-take-le}
-use Rattle.lists.specs.Limits.{component_limit}
-use Rattle.lists.specs.Records.{component_count}
-use Rattle.lists.proofs.Table.{table_long}
+use mathlib.Core.Path.{sym, ◌∙◌}
+use Rattle.liveness.proofs.Lent.{nodes_are, nodes_few, nodes_lent}
 use Rattle.inputs.proofs.Inputs.{fed_scene, graph_back}
 use Rattle.inputs.proofs.query.walk_tables.Goals as goal
 use Rattle.inputs.proofs.query.walk_tables.Goals.{Start}
 
-abbrev nodes : Start → ℕ
-nodes s = length s.args.plot.now.keys.now
-
-all : (s : Start) → nodes s ≡ component_count s.args.plot.now.components.now
-all s = table_long s.args.plot.now.accepted.table
-
-nodes-few : (s : Start) → nodes s ≤ component_limit
-nodes-few s = omega (arith, all s, s.args.plot.now.accepted.scene.components.few)
-
-labels-lent : (s : Start) → length {A = ℕ} (take (nodes s) (replicate component_limit 0)) ≡ nodes s
-labels-lent s = length-take-le _ _ (nodes-few s)
-
 pub find_inputs-requires : goal.find_inputs-requires
 find_inputs-requires c =
-    let s = (goal.at.find_inputs-requires c).Start in
     record {
       forward_room = c.requires.fed_len.0;
       backward_room = c.requires.fed_len.1;
-      labels_room = labels-lent s ∙ all s;
+      labels_room = nodes_lent c.args.plot.now.accepted ∙ nodes_are c.args.plot.now.accepted;
       inferred_room = c.requires.inferred_len.0;
       stack_room = c.requires.inferred_len.1;
-    }
-
-pub build_fed-requires : goal.build_fed-requires
-build_fed-requires c =
-    let p = c.find_inputs.ensures.prepared in record {
-      port_connections = (
-        c.args.plot.now.accepted.scene.connections,
-        (c.args.plot.now.components.now, (c.args.plot.now.accepted.scene.components.few, (p.tables.source_members, p.tables.sink_members))),
-      );
-      ports_in_bounds = (p.sources_long, (p.sinks_long, c.find_inputs.auto.forward ∙ c.requires.fed_len.0));
     }
 
 pub returns : goal.returns
@@ -61,22 +32,8 @@ returns c =
 
 pub slice_bounds-labels-end : goal.slice_bounds-labels-end
 slice_bounds-labels-end c =
-    let s = (goal.at.slice_bounds-labels-end c).Start in
-    nodes-few s
+    nodes_few c.args.plot.now.accepted
 
 pub slice_bounds-find_inputs-end : goal.slice_bounds-find_inputs-end
 slice_bounds-find_inputs-end c =
-    let s = (goal.at.slice_bounds-find_inputs-end c).Start in
-    sym (labels-lent s)
-
-pub shape_of-fed : goal.shape_of-fed
-shape_of-fed c = c.build_fed.auto.fed ∙ c.find_inputs.auto.forward
-
-pub shape_of-backward : goal.shape_of-backward
-shape_of-backward c = c.find_inputs.auto.backward
-
-pub shape_of-inferred : goal.shape_of-inferred
-shape_of-inferred c = c.find_inputs.auto.inferred
-
-pub shape_of-stack : goal.shape_of-stack
-shape_of-stack c = c.find_inputs.auto.stack
+    sym (nodes_lent c.args.plot.now.accepted)

@@ -15,10 +15,6 @@ use Rattle.liveness.proofs.Inferring.{labels_long, forward_rows, backward_rows}
 use Rattle.liveness.proofs.infer.infer.Goals as goal
 use Rattle.liveness.proofs.infer.infer.Goals.{In-loop-p}
 
--- the component of a turn has a region and a member, and there is room for its flag
-few : (c : In-loop-p) → c.loop-p.p < 65536
-few c = omega (arith, c.loop-p-test.true, c.args.plot.now.plot.accepted.scene.components.few)
-
 member_index : (c : In-loop-p) → Indices (component_count c.args.plot.now.plot.components.now) (length c.args.plot.now.labels.now) c.args.plot.now.members.now
 member_index c =
     let p = c.args.plot.now in
@@ -54,9 +50,6 @@ invariant_of-network c =
       backward_rows = backward_rows p.plot.accepted.scene p.prepared;
     }
 
-pub loop-p-init : goal.loop-p-init
-loop-p-init c = λ j h. absurd (omega arith)
-
 pub loop-p-preserved : goal.loop-p-preserved
 loop-p-preserved c =
     let l = c.loop-p in
@@ -65,31 +58,8 @@ loop-p-preserved c =
     p.labels.now) l.flags l.p _ (room (goal.at.loop-p-preserved c).In-loop-p) l.invariant
     c.is_inferred.ensures
 
-pub returns : goal.returns
-returns c =
-    let l = c.loop-p in
-    record {
-      long = omega (arith, l.auto.flags, c.requires.flags_room);
-      at = λ p h. l.invariant p (omega (arith, c.loop-p-test.false));
-    }
-
-pub offset_bounds-plot-p : goal.offset_bounds-plot-p
-offset_bounds-plot-p c = omega (arith, few c)
-
-pub bounds-plot-p : goal.bounds-plot-p
-bounds-plot-p c = omega (arith, c.loop-p-test.true, (region_index (goal.at.bounds-plot-p c).In-loop-p).long)
-
 pub bounds-has_drive-region : goal.bounds-has_drive-region
 bounds-has_drive-region c = region_below (goal.at.bounds-has_drive-region c).In-loop-p
 
 pub bounds-fed-region : goal.bounds-fed-region
 bounds-fed-region c = omega (arith, region_below (goal.at.bounds-fed-region c).In-loop-p, c.requires.has_drive_len.0, c.requires.has_drive_len.1)
-
-pub offset_bounds-plot-p-in-loop-p : goal.offset_bounds-plot-p-in-loop-p
-offset_bounds-plot-p-in-loop-p c = omega (arith, few (goal.at.offset_bounds-plot-p-in-loop-p c).In-loop-p)
-
-pub bounds-plot-p-in-loop-p : goal.bounds-plot-p-in-loop-p
-bounds-plot-p-in-loop-p c = omega (arith, c.loop-p-test.true, (member_index (goal.at.bounds-plot-p-in-loop-p c).In-loop-p).long)
-
-pub bounds-flags-p : goal.bounds-flags-p
-bounds-flags-p c = room (goal.at.bounds-flags-p c).In-loop-p

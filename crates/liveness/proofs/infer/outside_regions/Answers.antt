@@ -88,9 +88,6 @@ whole s marks e =
           (replicate component_limit false),
     )
 
-pub slice_bounds-flag_outside-end : goal.slice_bounds-flag_outside-end
-slice_bounds-flag_outside-end c = sym (whole (goal.at.slice_bounds-flag_outside-end c).Start c.gather.new.out c.gather.auto.out)
-
 labels-below : (c : Start) → Indices (length c.args.plot.now.labels.now) (length c.args.fed.now) c.args.plot.now.labels.now
 labels-below c =
     subst (λ (l : List ℕ). Indices (length l) (length c.args.fed.now) l) (sym c.args.plot.now.prepared.labels_are)

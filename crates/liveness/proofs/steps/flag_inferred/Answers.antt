@@ -4,13 +4,6 @@ use mathlib.Core.Path.{◌∙◌}
 use Rattle.liveness.proofs.Inferring.{inferred_is}
 use Rattle.liveness.proofs.steps.flag_inferred.Goals as goal
 
-pub infer-requires : goal.infer-requires
-infer-requires c =
-    record {
-      has_drive_len = (c.requires.0, c.outside_regions.ensures.long);
-      flags_room = c.requires.1;
-    }
-
 pub returns : goal.returns
 returns c fs driven =
     let p = c.args.plot.now in

@@ -1,6 +1,4 @@
 -- Answers for the goals that the search leaves.
-use mathlib.Core.Path.{◌≡◌, ◌∙◌}
-use native.Mathlib.Nat.{zero-add}
 use native.Mathlib.Numerals.{add-one}
 use native.Mathlib.Omega.{arith}
 use lib.ListN.{get_or}
@@ -18,9 +16,3 @@ loop-p-preserved c =
     let l = c.loop-p in
     rw (add-one l.p) (put_more (omega arith) l.invariant
     (rw (add-one l.p) at (one_put (get_or c.args.region_at.now l.p 0) l.regions l.p (omega (arith, l.auto.regions, c.requires.1)))))
-
-pub returns : goal.returns
-returns c =
-    let l = c.loop-p in
-    let all : l.p ≡ c.args.n = omega arith in
-    rw (← all) (l.invariant.is ∙ rw zero-add)

@@ -48,7 +48,7 @@ slot_sources-requires c =
     ∥∥₁_elim a.ready (hlevel props) (λ (r : ReadyPlot s).
     let q = slot_asked (row_slot r.fed_scene row (c.member_of.ensures (cs s) a.plot.accepted.table)) (length a.labels.now) (ready_nodes r) in record {
       ascending = (q.0.0, (q.0.1, q.1.0));
-      indices = (ready_labels r, (omega (arith, ready_nodes r, (within s).few), r.rows_long));
+      indices = (ready_labels r, omega (arith, ready_nodes r, (within s).few));
     })
 
 pub returns-in-Some : goal.returns-in-Some
@@ -66,9 +66,6 @@ returns-in-None c =
     let p = c.args.self.now.plot in
     sets_at c.args.id (sym c.row_place.ensures ∙ c.in-None.is)
     (c.no_sources.ensures p.components.now p.ports.now p.frontiers.now c.args.port)
-
-pub row_place-requires : goal.row_place-requires
-row_place-requires c = (within (goal.at.row_place-requires c).Start, c.args.self.now.plot.accepted.table)
 
 pub overflow_mul-member_of : goal.overflow_mul-member_of
 overflow_mul-member_of c =
