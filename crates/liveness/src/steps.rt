@@ -32,7 +32,7 @@ pub struct RowCounts {
     pub inputs: usize,
 }
 
-// Flags the components on frontiers, the drive sources, and the regions that hold one.
+// Flags the components on frontiers, the drive sources, and the regions that hold one. Its slices stay: a prepared plot would ask more.
 pub fn flag_drive(
     components: &[i64],
     frontiers: &[i64],

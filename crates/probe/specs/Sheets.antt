@@ -2,6 +2,7 @@
 -- Assumes nothing: these are definitions.
 use Rattle.std.specs.Prelude.{Result, Ok, Err}
 use Rattle.lists.specs.declared.Refusal.{Refusal}
+use Rattle.lists.specs.Refusal.{fault_number, list_number}
 use Rattle.std.specs.Prelude.{ℕ, ◌+◌, ◌-◌, ◌*◌, ◌^◌, cond, List, leb, ℤ, ◌≡◌}
 use Rattle.report.specs.Entry.{Reported}
 use Rattle.sheet.specs.Sheet.{Parsed}
@@ -17,7 +18,7 @@ packed_refusal number list item =
 -- the count stands where the item does
 abbrev pub packed_report : Result ℕ Refusal → ℕ
 packed_report (Ok n) = packed_refusal 0 0 n
-packed_report (Err r) = packed_refusal r.number r.list r.item
+packed_report (Err r) = packed_refusal (fault_number r.fault) (list_number r.list) r.item
 
 -- the answer of the entry, packed
 pub record ReportedAs (p : Parsed) (components components' connections connections' frontiers frontiers' : List ℤ) (out out' : List ℕ) (r : ℕ) : Type 0 where

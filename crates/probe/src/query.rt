@@ -23,7 +23,10 @@ pub extern "C" fn probe_input_refusal(
     ensures value { result ≡ packed (input_refusal components.now ports.now frontiers.now id port (length stack.old)) }
     ensures stack_after { stack.new ≡ work_of (input_refusal components.now ports.now frontiers.now id port (length stack.old)) stack.old }
 {
-    pack(required_input(components, ports, frontiers, id, port, stack).checked)
+    match required_input(components, ports, frontiers, id, port, stack) {
+        Ok(_) => 0,
+        Err(refusal) => pack(Err(refusal)),
+    }
 }
 
 // A word of each of the two sets.
@@ -57,10 +60,18 @@ fn source_words(
             inferred: 0,
         };
     }
-    let found = required_input(components, ports, frontiers, id, port, stack);
-    SourceWords {
-        immediate: found.immediate.words[k],
-        inferred: found.inferred.words[k],
+    match required_input(components, ports, frontiers, id, port, stack) {
+        Ok(found) => SourceWords {
+            immediate: found.immediate.words[k],
+            inferred: found.inferred.words[k],
+        },
+        Err(_) => {
+            let none = ComponentSet::empty();
+            SourceWords {
+                immediate: none.words[k],
+                inferred: none.words[k],
+            }
+        }
     }
 }
 

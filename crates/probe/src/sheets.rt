@@ -3,7 +3,8 @@ ghost use Rattle.std.specs.Prelude.{◌≡◌};
 ghost use Rattle.sheet.specs.Sheet.{parse};
 ghost use Rattle.probe.specs.Sheets.{packed_refusal, packed_report, ReportedAs};
 
-use report::{report};
+use lists::{Refusal, fault_number, list_number};
+use report::report;
 use sheet::Counts;
 
 // A part that has no room in its digits makes the whole this.
@@ -33,7 +34,11 @@ fn pack_printed(printed: Result<usize, Refusal>) -> u64
 {
     match printed {
         Ok(n) => pack_refusal(0, 0, n),
-        Err(refusal) => pack_refusal(refusal.number, refusal.list, refusal.item),
+        Err(refusal) => pack_refusal(
+            fault_number(refusal.fault),
+            list_number(refusal.list),
+            refusal.item,
+        ),
     }
 }
 

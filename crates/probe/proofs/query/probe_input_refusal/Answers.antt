@@ -1,7 +1,5 @@
 -- `probe::query::probe_input_refusal` meets its contract.
 -- Assumes nothing.
-use Rattle.std.specs.Prelude.{⊤, Result}
-use Rattle.lists.specs.declared.Refusal.{Refusal}
 use mathlib.Core.Path.{sym, ap, ◌∙◌, subst}
 use Rattle.checks.specs.Refusals.{Small, packed}
 use Rattle.probe.proofs.Asking.{input_small}
@@ -10,12 +8,15 @@ use Rattle.probe.proofs.query.probe_input_refusal.Goals as goal
 pub pack-requires : goal.pack-requires
 pack-requires c =
     let a = c.args in
-    subst (λ (x : Result ⊤ Refusal). Small x) (sym c.required_input.ensures.by.answer)
-    (input_small a.components.now a.ports.now a.frontiers.now a.id a.port _)
+    let refused = rw c.in-Err.is at c.required_input.ensures.by.answer in
+    rw refused (input_small a.components.now a.ports.now a.frontiers.now a.id a.port _)
 
-pub returns : goal.returns
-returns c =
-    record {
-      value = c.pack.ensures ∙ ap packed c.required_input.ensures.by.answer;
-      stack_after = c.required_input.ensures.by.stack_left;
-    }
+pub returns-in-Ok : goal.returns-in-Ok
+returns-in-Ok c =
+    let accepted = rw c.in-Ok.is at c.required_input.ensures.by.answer in
+    record { value = ap packed accepted; stack_after = c.required_input.ensures.by.stack_left }
+
+pub returns-in-Err : goal.returns-in-Err
+returns-in-Err c =
+    let refused = rw c.in-Err.is at c.required_input.ensures.by.answer in
+    record { value = c.pack.ensures ∙ ap packed refused; stack_after = c.required_input.ensures.by.stack_left }
