@@ -1,5 +1,7 @@
 -- `probe::query::probe_input_refusal` meets its contract.
 -- Assumes nothing.
+use Rattle.std.specs.Prelude.{⊤, Result}
+use Rattle.lists.specs.declared.Refusal.{Refusal}
 use mathlib.Core.Path.{sym, ap, ◌∙◌, subst}
 use Rattle.checks.specs.Refusals.{Small, packed}
 use Rattle.probe.proofs.Asking.{input_small}
@@ -9,7 +11,7 @@ pub pack-requires : goal.pack-requires
 pack-requires c =
     let a = c.args in
     let refused = rw c.in-Err.is at c.required_input.ensures.by.answer in
-    rw refused (input_small a.components.now a.ports.now a.frontiers.now a.id a.port _)
+    subst (λ (x : Result ⊤ Refusal). Small x) (sym refused) (input_small a.components.now a.ports.now a.frontiers.now a.id a.port _)
 
 pub returns-in-Ok : goal.returns-in-Ok
 returns-in-Ok c =
