@@ -1,13 +1,14 @@
 -- `liveness::steps::answer` meets its contract: the sets of the flags, and that of the cyclic regions.
 -- Assumes nothing.
 use mathlib.Core.Path.{refl}
-use Prim.Native.Nat.{◌≤◌}
+use mathlib.Core.Bool.{Bool}
+use mathlib.Core.List.{List}
+use Prim.Native.Nat.{ℕ, ◌≤◌}
 use native.Mathlib.Omega.{arith}
-use lib.ListN.{length}
+use lib.ListN.{length, take, length-take}
 use Rattle.lists.specs.Limits.{component_limit}
 use Rattle.signals.proofs.Within.{labels_under}
 use Rattle.liveness.proofs.Inferring.{labels_long, forward_rows}
-use Rattle.std.proofs.Common.{length-take-le}
 use Rattle.sets.proofs.Flagged.{set_of_front}
 use Rattle.liveness.proofs.Answers.{set_where}
 use Rattle.liveness.proofs.steps.answer.Goals as goal
@@ -31,15 +32,15 @@ few s =
     let p = s.args.plot.now in
     omega (arith, labels_long p.plot.accepted.scene p.prepared, p.plot.accepted.scene.components.few)
 
+-- a front is no longer than it was asked for
+front_few : (n : ℕ) (flags : List Bool) → n ≤ component_limit → length (take n flags) ≤ component_limit
+front_few n flags h = omega (arith, length-take n flags)
+
 pub of_flags-requires : goal.of_flags-requires
-of_flags-requires c =
-    let s = (goal.at.of_flags-requires c).Start in
-    omega (arith, few s, length-take-le _ _ c.requires.labels_in_bounds.0)
+of_flags-requires c = front_few _ _ (few (goal.at.of_flags-requires c).Start)
 
 pub of_flags-requires-2 : goal.of_flags-requires-2
-of_flags-requires-2 c =
-    let s = (goal.at.of_flags-requires-2 c).Start in
-    omega (arith, few s, length-take-le _ _ c.requires.labels_in_bounds.1)
+of_flags-requires-2 c = front_few _ _ (few (goal.at.of_flags-requires-2 c).Start)
 
 pub returns : goal.returns
 returns c =
