@@ -2,3 +2,4 @@
 pub mod Going
 pub mod FieldText
 pub mod IdText
+pub mod Pieces

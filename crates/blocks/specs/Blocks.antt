@@ -1,18 +1,28 @@
 -- What the functions that measure and write lines and blocks hand on to each other. No line of a report rests on these.
+--     block_numbered                        a block by its number
 --     block_keys, count_name, block_text    the blocks
 --     left_after                          how much room is left
+--     FirstBelow                          the least member of a set that the table of ids has, from a place on
 --     ids_in                              the ids of a set's members, by the table of ids
 --     blank_if                            a blank between two ids
 -- Assumes nothing: these are definitions.
 use Rattle.std.specs.Prelude.{Option, Some, None}
-use Rattle.std.specs.Prelude.{ℕ, zero, suc, ◌-◌, ◌/◌, Bool, true, false, cond, List, [], ◌∷◌, leb, length, get_or}
+use Rattle.std.specs.Prelude.{ℕ, zero, suc, ◌-◌, ◌/◌, ◌<◌, Bool, true, false, cond, List, [], ◌∷◌, leb, length, get_or}
 use Rattle.blocks.specs.declared.Block.{Block}
 use Rattle.tables.specs.Pairs.{span}
-use Rattle.sets.specs.Members.{member_of}
+use Rattle.sets.specs.Members.{member_of, NoneIn, FirstFrom}
 use Rattle.lines.specs.Text.{ascii}
 use Rattle.blocks.specs.Lines.{component_keys, connection_keys, region_keys, source_keys, input_keys, block}
 
 -- ---- blocks
+
+-- by number, from 0; a number past the last one is the verdict rows
+abbrev pub block_numbered : ℕ → Block
+block_numbered zero = Block.Components
+block_numbered (suc zero) = Block.Connections
+block_numbered (suc (suc zero)) = Block.Regions
+block_numbered (suc (suc (suc zero))) = Block.Sources
+block_numbered (suc (suc (suc (suc n)))) = Block.Inputs
 
 -- the keys of a block's rows
 abbrev pub block_keys : Block → List (List ℕ)
@@ -41,6 +51,11 @@ left_after (Some left) n = cond (leb n left) (Some (left - n)) None
 left_after None n = None
 
 -- ---- sets
+
+-- the answer is the least member at or above start that is below n, or there is none
+abbrev pub FirstBelow : ℕ → List ℕ → ℕ → Option ℕ → Type 0
+FirstBelow n words start None = NoneIn words start n
+FirstBelow n words start (Some m) = FirstFrom words start (Some m) × (m < n)
 
 -- the ids of those of the k members from m on that the words keep. Key m of the table has the id of member m
 unfoldable pub ids_from : List ℕ → List ℕ → ℕ → ℕ → List ℕ

@@ -3,12 +3,20 @@ ghost use Rattle.std.specs.Prelude.{◌≡◌, ◌+◌, ◌≤◌, length};
 ghost use Rattle.sets.specs.Members.{member_limit};
 ghost use Rattle.lines.specs.Wrote.{Put};
 ghost use Rattle.blocks.specs.Lines.{set_line};
-ghost use Rattle.blocks.specs.Blocks.{ids_in, left_after};
+ghost use Rattle.blocks.specs.Blocks.{ids_in, left_after, FirstBelow};
 
 use super::left_after;
 use super::writers::{id_length, put_id, put_key, put_sign};
-use sets::{ComponentSet, next_member};
+use sets::ComponentSet;
 use tables::SPAN;
+
+// The least member that is start or more, where the table of ids has it.
+fn next_listed(set: ComponentSet, start: usize, keys: &[u64]) -> Option<usize>
+    ensures { FirstBelow (length keys.now) set.words start result }
+{
+    let next = set.next_member(start)?;
+    (next < keys.len()).then_some(next)
+}
 
 // Writes the line of a key and a set, given the table of ids.
 pub fn put_ids(out: &mut [u8], at: usize, key: &[u8], set: ComponentSet, keys: &[u64]) -> usize
@@ -17,11 +25,10 @@ pub fn put_ids(out: &mut [u8], at: usize, key: &[u8], set: ComponentSet, keys: &
     ensures { Put at (set_line key.now (ids_in keys.now set.words)) out.old out.new result }
 {
     let mut p = put_key(out, at, key);
-    let mut m = next_member(set, 0);
-    while m < keys.len() {
-        let next = next_member(set, m + 1);
-        p = put_id(out, p, keys[m] / SPAN, next < keys.len());
-        m = next;
+    let mut next = next_listed(set, 0, keys);
+    while let Some(m) = next {
+        next = next_listed(set, m + 1, keys);
+        p = put_id(out, p, keys[m] / SPAN, next.is_some());
     }
     put_sign(out, p, b'\n')
 }
@@ -37,11 +44,10 @@ pub fn left_after_ids(
     ensures { result ≡ left_after left (length (set_line key.now (ids_in keys.now set.words))) }
 {
     let mut rest = left_after(left, key.len() + 2);
-    let mut m = next_member(set, 0);
-    while m < keys.len() {
-        let next = next_member(set, m + 1);
-        rest = left_after(rest, id_length(keys[m] / SPAN, next < keys.len()));
-        m = next;
+    let mut next = next_listed(set, 0, keys);
+    while let Some(m) = next {
+        next = next_listed(set, m + 1, keys);
+        rest = left_after(rest, id_length(keys[m] / SPAN, next.is_some()));
     }
     rest
 }

@@ -88,6 +88,7 @@ pub fn put_count(out: &mut [u8], at: usize, block: Block, count: u64) -> usize
 }
 
 // How many bytes line k of a block's rows takes.
+#[tactic(auto, using(crate::proofs::FieldText::field_short))]
 pub(crate) fn field_length(block: Block, k: usize, value: u64) -> usize
     ensures { result ≡ length (line_of (field_key (block_keys block) k) (pos value)) }
 {
@@ -96,6 +97,7 @@ pub(crate) fn field_length(block: Block, k: usize, value: u64) -> usize
 }
 
 // How many bytes the line of a block's count takes.
+#[tactic(auto, using(crate::proofs::FieldText::count_short))]
 pub fn count_length(block: Block, count: u64) -> usize
     ensures { result ≡ length (line_of (count_name block) (pos count)) }
 {

@@ -10,7 +10,7 @@ mod writers;
 
 ghost use Rattle.std.specs.Prelude.{◌≡◌, ◌+◌, ◌≤◌, length};
 ghost use Rattle.lines.specs.Wrote.{Put};
-ghost use Rattle.blocks.specs.Blocks.{block_text, left_after};
+ghost use Rattle.blocks.specs.Blocks.{block_numbered, block_text, left_after};
 
 use keys::{count_length, field_length, put_count, put_field, width};
 
@@ -22,6 +22,21 @@ pub enum Block {
     Regions,
     Sources,
     Inputs,
+}
+
+// By number, from 0, in this order; any number past these is the verdict rows.
+impl From<u64> for Block {
+    ghost from_gives = { λ number block. block ≡ block_numbered number };
+
+    fn from(number: u64) -> Block {
+        match number {
+            0 => Block::Components,
+            1 => Block::Connections,
+            2 => Block::Regions,
+            3 => Block::Sources,
+            _ => Block::Inputs,
+        }
+    }
 }
 
 // How many bytes of a buffer are left after n of them, where it has so many. The rest only falls, so that no sum of lengths is taken.

@@ -13,9 +13,6 @@ use Rattle.blocks.proofs.Going.{left_none, left_then, left_on}
 use Rattle.blocks.proofs.FieldText.{lines_from, line_at, fields_one, fields_none}
 use Rattle.blocks.proofs.left_after_block.Goals as goal
 
-pub nonzero_div-count : goal.nonzero_div-count
-nonzero_div-count c = omega (arith, c.width.ensures.1)
-
 pub loop-k-preserved : goal.loop-k-preserved
 loop-k-preserved c =
     let rows = c.args.rows.now in

@@ -1,17 +1,16 @@
 -- Answers for the goals that the search leaves.
-use mathlib.Core.Path.{◌≡◌, subst, ◌∙◌}
+use mathlib.Core.Path.{◌≡◌, subst}
 use mathlib.Core.List.{List, ◌++◌}
 use Prim.Native.Nat.{ℕ, suc, ◌+◌, ◌/◌, ◌≤◌, ◌<◌}
 use native.Mathlib.Numerals.{add-one}
-use native.Mathlib.Omega.{arith}
 use lib.IntN.{pos}
-use lib.ListN.{length, length-append}
+use lib.ListN.{length}
 use Rattle.lines.specs.Decimal.{line_of}
 use Rattle.lines.specs.Wrote.{Put}
-use Rattle.lines.proofs.Writing.{put_length, put_room, put_put}
+use Rattle.lines.proofs.Writing.{put_room, put_put}
 use Rattle.blocks.specs.declared.Block.{Block}
 use Rattle.blocks.specs.Blocks.{block_keys, count_name, block_text}
-use Rattle.blocks.proofs.Going.{Going, goes_from, goes_room, goes_on, goes_done, goes_length}
+use Rattle.blocks.proofs.Going.{Going, goes_room, goes_on, goes_done}
 use Rattle.blocks.proofs.FieldText.{lines_from, line_at, fields_one, fields_none}
 use Rattle.blocks.proofs.put_block.Goals as goal
 
@@ -39,23 +38,6 @@ next-line : (block : Block) (rows : List ℕ) (at : ℕ) (old new : List ℕ) (p
 next-line block rows at old new p k h g =
     subst (λ (t : List ℕ). Going (lines_from block rows 0) at old t new p) (fields_one block rows k h) g
 
-pub nonzero_div-count : goal.nonzero_div-count
-nonzero_div-count c = omega (arith, c.width.ensures.1)
-
-pub put_count-p-requires : goal.put_count-p-requires
-put_count-p-requires c =
-    let a = c.args in
-    omega (
-      arith,
-      room a.block a.rows.now c.width.result c.width.ensures.0 a.at a.out.now c.requires,
-      length-append (count_line a.block a.rows.now c.width.result) (lines_from a.block a.rows.now 0),
-    )
-
-pub loop-k-init : goal.loop-k-init
-loop-k-init c =
-    let a = c.args in
-    goes_from (lines-room a.block a.rows.now c.width.result c.width.ensures.0 a.at a.out.now c.requires c.put_count-p.ensures)
-
 pub put_field-p-requires : goal.put_field-p-requires
 put_field-p-requires c =
     let a = c.args in
@@ -72,9 +54,6 @@ loop-k-preserved c =
     (goes_on _ _
     (next-line a.block a.rows.now c.put_count-p.result c.put_count-p.new.out l.out l.p l.k c.loop-k-test.true l.invariant)
     c.put_field-p.ensures)
-
-pub shape_of-out : goal.shape_of-out
-shape_of-out c = goes_length c.loop-k.invariant ∙ put_length c.put_count-p.ensures
 
 pub returns : goal.returns
 returns c =
