@@ -1,6 +1,6 @@
 -- Refusals in the paper's numbers (document 01, the table in "The scene taken in").
 -- Assumes nothing: these are definitions.
-use Rattle.std.specs.Prelude.{ℕ, Option, Some, None}
+use Rattle.std.specs.Prelude.{ℕ, zero, suc, Option, Some, None}
 use Rattle.lists.specs.declared.Fault.{Fault}
 use Rattle.lists.specs.declared.Section.{Section}
 
@@ -22,3 +22,9 @@ list_number (Some Section.Components) = 0
 list_number (Some Section.Connections) = 1
 list_number (Some Section.Frontiers) = 2
 list_number None = 3
+
+-- by number, from 0; a number past the last one is the frontiers
+abbrev pub section_numbered : ℕ → Section
+section_numbered zero = Section.Components
+section_numbered (suc zero) = Section.Connections
+section_numbered (suc (suc n)) = Section.Frontiers

@@ -9,7 +9,7 @@ pub mod order;
 pub mod ranges;
 
 ghost use Rattle.std.specs.Prelude.{◌≡◌};
-ghost use Rattle.lists.specs.Refusal.{fault_number, list_number};
+ghost use Rattle.lists.specs.Refusal.{fault_number, list_number, section_numbered};
 
 // ---- limits: nothing else in the product repeats these numbers
 
@@ -47,6 +47,18 @@ pub enum Section {
     Components,
     Connections,
     Frontiers,
+}
+
+impl From<u64> for Section {
+    ghost from_gives = { λ number section. section ≡ section_numbered number };
+
+    fn from(number: u64) -> Section {
+        match number {
+            0 => Section::Components,
+            1 => Section::Connections,
+            _ => Section::Frontiers,
+        }
+    }
 }
 
 // Why a scene or a sheet is refused, in the order in which it is looked for.
