@@ -23,7 +23,10 @@ pub extern "C" fn dustroute_groups(
 {
     let first = not_whole(NUMBER * COMPONENT, COMPONENTS, components.len());
     let second = not_whole(NUMBER * CONNECTION, CONNECTIONS, connections.len());
-    let whole = or_else(refuse_at(Fault::ListLength, Some(Section::Components), first), refuse_at(Fault::ListLength, Some(Section::Connections), second));
+    let whole = or_else(
+        refuse_at(Fault::ListLength, Some(Section::Components), first),
+        refuse_at(Fault::ListLength, Some(Section::Connections), second),
+    );
     let Ok(()) = whole else {
         return pack(whole);
     };
@@ -47,8 +50,14 @@ pub extern "C" fn dustroute_liveness(
     let in_components = not_whole(NUMBER * COMPONENT, COMPONENTS, components.len());
     let in_ports = not_whole(NUMBER * PORT, CONNECTIONS, ports.len());
     let in_frontiers = not_whole(NUMBER * FRONTIER, FRONTIERS, frontiers.len());
-    let later = or_else(refuse_at(Fault::ListLength, Some(Section::Connections), in_ports), refuse_at(Fault::ListLength, Some(Section::Frontiers), in_frontiers));
-    let whole = or_else(refuse_at(Fault::ListLength, Some(Section::Components), in_components), later);
+    let later = or_else(
+        refuse_at(Fault::ListLength, Some(Section::Connections), in_ports),
+        refuse_at(Fault::ListLength, Some(Section::Frontiers), in_frontiers),
+    );
+    let whole = or_else(
+        refuse_at(Fault::ListLength, Some(Section::Components), in_components),
+        later,
+    );
     let Ok(()) = whole else {
         return pack(whole);
     };

@@ -39,12 +39,7 @@ pub fn from_parts(
         enough,
         &mut keys,
     )?;
-    Ok(settle::group(
-        &keys[..count],
-        connections,
-        nets,
-        fragments,
-    ))
+    Ok(settle::group(&keys[..count], connections, nets, fragments))
 }
 
 // The set with the net put in, where it is a member's and the test says so.

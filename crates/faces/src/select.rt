@@ -35,7 +35,12 @@ fn port_serves(port: Port, face: Face, outgoing: bool, kind: u64) -> bool
 }
 
 // The first port that has the face and fits. No port stands past a place without one.
-pub fn select_port(ports: [Option<Port>; PORTS], face: Face, outgoing: bool, kind: u64) -> Option<usize>
+pub fn select_port(
+    ports: [Option<Port>; PORTS],
+    face: Face,
+    outgoing: bool,
+    kind: u64,
+) -> Option<usize>
     ensures { result ≡ select_port (ports_in ports) (face_code face) outgoing kind }
 {
     for i in 0..PORTS {

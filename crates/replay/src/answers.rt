@@ -10,7 +10,7 @@ use circuit::{fragment_nets, from_parts};
 use inputs::required_input;
 use lists::{COMPONENT, COMPONENTS, CONNECTION, CONNECTIONS, FRONTIER, FRONTIERS, PORT};
 use liveness::{Analysis, analyze_signal_liveness};
-use scene::connections::{port_connections};
+use scene::connections::port_connections;
 
 // How many source rows and verdict rows the liveness entry asks room for.
 const SOURCES: usize = 2 * COMPONENTS;
