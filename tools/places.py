@@ -90,7 +90,8 @@ for path, text in sources():
             place(P["a"], f"{path} {m.group(1)}")
     for m in re.finditer(r"^    pub checked: ", text, re.M):
         place(P["b"], path)
-    for m in re.finditer(r"^\s*\d+(?:\s*\|\s*\d+|\.\.=\d+)* => ", text, re.M):
+    conversions = re.sub(r"fn (?:try_)?from\(.*?\n    \}\n", "", text, flags=re.S)  # there a number becomes an enum
+    for m in re.finditer(r"^\s*\d+(?:\s*\|\s*\d+|\.\.=\d+)* => ", conversions, re.M):
         place(P["c"], f"{path}: {m.group(0).strip()}")
     for m in re.finditer(r"const ([A-Z_]+): u(?:8|64) = (\d+);", text):
         if int(m.group(2)) < 20 and not re.search(r"BITS|DIGIT|LIMIT|ROW|WIDTH", m.group(1)):
@@ -117,7 +118,7 @@ for path, text in sources():
         for p in params:
             if re.match(r"(?:n|count|size): usize$", p) and slices:
                 place(P["i"], f"{where} {p}")
-        if re.fullmatch(r"match \w+ \{(?: (?:\d+|_) => \w+\([^{}]*\),?)+ \}", words) or len(re.findall(r"if \w+ == \d \{ return \w+\(", words)) > 1:
+        if name not in ("from", "try_from") and re.fullmatch(r"match \w+ \{(?: (?:\d+|_) => \w+\([^{}]*\),?)+ \}", words) or name not in ("from", "try_from") and len(re.findall(r"if \w+ == \d \{ return \w+\(", words)) > 1:
             place(P["j"], where)
         for clause in re.findall(r"requires[^{]*\{ ?(.*?) ?\}\n", contract, re.S):
             flat = re.sub(r"\s+", " ", clause)

@@ -36,6 +36,7 @@ pub(crate) fn source_number(kind: SourceKind) -> u64
 pub fn source_kind(kind: u64) -> Option<SourceKind>
     ensures { option_map source_number result ≡ source_kind kind }
 {
+    // By numbers: kinds come so in the lists that C hands over.
     match kind {
         3 | 7 => Some(SourceKind::IntrinsicSource),
         4 | 5 | 6 => Some(SourceKind::ControllableInput),

@@ -21,6 +21,7 @@ pub fn required_ports(kind: u64) -> Range<usize>
     ensures range { (result.start ≡ first_required kind) × (result.end ≡ first_required kind + required_count kind) }
     ensures few { (result.start ≤ 4) × (result.end ≤ result.start + 4) }
 {
+    // By numbers: kinds come so in the lists that C hands over.
     match kind {
         1 | 2 => 1..2,
         3 => 4..5,

@@ -1,5 +1,6 @@
 // The text of a report, measured and written block by block: lines, lines of ids, verdict rows, refusals, and here the blocks of rows, all of
 // one form: the count, and a line for each number. Nothing is known of scenes.
+// `length keys ≤ member_limit` stands at each function over a set and the table of ids: the two are lent apart, and each call has another set.
 #![tactic(auto)]
 
 pub mod answer;

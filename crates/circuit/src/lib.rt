@@ -1,4 +1,5 @@
 // The groups of a scene: nets and fragments, by union-find over the list places of its components.
+// `v < component_limit` and `Connections` stand at each function that takes a place or the list: no value holds both.
 #![tactic(auto)]
 
 mod forest;

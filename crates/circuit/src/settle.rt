@@ -14,7 +14,7 @@ use lists::hints::{HINTS, hint_ids, place_near};
 use lists::numbers::natural_at;
 use lists::{COMPONENTS, CONNECTION, CONNECTIONS};
 
-// Nets use kinds 0 to 4, fragments 0 to 8.
+// Nets use kinds 0 to 4, fragments 0 to 8. Limits among numbers, as kinds stand in the lists that C hands over.
 const NET_KINDS: u64 = 4;
 
 const FRAGMENT_KINDS: u64 = 8;

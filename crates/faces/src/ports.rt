@@ -205,7 +205,7 @@ pub fn ports_for(kind: u64, facing: u64, support: u64, conducts: u64) -> [Option
     }
 }
 
-// How many there are. A repeater that faces Up or Down has a Control on each of the four.
+// How many there are, by the same codes. A repeater that faces Up or Down has a Control on each of the four.
 pub fn port_count(kind: u64, facing: u64, support: u64, conducts: u64) -> usize
     ensures { result ≡ length (ports_for kind facing support conducts) }
 {

@@ -28,6 +28,7 @@ fn shift_between(source: i64, sink: i64) -> Shift
     if !(is_coordinate(source) & is_coordinate(sink)) {
         return Shift::Far;
     }
+    // A difference, and no code.
     let d = sink - source;
     match d {
         -1 => Shift::Back,

@@ -24,10 +24,6 @@ fn slot_of(id: u64) -> usize
     ((id % IDS * SPREAD >> 20) % SLOTS as u64) as usize
 }
 
-fn position(hint: u16) -> usize {
-    hint as usize
-}
-
 // Fills in the hints of a table of ids.
 pub fn hint_ids(keys: &[u64], hints: &mut [u16; HINTS])
     ensures { length hints.new ≡ length hints.old }
@@ -45,8 +41,8 @@ fn position_of(keys: &[u64], hints: &[u16; HINTS], id: u64) -> usize
     ensures { LowerBound keys.now (id * span) result }
 {
     let slot = slot_of(id);
-    let first = position(hints[2 * slot]);
-    let second = position(hints[2 * slot + 1]);
+    let first = usize::from(hints[2 * slot]);
+    let second = usize::from(hints[2 * slot + 1]);
     tables::lower_bound_near(keys, id * SPAN, first, second)
 }
 

@@ -97,7 +97,7 @@ pub fn first_repeated(keys: &[u64], components: &[i64]) -> Option<usize>
     None
 }
 
-// Transfer 6, StructuralSupport, makes no signal edge.
+// Transfer 6, StructuralSupport, makes no signal edge. A number, as it stands in the lists that C hands over.
 pub const SUPPORT: u64 = 6;
 
 // The member that stands for the component with the id: how many ids are below it.

@@ -4,7 +4,7 @@ ghost use Rattle.std.specs.Int.Signed.{lt_z, non_neg};
 ghost use Rattle.lists.specs.Signed.{at, eq_z};
 ghost use Rattle.lists.specs.Records.{natural_at};
 
-// Whether a[i] < b[j].
+// Whether a[i] < b[j]. A function of its own: its contract has the definition's test of the two places, which the laws of the order speak of.
 pub fn number_less(a: &[i64], i: usize, b: &[i64], j: usize) -> bool
     requires { (i < length a.now) × (j < length b.now) }
     ensures { result ≡ lt_z (at a.now i) (at b.now j) }
@@ -12,7 +12,7 @@ pub fn number_less(a: &[i64], i: usize, b: &[i64], j: usize) -> bool
     a[i] < b[j]
 }
 
-// list[i], which is not negative: an id or a code.
+// list[i], which is not negative: an id or a code. Of its own, since the bound that the cast needs is asked once here.
 pub fn natural_at(list: &[i64], i: usize) -> u64
     requires { (i < length list.now) × T (non_neg (at list.now i)) }
     ensures { result ≡ natural_at list.now i }
@@ -20,7 +20,7 @@ pub fn natural_at(list: &[i64], i: usize) -> u64
     list[i] as u64
 }
 
-// Whether a[i] == b[j].
+// Whether a[i] == b[j]. Of its own for the same reason.
 pub fn number_same(a: &[i64], i: usize, b: &[i64], j: usize) -> bool
     requires { (i < length a.now) × (j < length b.now) }
     ensures { result ≡ eq_z (at a.now i) (at b.now j) }

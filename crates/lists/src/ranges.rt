@@ -40,6 +40,8 @@ fn first_out_of_range(low: &[i64], high: &[i64], list: &[i64]) -> Option<usize>
     None
 }
 
+// ---- by list: one function each, since the bounds are constants that have no length in common; `first_out_of_range` is the one over them
+
 const GREATEST_ID: i64 = 4294967295;
 
 const COMPONENT_LOW: [i64; 8] = [0, -FAR, -FAR, -FAR, 0, 0, 0, 0];

@@ -13,7 +13,7 @@ use lists::{COMPONENTS, CONNECTIONS};
 use signals::crossings::{carry_marks, find_crossings};
 use signals::flags::{combine_flags, gather};
 
-// Flags the regions that hold a drive source or an inferred input.
+// Flags the regions that hold a drive source or an inferred input. The first n components count: the arrays lent have room for the most.
 fn possible_regions(
     n: usize,
     region_at: &[usize],

@@ -1,4 +1,5 @@
 // Regions, sources, drive and verdicts of a scene.
+// `length has_drive ≡ component_limit` stands at each stage that fills or reads the flags: they are lent apart from a plot.
 #![tactic(auto)]
 
 mod alive;

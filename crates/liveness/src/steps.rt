@@ -92,7 +92,7 @@ fn mark(
     flag_alive(plot, has_drive, inferred, drive, potential);
 }
 
-// Writes the region of each component, in list order.
+// Writes the region of each of n components, in list order: the arrays lent have room for the most.
 fn put_regions(n: usize, region_at: &[usize], regions: &mut [u64])
     requires { (n ≤ length region_at.now) × (n ≤ length regions.old) }
     ensures { regions.new ≡ laid (tabulate (λ p. get_or region_at.now p 0) n) regions.old }

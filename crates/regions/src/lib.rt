@@ -76,7 +76,7 @@ impl Graph<'_> {
     }
 
     // Visits the nodes that `start` reaches over nodes that are not visited, and adds them to the order as they finish.
-    // Answers the new length of the order. The stack holds, for each open call, its node and the place of the key to look at next.
+    // Answers the new length of the order, which is filled from the front. The stack holds, for each open call, its node and the place of the key to look at next.
     fn visit_from(
         self,
         start: usize,
