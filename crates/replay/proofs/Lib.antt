@@ -1,7 +1,5 @@
 -- Laws of the definitions, for the proofs of this crate.
 mod Counting
-mod Reading
 mod Listing
 mod Numbers
 mod Lists
-mod Comparing

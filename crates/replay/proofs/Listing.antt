@@ -1,22 +1,28 @@
 -- Sets listed a number at a time.
 --     Front                        rows stand at the front of a list, and the rest is as it was
---     front_none, -more, -whole    none at first, one more, the whole list
+--     front_none, -more            none at first, one more
 --     front_taken                  numbers at the front, taken again
---     flags_more, flags_long       the flags below a number
---     names_skip, -more, ..        the names below a number
+--     flags_none, -more            the flags below a number
+--     names_none, -first, -last    the names below a number
 -- Assumes nothing.
-use Prim.Native.Nat.{ℕ, zero, suc, ◌+◌, ◌-◌, ◌≤◌, ◌<◌, min}
-use native.Mathlib.Nat.{add-zero}
+use Prim.Native.Nat.{ℕ, zero, suc, ◌+◌, ◌≤◌, ◌<◌}
 use native.Mathlib.Numerals.{add-one}
 use native.Mathlib.Omega.{arith}
-use mathlib.Core.Path.{◌≡◌, refl, ap, subst, ◌∙◌}
+use mathlib.Core.Path.{◌≡◌, refl, sym, ap, ◌∙◌}
 use mathlib.Core.Bool.{Bool, true, false, cond}
 use mathlib.Core.List.{List, [], ◌∷◌, ◌++◌, append-nil}
 use lib.ListN.{length, take, drop, set, length-append}
-use lib.Seq.{drop-length, take-append_seam}
+use lib.Seq.{take-length, take-append_seam}
+use Rattle.std.proofs.lemmas.List.{take_more_set}
+use Rattle.std.specs.Int.{from_bool}
 use Rattle.lists.specs.Slices.{laid}
 use Rattle.lines.proofs.Writing.{laid_snoc, length_laid}
-use Rattle.sets.specs.Members.{as_nat, member_of, NoneIn, LeastFrom}
+use Rattle.sets.specs.Members.{as_nat, member_of, NoneIn, FirstFrom}
+use Rattle.std.specs.Prelude.{Option, Some, None}
+use Rattle.std.specs.Option.{unwrap_or}
+use native.Mathlib.Nat.{add-zero}
+use mathlib.Core.Path.{subst}
+use Prim.Native.Nat.{◌-◌}
 use Rattle.replay.specs.Names.{name_of, names_below, flags_below, Written}
 
 pub record Front (rows : List ℕ) (n : ℕ) (old new : List ℕ) : Type 0 where
@@ -38,42 +44,63 @@ front_more {rows} {old} {new} {n} a f h =
       front = rw f.front (laid_snoc rows old a n f.count h);
     }
 
-pub front_whole : {rows old new : List ℕ} {n : ℕ} → Front rows n old new → length old ≤ n → new ≡ rows
-front_whole {rows} {old} {new} {n} f h =
-    let e : length rows ≡ length old = omega (arith, f.count, f.few) in
-    f.front ∙ ap (λ k. rows ++ drop k old) e ∙ ap (λ l. rows ++ l) (drop-length old) ∙ append-nil rows
+-- a flag as the code makes it
+flag_of : (b : Bool) → from_bool b ≡ as_nat b
+flag_of true = refl
+flag_of false = refl
 
 module _ (words : List ℕ) where
-  pub flags_none : flags_below words 0 ≡ []
+  pub flags_none : [] ≡ flags_below words 0
   unfolding flags_below
   flags_none = refl
 
-  pub flags_more : (k : ℕ) → flags_below words (k + 1) ≡ flags_below words k ++ (as_nat (member_of words k) ∷ [])
+  pub flags_more : (ys : List ℕ) (k : ℕ) (b : Bool) (v : ℕ) → k < length ys → take k ys ≡ flags_below words k → v ≡ from_bool b → b ≡ member_of words k
+      → take (k + 1) (set ys k v) ≡ flags_below words (k + 1)
   unfolding flags_below
-  flags_more k = rw add-one
+  flags_more ys k b v h e f m =
+      let one : flags_below words (k + 1) ≡ flags_below words k ++ (as_nat (member_of words k) ∷ []) = rw add-one in
+      let is : v ≡ as_nat (member_of words k) = f ∙ flag_of b ∙ ap as_nat m in
+      rw (take_more_set ys k v h, e, is) (sym one)
+
+-- all flags
+pub flags_all : (words ys : List ℕ) (n k : ℕ) → length ys ≡ n → k ≡ n → take k ys ≡ flags_below words k → ys ≡ flags_below words n
+flags_all words ys n k long last e =
+    let all : take k ys ≡ ys = ap (λ m. take m ys) (last ∙ sym long) ∙ take-length ys in
+    sym all ∙ e ∙ ap (flags_below words) last
+
+-- the next member is past the last one
+pub next_rises : (words : List ℕ) (m : ℕ) (r : Option ℕ) → m < 1024 → FirstFrom words (m + 1) r → 1024 - unwrap_or r 1024 < 1024 - m
+next_rises words m None h f = omega arith
+next_rises words m (Some k) h f = omega (arith, f.0)
 
 module _ (keys words : List ℕ) where
   pub names_none : names_below keys words 0 ≡ []
   unfolding names_below
   names_none = refl
 
+  names_more : (m : ℕ) → member_of words m ≡ true → names_below keys words (m + 1) ≡ names_below keys words m ++ (name_of keys m ∷ [])
+  unfolding names_below
+  names_more m e = rw (add-one, e)
+
   -- no member among d
-  pub names_skip : (d a : ℕ) → NoneIn words a (a + d) → names_below keys words (a + d) ≡ names_below keys words a
+  names_skip : (d a : ℕ) → NoneIn words a (a + d) → names_below keys words (a + d) ≡ names_below keys words a
   unfolding names_below
   names_skip zero a none = ap (names_below keys words) (add-zero a)
   names_skip (suc d) a none =
       let e : a + suc d ≡ suc (a + d) = omega arith in
       rw (e, none (a + d) (omega arith) (omega arith)) (append-nil (names_below keys words (a + d)) ∙ names_skip d a (λ k h l. none k h (omega arith)))
 
-  pub names_more : (m : ℕ) → member_of words m ≡ true → names_below keys words (m + 1) ≡ names_below keys words m ++ (name_of keys m ∷ [])
-  unfolding names_below
-  names_more m e = rw (add-one, e)
+  names_to : (a b : ℕ) → a ≤ b → NoneIn words a b → names_below keys words b ≡ names_below keys words a
+  names_to a b h none =
+      let e : b ≡ a + (b - a) = omega arith in
+      ap (names_below keys words) e ∙ names_skip (b - a) a (subst (NoneIn words a) e none)
 
-  -- up to the least member from a start on
-  pub names_least : {start r : ℕ} → LeastFrom words start r → start ≤ r → names_below keys words r ≡ names_below keys words start
-  names_least {start} {r} l h =
-      let e : r ≡ start + (r - start) = omega arith in
-      ap (names_below keys words) e ∙ names_skip (r - start) start (subst (NoneIn words start) e l.below)
+  -- the next member from a start on, and none
+  pub names_first : (a m : ℕ) → FirstFrom words a (Some m) → names_below keys words (m + 1) ≡ names_below keys words a ++ (name_of keys m ∷ [])
+  names_first a m (h, e, none) = names_more m e ∙ ap (λ l. l ++ (name_of keys m ∷ [])) (names_to a m h none)
+
+  pub names_last : (a b : ℕ) → a ≤ b → FirstFrom words a None → names_below keys words b ≡ names_below keys words a
+  names_last a b h f = names_to a b h (λ k l g. f k l)
 
   pub names_few : (m : ℕ) → length (names_below keys words m) ≤ m
   unfolding names_below
@@ -84,14 +111,9 @@ module _ (keys words : List ℕ) where
       go true h = omega (arith, h, length-append (names_below keys words m) (name_of keys m ∷ []))
       go false h = omega (arith, h, length-append (names_below keys words m) [])
 
--- numbers at the front of a list, taken as far as the list goes
-pub front_taken : (numbers out out' : List ℕ) (r : ℕ) → Written numbers out out' r → length numbers ≤ length out → take (min r (length out')) out' ≡ numbers
-front_taken numbers out out' r w h =
-    let l : length out' ≡ length out = ap length w.front ∙ length_laid numbers out h in
-    let e : min r (length out') ≡ length numbers = omega (arith, l, h, w.count) in
-    ap (λ k. take k out') e ∙ ap (take (length numbers)) w.front ∙ take-append_seam numbers (drop (length numbers) out)
+-- numbers at the front of a list, taken again
+pub front_taken : (numbers out out' : List ℕ) (r : ℕ) → Written numbers out out' r → take r out' ≡ numbers
+front_taken numbers out out' r w =
+    ap (λ k. take k out') w.count ∙ ap (take (length numbers)) w.front ∙ take-append_seam numbers (drop (length numbers) out)
 
-pub flags_long : (words : List ℕ) (n : ℕ) → length (flags_below words n) ≡ n
-unfolding flags_below
-flags_long words zero = refl
-flags_long words (suc n) = length-append (flags_below words n) (as_nat (member_of words n) ∷ []) ∙ (let e = flags_long words n in omega (arith, e))
+pub ruleset listed_flags = (flags_none, flags_more, flags_all)

@@ -1,6 +1,6 @@
 -- A recorded list by its count and its numbers, against what the code answers.
 --     long                      as many numbers are read as were asked for
---     no_count, too_long        the count is refused, or the lent list is too short
+--     too_long                  the lent list is too short
 --     list_read, list_unread    the numbers behind the count are read, or refused
 -- Assumes nothing.
 use Prim.Native.Nat.{ℕ, zero, suc, ◌≤◌, ◌<◌}
@@ -10,14 +10,10 @@ use mathlib.Core.List.{List, ◌++◌}
 use lib.IntN.{ℤ}
 use lib.ListN.{length, take, drop}
 use lib.Seq.{length-take-le}
-use Rattle.lines.specs.Line.{Taken, taken, refused, read_number, read_line, natural, number_in}
-use Rattle.lines.specs.declared.read.Number.TheVariants.{Is, Not}
-use Rattle.lines.specs.declared.read.Skip.{Skip}
-use Rattle.lines.specs.declared.read.Skip.TheVariants.{To, No}
+use Rattle.lines.specs.Line.{Taken, taken, refused, read_number, read_line, natural, taken_in}
 use Rattle.lines.proofs.Counting.{count_rest}
-use Rattle.lines.proofs.Placed.{number_refused}
 use Rattle.replay.specs.Recorded.{before, and_then, read_numbers, numbers_of, read_list, Filled, ReadFrom}
-use Rattle.replay.specs.declared.input.Listed.TheVariants.{Of, Bad}
+use Rattle.std.specs.Prelude.{Option, Some, None}
 
 abbrev Long : ℕ → Taken (List ℤ) → Type 0
 Long n (taken zs s) = length zs ≡ n
@@ -36,52 +32,49 @@ unfolding read_numbers
 long zero s = refl
 long (suc n) s = long_then n (read_number s) (long n)
 
-short : (m n : ℕ) (q : Taken (List ℤ)) (out : List ℤ) → Long n q → length out < n → ReadFrom m q out out Bad
+short : (m n : ℕ) (q : Taken (List ℤ)) (out : List ℤ) → Long n q → length out < n → ReadFrom m q out out None
 short m n (taken zs s) out h l = omega (arith, h, l)
 short m n refused out h l = tt
 
-front : (m n p : ℕ) (q : Taken (List ℤ)) (out mid : List ℤ) → Long n q → Filled m q mid (To p) → ReadFrom m q out (mid ++ drop n out) (Of n p)
+front : (m n p : ℕ) (q : Taken (List ℤ)) (out mid : List ℤ) → Long n q → Filled m q mid (Some p) → ReadFrom m q out (mid ++ drop n out) (Some (n, p))
 front m n p (taken zs s) out mid h f = (ap (λ l. l ++ drop n out) f.0 ∙ ap (λ k. zs ++ drop k out) (sym h), sym h, (let e = f.1 in cc))
-front m n p refused out mid h f = let z : ◌≡◌ {A = ℕ} 0 1 = cc in absurd (omega arith)
+front m n p refused out mid h f = cc
 
-unread : (m : ℕ) (q : Taken (List ℤ)) (out mid out' : List ℤ) → Filled m q mid No → ReadFrom m q out out' Bad
-unread m (taken zs s) out mid out' f = let e = f.1 in let z : ◌≡◌ {A = ℕ} 0 1 = cc in absurd (omega arith)
+unread : (m : ℕ) (q : Taken (List ℤ)) (out mid out' : List ℤ) → Filled m q mid None → ReadFrom m q out out' None
+unread m (taken zs s) out mid out' f = let e = f.1 in cc
 unread m refused out mid out' f = tt
 
 module _ (text word : List ℕ) (at : ℕ) (out : List ℤ) where
-  pub no_count : number_in (length text) (natural (read_line word (drop at text))) ≡ Not → ReadFrom (length text) (read_list word (drop at text)) out out Bad
-  no_count e =
-      let q = number_refused (length text) (natural (read_line word (drop at text))) e in
-      subst (λ (t : Taken ℕ). ReadFrom (length text) (numbers_of t) out out Bad) (sym q) tt
-
-  module _ (n start : ℕ) (e : number_in (length text) (natural (read_line word (drop at text))) ≡ Is n start) where
+  module _ (n start : ℕ) (e : taken_in (length text) (natural (read_line word (drop at text))) ≡ Some (n, start)) where
     behind : read_numbers n (drop start text) ≡ read_list word (drop at text)
     behind = sym (ap numbers_of (count_rest text word at n start e).1)
 
-    pub too_long : length out < n → ReadFrom (length text) (read_list word (drop at text)) out out Bad
+    pub too_long : length out < n → ReadFrom (length text) (read_list word (drop at text)) out out None
     too_long h =
-        subst (λ (q : Taken (List ℤ)). ReadFrom (length text) q out out Bad) behind (short (length text) n (read_numbers n (drop start text)) out (long n (drop start text)) h)
+        subst (λ (q : Taken (List ℤ)). ReadFrom (length text) q out out None) behind (short (length text) n (read_numbers n (drop start text)) out (long n (drop start text)) h)
 
     module _ (mid : List ℤ) (h : n ≤ length out) where
-      lent : (r t : Skip) → r ≡ t → Filled (length text) (read_numbers (length (take n out)) (drop start text)) mid r → Filled (length text) (read_numbers n (drop start text)) mid t
+      lent : (r t : Option ℕ) → r ≡ t → Filled (length text) (read_numbers (length (take n out)) (drop start text)) mid r → Filled (length text) (read_numbers n (drop start text)) mid t
       lent r t d f =
           subst
           (Filled (length text) (read_numbers n (drop start text)) mid)
           d
           (subst (λ (k : ℕ). Filled (length text) (read_numbers k (drop start text)) mid r) (length-take-le n out h) f)
 
-      pub list_read : (r : Skip) (p : ℕ) → r ≡ To p → Filled (length text) (read_numbers (length (take n out)) (drop start text)) mid r
-          → ReadFrom (length text) (read_list word (drop at text)) out (mid ++ drop n out) (Of n p)
+      pub list_read : (r : Option ℕ) (p : ℕ) → r ≡ Some p → Filled (length text) (read_numbers (length (take n out)) (drop start text)) mid r
+          → ReadFrom (length text) (read_list word (drop at text)) out (mid ++ drop n out) (Some (n, p))
       list_read r p d f =
           subst
-          (λ (q : Taken (List ℤ)). ReadFrom (length text) q out (mid ++ drop n out) (Of n p))
+          (λ (q : Taken (List ℤ)). ReadFrom (length text) q out (mid ++ drop n out) (Some (n, p)))
           behind
-          (front (length text) n p (read_numbers n (drop start text)) out mid (long n (drop start text)) (lent r (To p) d f))
+          (front (length text) n p (read_numbers n (drop start text)) out mid (long n (drop start text)) (lent r (Some p) d f))
 
-      pub list_unread : (r : Skip) → r ≡ No → Filled (length text) (read_numbers (length (take n out)) (drop start text)) mid r
-          → ReadFrom (length text) (read_list word (drop at text)) out (mid ++ drop n out) Bad
+      pub list_unread : (r : Option ℕ) → r ≡ None → Filled (length text) (read_numbers (length (take n out)) (drop start text)) mid r
+          → ReadFrom (length text) (read_list word (drop at text)) out (mid ++ drop n out) None
       list_unread r d f =
           subst
-          (λ (q : Taken (List ℤ)). ReadFrom (length text) q out (mid ++ drop n out) Bad)
+          (λ (q : Taken (List ℤ)). ReadFrom (length text) q out (mid ++ drop n out) None)
           behind
-          (unread (length text) (read_numbers n (drop start text)) out mid (mid ++ drop n out) (lent r No d f))
+          (unread (length text) (read_numbers n (drop start text)) out mid (mid ++ drop n out) (lent r None d f))
+
+pub ruleset lists = (too_long, list_read, list_unread)

@@ -1,10 +1,8 @@
 -- What is read into a lent list is within it.
 -- Assumes nothing: these are definitions.
-use Rattle.std.specs.Prelude.{ℕ, ◌≤◌}
-use Rattle.replay.specs.declared.input.Listed.{Listed}
-use Rattle.replay.specs.declared.input.Listed.TheVariants.{Of, Bad}
+use Rattle.std.specs.Prelude.{ℕ, ◌≤◌, Option, Some, None}
 
 -- a list that was read has at most so many numbers
-abbrev pub AtMost : ℕ → Listed → Type 0
-AtMost most (Of n next) = n ≤ most
-AtMost most Bad = Unit {0}
+abbrev pub AtMost : ℕ → Option (ℕ × ℕ) → Type 0
+AtMost most (Some (n, next)) = n ≤ most
+AtMost most None = Unit {0}

@@ -1,12 +1,8 @@
 -- A recorded list (crates/replay/README.md): a line `word=count`, and then so many numbers, one to a line.
 -- Assumes nothing: these are definitions.
-use Rattle.std.specs.Prelude.{ℕ, zero, suc, ◌-◌, ◌<◌, ◌≡◌, List, [], ◌∷◌, ℤ, length}
+use Rattle.std.specs.Prelude.{ℕ, zero, suc, ◌-◌, ◌<◌, ◌≡◌, List, [], ◌∷◌, ℤ, length, Option, Some, None}
 use Rattle.lists.specs.Slices.{laid}
 use Rattle.lines.specs.Line.{Taken, taken, refused, read_number, read_line, natural}
-use Rattle.lines.specs.declared.read.Skip.{Skip}
-use Rattle.lines.specs.declared.read.Skip.TheVariants.{To, No}
-use Rattle.replay.specs.declared.input.Listed.{Listed}
-use Rattle.replay.specs.declared.input.Listed.TheVariants.{Of, Bad}
 
 -- a number, and those behind it
 abbrev pub before : ℤ → Taken (List ℤ) → Taken (List ℤ)
@@ -33,13 +29,13 @@ read_list word s = numbers_of (natural (read_line word s))
 -- ---- the code's answers, in a text of n bytes
 
 -- the numbers fill the lent list, and r says where they end
-abbrev pub Filled : ℕ → Taken (List ℤ) → List ℤ → Skip → Type 0
-Filled n (taken zs s) out' r = (out' ≡ zs) × (r ≡ To (n - length s))
-Filled n refused out' r = r ≡ No
+abbrev pub Filled : ℕ → Taken (List ℤ) → List ℤ → Option ℕ → Type 0
+Filled n (taken zs s) out' r = (out' ≡ zs) × (r ≡ Some (n - length s))
+Filled n refused out' r = r ≡ None
 
 -- the numbers stand at the front of the lent list, where it is long enough
-abbrev pub ReadFrom : ℕ → Taken (List ℤ) → List ℤ → List ℤ → Listed → Type 0
-ReadFrom n (taken zs s) out out' (Of count next) = (out' ≡ laid zs out) × (count ≡ length zs) × (next ≡ n - length s)
-ReadFrom n refused out out' (Of count next) = ⊥
-ReadFrom n (taken zs s) out out' Bad = length out < length zs
-ReadFrom n refused out out' Bad = Unit {0}
+abbrev pub ReadFrom : ℕ → Taken (List ℤ) → List ℤ → List ℤ → Option (ℕ × ℕ) → Type 0
+ReadFrom n (taken zs s) out out' (Some (count, next)) = (out' ≡ laid zs out) × (count ≡ length zs) × (next ≡ n - length s)
+ReadFrom n refused out out' (Some (count, next)) = ⊥
+ReadFrom n (taken zs s) out out' None = length out < length zs
+ReadFrom n refused out out' None = Unit {0}

@@ -1,305 +1,221 @@
 // The list entries asked about recorded scenes.
-ghost use Rattle.std.specs.Prelude.{◌≤◌, length};
-
-use super::compare::{
-    Tally, compare, compare_flags, compare_set, compare_signed, counted, least, with_scene,
-};
-use super::input::{Listed, read_list, refill};
+use super::compare::Replay;
 use checks::refusals::liveness_lists;
 use circuit::{fragment_nets, from_parts};
-use inputs::required_input;
-use lists::{COMPONENT, COMPONENTS, CONNECTION, CONNECTIONS, FRONTIER, FRONTIERS, PORT};
+use inputs::{InputSources, required_input};
+use lists::{COMPONENT, COMPONENTS, CONNECTION, CONNECTIONS, FRONTIER, FRONTIERS, PORT, Refusal};
 use liveness::{Analysis, analyze_signal_liveness};
 use scene::connections::port_connections;
+use sets::ComponentSet;
 
 // How many source rows and verdict rows the liveness entry asks room for.
 const SOURCES: usize = 2 * COMPONENTS;
 
 const INPUTS: usize = 4 * COMPONENTS;
 
-// The tally after a list that a scene gives was read, and how many numbers the list has.
+// The lists of a scene.
 #[derive(Clone, Copy)]
-struct Given {
-    tally: Tally,
-    count: usize,
+struct Scene<'a> {
+    components: &'a [i64],
+    connections: &'a [i64],
+    frontiers: &'a [i64],
 }
 
-// A refusal is a difference: every recorded scene was accepted.
-fn refused(tally: Tally) -> Tally {
-    counted(tally, tally.at, 0, 1)
+// The lists of a scene with its port connections, and the table of its ids.
+#[derive(Clone, Copy)]
+struct Plot<'a> {
+    components: &'a [i64],
+    ports: &'a [i64],
+    frontiers: &'a [i64],
+    keys: &'a [u64],
 }
 
-fn accepted(tally: Tally, checked: Result<(), Refusal>) -> Tally {
-    match checked {
-        Ok(()) => tally,
-        Err(_) => refused(tally),
+// What the liveness entry leaves.
+#[derive(Drop)]
+struct Rows {
+    regions: [u64; COMPONENTS],
+    sources: [u64; SOURCES * 2],
+    inputs: [u64; INPUTS * 3],
+}
+
+// What a refused scene has.
+fn no_sources() -> InputSources {
+    InputSources {
+        immediate: ComponentSet::empty(),
+        inferred: ComponentSet::empty(),
     }
 }
 
-// Reads a list that a scene gives to the front of `out`. Where there is none, that is a difference and the list is empty.
-fn read_given(tally: Tally, text: &[u8], word: &[u8], out: &mut [i64]) -> Given
-    ensures { result.count ≤ length out.old }
-{
-    let listed = read_list(text, tally.at, word, out);
-    match listed {
-        Listed::Of(count, next) => Given {
-            tally: counted(tally, next, 0, 0),
-            count,
-        },
-        Listed::Bad => Given {
-            tally: counted(tally, text.len(), 0, 1),
-            count: 0,
-        },
+fn no_analysis() -> Analysis {
+    Analysis {
+        regions: 0,
+        sources: 0,
+        inputs: 0,
+        drive: ComponentSet::empty(),
+        potential: ComponentSet::empty(),
+        cyclic: ComponentSet::empty(),
+        has_drive: ComponentSet::empty(),
     }
 }
 
-// ---- groups
-
-// The nets of so many fragments.
-fn replay_fragment_nets(
-    tally: Tally,
-    text: &[u8],
-    nets: &[u64],
-    fragments: &[u64],
-    count: usize,
-) -> Tally {
-    let mut after = tally;
-    let mut f: usize = 0;
-    while f < count {
-        let set = fragment_nets(nets, fragments, f as u64);
-        after = compare_set(after, text, b"fragment_nets", &nets[..0], set);
-        f += 1;
+impl Replay {
+    // What an entry answered, or what a refused scene has.
+    fn accepted<T: Copy>(&mut self, answer: Result<T, Refusal>, refused: T) -> T {
+        match answer {
+            Ok(found) => found,
+            Err(_) => {
+                self.refuse();
+                refused
+            }
+        }
     }
-    after
-}
 
-// Nets, fragments and the nets of each fragment.
-fn replay_groups(tally: Tally, text: &[u8], components: &[i64], connections: &[i64]) -> Tally {
-    let mut nets = [0u64; COMPONENTS];
-    let mut fragments = [0u64; COMPONENTS];
-    let grouping = from_parts(components, connections, &mut nets, &mut fragments);
-    let Ok(counts) = grouping else {
-        return refused(tally);
-    };
-    let n = least(components.len() / COMPONENT, COMPONENTS);
-    let a = compare(tally, text, b"nets", &nets, n);
-    let b = compare(a, text, b"fragments", &fragments, n);
-    replay_fragment_nets(b, text, &nets[..n], &fragments[..n], counts.fragments)
-}
+    // ---- groups
 
-// ---- liveness
-
-// A verdict row, and the sets of its port.
-fn replay_input(
-    tally: Tally,
-    text: &[u8],
-    components: &[i64],
-    ports: &[i64],
-    frontiers: &[i64],
-    keys: &[u64],
-    row: &[u64],
-) -> Tally {
-    let mut stack = [0usize; 2 * COMPONENTS];
-    let a = compare(tally, text, b"input", row, 3);
-    if row.len() < 2 {
-        return a;
-    }
-    let found = required_input(components, ports, frontiers, row[0], row[1], &mut stack);
-    let checked = found.checked;
-    let immediate = found.immediate;
-    let inferred = found.inferred;
-    let b = accepted(a, checked);
-    let c = compare_set(b, text, b"immediate", keys, immediate);
-    compare_set(c, text, b"inferred", keys, inferred)
-}
-
-// So many verdict rows.
-fn replay_inputs(
-    tally: Tally,
-    text: &[u8],
-    components: &[i64],
-    ports: &[i64],
-    frontiers: &[i64],
-    keys: &[u64],
-    rows: &[u64],
-    count: usize,
-) -> Tally {
-    let n = least(count, rows.len() / 3);
-    let mut after = tally;
-    let mut r: usize = 0;
-    while r < n {
-        let k = r * 3;
-        after = replay_input(
-            after,
-            text,
-            components,
-            ports,
-            frontiers,
-            keys,
-            &rows[k..k + 3],
+    // Nets, fragments and the nets of each fragment.
+    fn replay_groups(&mut self, scene: Scene) {
+        let mut nets = [0u64; COMPONENTS];
+        let mut fragments = [0u64; COMPONENTS];
+        let grouping = from_parts(
+            scene.components,
+            scene.connections,
+            &mut nets,
+            &mut fragments,
         );
-        r += 1;
+        let Ok(counts) = grouping else {
+            self.refuse();
+            return;
+        };
+        let n = COMPONENTS.min(scene.components.len() / COMPONENT);
+        self.compare(b"nets", &nets[..n]);
+        self.compare(b"fragments", &fragments[..n]);
+        for f in 0..counts.fragments {
+            let set = fragment_nets(&nets[..n], &fragments[..n], f as u64);
+            self.compare_set(b"fragment_nets", &[], set);
+        }
     }
-    after
-}
 
-// What the liveness entry answered and left, given the table of ids.
-fn replay_analysis(
-    tally: Tally,
-    text: &[u8],
-    components: &[i64],
-    ports: &[i64],
-    frontiers: &[i64],
-    keys: &[u64],
-    answer: Analysis,
-    regions: &[u64],
-    sources: &[u64],
-    inputs: &[u64],
-) -> Tally {
-    let source_numbers = least(answer.sources, SOURCES) * 2;
-    let cyclic = answer.cyclic;
-    let has_drive = answer.has_drive;
-    let drive = answer.drive;
-    let potential = answer.potential;
-    let a = compare(
-        tally,
-        text,
-        b"regions",
-        regions,
-        components.len() / COMPONENT,
-    );
-    let b = compare_flags(a, text, b"cyclic", cyclic, answer.regions);
-    let c = compare_flags(b, text, b"has_drive", has_drive, answer.regions);
-    let d = compare(c, text, b"sources", sources, source_numbers);
-    let e = compare_set(d, text, b"drive", keys, drive);
-    let f = compare_set(e, text, b"potential", keys, potential);
-    replay_inputs(
-        f,
-        text,
-        components,
-        ports,
-        frontiers,
-        keys,
-        inputs,
-        answer.inputs,
-    )
-}
+    // ---- liveness
 
-// Regions, sources, drive and verdicts.
-fn replay_liveness(
-    tally: Tally,
-    text: &[u8],
-    components: &[i64],
-    ports: &[i64],
-    frontiers: &[i64],
-) -> Tally {
-    let mut keys = [0u64; COMPONENTS];
-    let mut source_at = [0usize; CONNECTIONS];
-    let mut sink_at = [0usize; CONNECTIONS];
-    let mut regions = [0u64; COMPONENTS];
-    let mut sources = [0u64; SOURCES * 2];
-    let mut inputs = [0u64; INPUTS * 3];
-    let mut stack = [0usize; 2 * COMPONENTS];
-    liveness_lists(
-        components,
-        ports,
-        frontiers,
-        true,
-        &mut keys,
-        &mut source_at,
-        &mut sink_at,
-    );
-    let answer = analyze_signal_liveness(
-        components,
-        ports,
-        frontiers,
-        &mut regions,
-        &mut sources,
-        &mut inputs,
-        &mut stack,
-    );
-    let checked = answer.checked;
-    replay_analysis(
-        accepted(tally, checked),
-        text,
-        components,
-        ports,
-        frontiers,
-        &keys,
-        answer,
-        &regions,
-        &sources,
-        &inputs,
-    )
-}
+    // A verdict row, and the sets of its port.
+    fn replay_input(&mut self, plot: Plot, row: &[u64; 3]) {
+        let mut stack = [0usize; 2 * COMPONENTS];
+        self.compare(b"input", row);
+        let answer = required_input(
+            plot.components,
+            plot.ports,
+            plot.frontiers,
+            row[0],
+            row[1],
+            &mut stack,
+        );
+        let found = self.accepted(answer, no_sources());
+        self.compare_set(b"immediate", plot.keys, found.immediate);
+        self.compare_set(b"inferred", plot.keys, found.inferred);
+    }
 
-// ---- scenes
+    // What the liveness entry answered and left.
+    fn replay_analysis(&mut self, plot: Plot, answer: Analysis, rows: &Rows) {
+        let n = COMPONENTS.min(plot.components.len() / COMPONENT);
+        let source_numbers = SOURCES.min(answer.sources) * 2;
+        self.compare(b"regions", &rows.regions[..n]);
+        self.compare_flags(b"cyclic", answer.cyclic, answer.regions);
+        self.compare_flags(b"has_drive", answer.has_drive, answer.regions);
+        self.compare(b"sources", &rows.sources[..source_numbers]);
+        self.compare_set(b"drive", plot.keys, answer.drive);
+        self.compare_set(b"potential", plot.keys, answer.potential);
+        let (inputs, _) = rows.inputs.as_chunks::<3>();
+        for row in inputs.iter().take(answer.inputs) {
+            self.replay_input(plot, row);
+        }
+    }
 
-fn replay_kept(
-    tally: Tally,
-    text: &[u8],
-    components: &[i64],
-    connections: &[i64],
-    frontiers: &[i64],
-) -> Tally {
-    let mut kept = [0i64; CONNECTIONS * PORT];
-    let selected = port_connections(components, connections, &mut kept);
-    let Ok(count) = selected else {
-        return refused(tally);
-    };
-    let n = least(count, CONNECTIONS) * PORT;
-    let a = compare_signed(tally, text, b"kept", &kept[..n]);
-    replay_liveness(a, text, components, &kept[..n], frontiers)
-}
+    // Regions, sources, drive and verdicts.
+    fn replay_liveness(&mut self, scene: Scene, ports: &[i64]) {
+        let mut keys = [0u64; COMPONENTS];
+        let mut source_at = [0usize; CONNECTIONS];
+        let mut sink_at = [0usize; CONNECTIONS];
+        let mut rows = Rows {
+            regions: [0; COMPONENTS],
+            sources: [0; SOURCES * 2],
+            inputs: [0; INPUTS * 3],
+        };
+        let mut stack = [0usize; 2 * COMPONENTS];
+        let _ = liveness_lists(
+            scene.components,
+            ports,
+            scene.frontiers,
+            true,
+            &mut keys,
+            &mut source_at,
+            &mut sink_at,
+        );
+        let answer = analyze_signal_liveness(
+            scene.components,
+            ports,
+            scene.frontiers,
+            &mut rows.regions,
+            &mut rows.sources,
+            &mut rows.inputs,
+            &mut stack,
+        );
+        let plot = Plot {
+            components: scene.components,
+            ports,
+            frontiers: scene.frontiers,
+            keys: &keys,
+        };
+        let found = self.accepted(answer, no_analysis());
+        self.replay_analysis(plot, found, &rows);
+    }
 
-fn replay_given(tally: Tally, text: &[u8], components: &[i64], frontiers: &[i64]) -> Tally {
-    let mut ports = [0i64; CONNECTIONS * PORT];
-    let given = read_given(tally, text, b"given", &mut ports);
-    let n = given.count;
-    let a = given.tally;
-    replay_liveness(a, text, components, &ports[..n], frontiers)
-}
+    // ---- scenes
 
-// The text from the tally's place on comes to the front, with more behind it.
-pub(crate) fn go_on(tally: Tally, text: &mut [u8]) -> Tally {
-    refill(text, tally.at);
-    counted(tally, 0, 0, 0)
-}
+    // The port connections that are kept of a scene, and its liveness by them.
+    fn replay_kept(&mut self, scene: Scene) {
+        let mut kept = [0i64; CONNECTIONS * PORT];
+        let selected = port_connections(scene.components, scene.connections, &mut kept);
+        let Ok(count) = selected else {
+            self.refuse();
+            return;
+        };
+        let ports = &kept[..CONNECTIONS.min(count) * PORT];
+        self.compare_signed(b"kept", ports);
+        self.replay_liveness(scene, ports);
+    }
 
-// What is recorded of a scene behind its three lists.
-fn replay_lists(
-    tally: Tally,
-    text: &mut [u8],
-    components: &[i64],
-    connections: &[i64],
-    frontiers: &[i64],
-) -> Tally {
-    let groups = replay_groups(tally, text, components, connections);
-    let a = go_on(groups, text);
-    let kept = replay_kept(a, text, components, connections, frontiers);
-    let b = go_on(kept, text);
-    replay_given(b, text, components, frontiers)
-}
+    // The liveness of a scene by port connections that are given.
+    fn replay_given(&mut self, scene: Scene) {
+        let mut ports = [0i64; CONNECTIONS * PORT];
+        let n = self.read_given(b"given", &mut ports);
+        self.replay_liveness(scene, &ports[..n]);
+    }
 
-// Replays the scene at the front of the text, and brings the next one there.
-pub(crate) fn replay_scene(tally: Tally, text: &mut [u8]) -> Tally {
-    let mut components = [0i64; COMPONENTS * COMPONENT];
-    let mut connections = [0i64; CONNECTIONS * CONNECTION];
-    let mut frontiers = [0i64; FRONTIERS * FRONTIER];
-    let mut seeds = [0i64; 1];
-    let seed = read_given(tally, text, b"scene", &mut seeds);
-    let first = read_given(seed.tally, text, b"components", &mut components);
-    let second = read_given(first.tally, text, b"connections", &mut connections);
-    let third = read_given(second.tally, text, b"frontiers", &mut frontiers);
-    let c = first.count;
-    let p = second.count;
-    let f = third.count;
-    let whole = replay_lists(
-        third.tally,
-        text,
-        &components[..c],
-        &connections[..p],
-        &frontiers[..f],
-    );
-    go_on(with_scene(whole), text)
+    // What is recorded of a scene behind its three lists.
+    fn replay_lists(&mut self, scene: Scene) {
+        self.replay_groups(scene);
+        self.go_on();
+        self.replay_kept(scene);
+        self.go_on();
+        self.replay_given(scene);
+    }
+
+    // Replays the scene at the front of the text, and brings the next one there.
+    pub(crate) fn replay_scene(&mut self) {
+        let mut components = [0i64; COMPONENTS * COMPONENT];
+        let mut connections = [0i64; CONNECTIONS * CONNECTION];
+        let mut frontiers = [0i64; FRONTIERS * FRONTIER];
+        let mut seeds = [0i64; 1];
+        self.read_given(b"scene", &mut seeds);
+        let c = self.read_given(b"components", &mut components);
+        let p = self.read_given(b"connections", &mut connections);
+        let f = self.read_given(b"frontiers", &mut frontiers);
+        self.replay_lists(Scene {
+            components: &components[..c],
+            connections: &connections[..p],
+            frontiers: &frontiers[..f],
+        });
+        self.tally = self.tally.with_scene();
+        self.go_on();
+    }
 }

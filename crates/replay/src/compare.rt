@@ -1,17 +1,16 @@
 // Answers compared with the recorded ones, and what is counted on the way.
-ghost use Rattle.std.specs.Prelude.{◌≡◌, ◌≤◌, ◌<◌, min, length, get_or, take, drop};
+ghost use Rattle.std.specs.Prelude.{◌≡◌, ◌≤◌, Bool, ℤ, min, length, take, drop};
 ghost use Rattle.sets.specs.Members.{member_limit};
-ghost use Rattle.lists.specs.Signed.{at, eq_z};
+ghost use Rattle.lists.specs.Signed.{eq_z};
 ghost use Rattle.replay.specs.Recorded.{read_list};
 ghost use Rattle.replay.specs.Compared.{compared};
-ghost use Rattle.replay.specs.Differing.{one_unless, eq_n, differing};
-ghost use Rattle.replay.specs.Counts.{sum, after_numbers, after_scene};
+ghost use Rattle.replay.specs.Differing.{eq_n, differing};
+ghost use Rattle.replay.specs.Counts.{after_numbers, after_scene};
 ghost use Rattle.replay.specs.Names.{name_of, names_below, flags_below, Written};
 
-use super::input::{Listed, read_list};
-use lists::numbers::{natural_at, number_same};
+use super::input::{read_list, refill};
 use lists::{CONNECTIONS, PORT};
-use sets::{ComponentSet, MEMBERS, contains, next_member};
+use sets::{ComponentSet, MEMBERS};
 use tables::SPAN;
 
 // Where the next list stands in the text, how many scenes were read, how many recorded numbers were compared, and how many differ.
@@ -23,133 +22,76 @@ pub struct Tally {
     pub different: u64,
 }
 
-// The sum, or the largest number.
-fn plus(a: u64, b: u64) -> u64
-    ensures { result ≡ sum a b }
-{
-    if u64::MAX - a < b {
-        return u64::MAX;
+impl Tally {
+    // So many recorded numbers more, up to a place, of which some differ.
+    pub fn counted(self, at: usize, numbers: usize, different: usize) -> Tally
+        ensures { result ≡ after_numbers self at numbers different }
+    {
+        Tally {
+            at,
+            scenes: self.scenes,
+            compared: self.compared.saturating_add(numbers as u64),
+            different: self.different.saturating_add(different as u64),
+        }
     }
-    a + b
-}
 
-// So many recorded numbers more, up to a place, of which some differ.
-pub fn counted(tally: Tally, at: usize, numbers: usize, different: usize) -> Tally
-    ensures { result ≡ after_numbers tally at numbers different }
-{
-    Tally {
-        at,
-        scenes: tally.scenes,
-        compared: plus(tally.compared, numbers as u64),
-        different: plus(tally.different, different as u64),
-    }
-}
-
-// One scene more.
-pub fn with_scene(tally: Tally) -> Tally
-    ensures { result ≡ after_scene tally }
-{
-    Tally {
-        at: tally.at,
-        scenes: plus(tally.scenes, 1),
-        compared: tally.compared,
-        different: tally.different,
+    // One scene more.
+    pub fn with_scene(self) -> Tally
+        ensures { result ≡ after_scene self }
+    {
+        Tally {
+            at: self.at,
+            scenes: self.scenes.saturating_add(1),
+            compared: self.compared,
+            different: self.different,
+        }
     }
 }
 
-// Whether a recorded number is the one that was answered in its place.
-fn same_number(recorded: &[i64], answered: &[u64], i: usize) -> bool
-    requires { (i < length recorded.now) × (i < length answered.now) }
-    ensures { result ≡ eq_n (at recorded.now i) (get_or answered.now i 0) }
-{
-    if recorded[i] < 0 {
-        return false;
-    }
-    natural_at(recorded, i) == answered[i]
+// A number that is answered, held to the recorded one.
+pub trait Answered: Copy {
+    ghost same: { ℤ → Self → Bool };
+
+    // Whether it is the recorded number.
+    fn is_recorded(self, recorded: i64) -> bool
+        ensures { result ≡ same recorded self };
 }
 
-fn one_unless(same: bool) -> usize
-    ensures { result ≡ one_unless same }
-{
-    if same { 0 } else { 1 }
+impl Answered for u64 {
+    ghost same = { eq_n };
+
+    fn is_recorded(self, recorded: i64) -> bool {
+        0 <= recorded && recorded as u64 == self
+    }
+}
+
+impl Answered for i64 {
+    ghost same = { eq_z };
+
+    fn is_recorded(self, recorded: i64) -> bool {
+        recorded == self
+    }
 }
 
 // In how many places a recorded list and an answer differ.
-fn differences(recorded: &[i64], answered: &[u64]) -> usize
-    ensures { result ≡ differing eq_n recorded.now answered.now }
+fn differences<T: Answered>(recorded: &[i64], answered: &[T]) -> usize
+    ensures { result ≡ differing T.same recorded.now answered.now }
 {
     let mut count: usize = 0;
-    let mut i: usize = 0;
-    while (i < recorded.len()) & (i < answered.len()) {
-        count += one_unless(same_number(recorded, answered, i));
-        i += 1;
+    for (number, answer) in recorded.iter().zip(answered) {
+        count += usize::from(!answer.is_recorded(*number));
     }
-    count + (recorded.len() - i) + (answered.len() - i)
-}
-
-// The same of an answer of signed numbers.
-fn signed_differences(recorded: &[i64], answered: &[i64]) -> usize
-    ensures { result ≡ differing eq_z recorded.now answered.now }
-{
-    let mut count: usize = 0;
-    let mut i: usize = 0;
-    while (i < recorded.len()) & (i < answered.len()) {
-        count += one_unless(number_same(recorded, i, answered, i));
-        i += 1;
-    }
-    count + (recorded.len() - i) + (answered.len() - i)
-}
-
-// No recorded list is longer: the liveness entry asks for so much room for sources; and of signed numbers, that of all port connections.
-const LONGEST: usize = 4 * MEMBERS;
-
-const LONGEST_SIGNED: usize = CONNECTIONS * PORT;
-
-pub fn least(a: usize, b: usize) -> usize
-    ensures upper_bound { (result ≤ a) × (result ≤ b) }
-    ensures value { result ≡ min a b }
-{
-    if a < b { a } else { b }
-}
-
-// Reads the list of a word, and compares an answer with it, which stands at the front of a list of at least so many numbers.
-pub fn compare(tally: Tally, text: &[u8], word: &[u8], answered: &[u64], count: usize) -> Tally
-    ensures { result ≡ compared eq_n 4096 (length text.now) (read_list word.now (drop tally.at text.now)) (take (min count (length answered.now)) answered.now) tally }
-{
-    let mut recorded = [0i64; LONGEST];
-    let listed = read_list(text, tally.at, word, &mut recorded);
-    let m = least(count, answered.len());
-    match listed {
-        Listed::Of(n, next) => counted(tally, next, n, differences(&recorded[..n], &answered[..m])),
-        Listed::Bad => counted(tally, text.len(), 0, 1),
-    }
-}
-
-// The same of an answer of signed numbers.
-pub fn compare_signed(tally: Tally, text: &[u8], word: &[u8], answered: &[i64]) -> Tally
-    ensures { result ≡ compared eq_z 20480 (length text.now) (read_list word.now (drop tally.at text.now)) answered.now tally }
-{
-    let mut recorded = [0i64; LONGEST_SIGNED];
-    let listed = read_list(text, tally.at, word, &mut recorded);
-    match listed {
-        Listed::Of(n, next) => counted(
-            tally,
-            next,
-            n,
-            signed_differences(&recorded[..n], answered),
-        ),
-        Listed::Bad => counted(tally, text.len(), 0, 1),
-    }
+    count + recorded.len().abs_diff(answered.len())
 }
 
 // The id of a member by the table of ids; a number that is in no table stands for itself.
 fn name_of(keys: &[u64], member: usize) -> u64
     ensures { result ≡ name_of keys.now member }
 {
-    if member < keys.len() {
-        return keys[member] / SPAN;
+    match keys.get(member) {
+        Some(key) => *key / SPAN,
+        None => member as u64,
     }
-    member as u64
 }
 
 // Writes the names of a set's members, rising, and answers how many there are.
@@ -158,46 +100,129 @@ fn list_names(keys: &[u64], set: ComponentSet, out: &mut [u64]) -> usize
     ensures { Written (names_below keys.now set.words member_limit) out.old out.new result }
 {
     let mut n: usize = 0;
-    let mut m = next_member(set, 0);
-    while m < MEMBERS {
+    let mut next = set.next_member(0);
+    // By hand: to test each number of 0..MEMBERS takes longer, where most sets have few members.
+    while let Some(m) = next {
         out[n] = name_of(keys, m);
         n += 1;
-        m = next_member(set, m + 1);
+        next = set.next_member(m + 1);
     }
     n
 }
 
-// Compares the list of a word with a set of members, by the table of ids, or with a set of numbers, by an empty table.
-pub fn compare_set(tally: Tally, text: &[u8], word: &[u8], keys: &[u64], set: ComponentSet) -> Tally
-    ensures { result ≡ compared eq_n 4096 (length text.now) (read_list word.now (drop tally.at text.now)) (names_below keys.now set.words member_limit) tally }
+// 1 for each number that is in a set, and 0 for the others.
+#[tactic(auto, using(crate::proofs::Listing::listed_flags))]
+fn list_flags(set: ComponentSet) -> [u64; MEMBERS]
+    ensures { result ≡ flags_below set.words member_limit }
 {
-    let mut names = [0u64; MEMBERS];
-    let n = list_names(keys, set, &mut names);
-    compare(tally, text, word, &names, n)
-}
-
-// Writes 1 for each number that is in a set, and 0 for the others.
-fn list_flags(set: ComponentSet, out: &mut [u64])
-    ensures { out.new ≡ flags_below set.words (length out.old) }
-{
-    let mut k: usize = 0;
-    while k < out.len() {
-        out[k] = contains(set, k) as u64;
-        k += 1;
+    let mut flags = [0; MEMBERS];
+    for (k, flag) in flags.iter_mut().enumerate() {
+        *flag = u64::from(set.contains(k));
     }
+    flags
 }
 
-// Compares the list of a word with the flags of a set of numbers below a count.
-pub fn compare_flags(
-    tally: Tally,
-    text: &[u8],
-    word: &[u8],
-    set: ComponentSet,
-    count: usize,
-) -> Tally
-    ensures { result ≡ compared eq_n 4096 (length text.now) (read_list word.now (drop tally.at text.now)) (take (min count member_limit) (flags_below set.words member_limit)) tally }
-{
-    let mut flags = [0u64; MEMBERS];
-    list_flags(set, &mut flags);
-    compare(tally, text, word, &flags, count)
+// No recorded list is longer: the liveness entry asks for so much room for sources; and of signed numbers, that of all port connections.
+const LONGEST: usize = 4 * MEMBERS;
+
+const LONGEST_SIGNED: usize = CONNECTIONS * PORT;
+
+// As many bytes are before the program at a time; the recorded text from one refill to the next must be within them.
+pub const TEXT: usize = 262144;
+
+// The recorded text from the place of the last refill on, and what was counted before it.
+#[derive(Drop)]
+pub struct Replay {
+    pub text: [u8; TEXT],
+    pub tally: Tally,
+}
+
+impl Replay {
+    // Reads the list of a word into the lent one, and compares an answer with it.
+    fn hold<T: Answered>(&mut self, word: &[u8], answered: &[T], recorded: &mut [i64])
+        ensures tally { self.new.tally ≡ compared T.same (length recorded.old) (length self.old.text)
+            (read_list word.now (drop self.old.tally.at self.old.text)) answered.now self.old.tally }
+        ensures text { self.new.text ≡ self.old.text }
+    {
+        let tally = self.tally;
+        match read_list(&self.text, tally.at, word, recorded) {
+            Some((n, next)) => {
+                self.tally = tally.counted(next, n, differences(&recorded[..n], answered));
+            }
+            None => {
+                self.tally = tally.counted(TEXT, 0, 1);
+            }
+        }
+    }
+
+    // Reads the list of a word, and compares an answer with it.
+    pub fn compare(&mut self, word: &[u8], answered: &[u64])
+        ensures tally { self.new.tally ≡ compared eq_n 4096 (length self.old.text)
+            (read_list word.now (drop self.old.tally.at self.old.text)) answered.now self.old.tally }
+        ensures text { self.new.text ≡ self.old.text }
+    {
+        let mut recorded = [0; LONGEST];
+        self.hold(word, answered, &mut recorded);
+    }
+
+    // The same of an answer of signed numbers.
+    pub fn compare_signed(&mut self, word: &[u8], answered: &[i64])
+        ensures tally { self.new.tally ≡ compared eq_z 20480 (length self.old.text)
+            (read_list word.now (drop self.old.tally.at self.old.text)) answered.now self.old.tally }
+        ensures text { self.new.text ≡ self.old.text }
+    {
+        let mut recorded = [0; LONGEST_SIGNED];
+        self.hold(word, answered, &mut recorded);
+    }
+
+    // Compares the list of a word with a set of members, by the table of ids, or with a set of numbers, by an empty table.
+    pub fn compare_set(&mut self, word: &[u8], keys: &[u64], set: ComponentSet)
+        ensures tally { self.new.tally ≡ compared eq_n 4096 (length self.old.text)
+            (read_list word.now (drop self.old.tally.at self.old.text)) (names_below keys.now set.words member_limit) self.old.tally }
+        ensures text { self.new.text ≡ self.old.text }
+    {
+        let mut names = [0u64; MEMBERS];
+        let n = list_names(keys, set, &mut names);
+        self.compare(word, &names[..n]);
+    }
+
+    // Compares the list of a word with the flags of a set of numbers below a count.
+    pub fn compare_flags(&mut self, word: &[u8], set: ComponentSet, count: usize)
+        ensures tally { self.new.tally ≡ compared eq_n 4096 (length self.old.text)
+            (read_list word.now (drop self.old.tally.at self.old.text))
+            (take (min count member_limit) (flags_below set.words member_limit)) self.old.tally }
+        ensures text { self.new.text ≡ self.old.text }
+    {
+        let flags = list_flags(set);
+        self.compare(word, &flags[..count.min(MEMBERS)]);
+    }
+
+    // A refusal is a difference: every recorded scene was accepted.
+    pub fn refuse(&mut self) {
+        self.tally = self.tally.counted(self.tally.at, 0, 1);
+    }
+
+    // Reads a list that a scene gives to the front of `out`, and answers how many numbers it has. Where there is none, that is a difference
+    // and the list is empty.
+    pub fn read_given(&mut self, word: &[u8], out: &mut [i64]) -> usize
+        ensures { result ≤ length out.old }
+    {
+        let tally = self.tally;
+        match read_list(&self.text, tally.at, word, out) {
+            Some((count, next)) => {
+                self.tally = tally.counted(next, 0, 0);
+                count
+            }
+            None => {
+                self.tally = tally.counted(TEXT, 0, 1);
+                0
+            }
+        }
+    }
+
+    // The text from the tally's place on comes to the front, with more behind it.
+    pub fn go_on(&mut self) {
+        refill(&mut self.text, self.tally.at);
+        self.tally = self.tally.counted(0, 0, 0);
+    }
 }

@@ -6,41 +6,20 @@ mod answers;
 mod compare;
 mod input;
 
-use answers::{go_on, replay_scene};
-use compare::Tally;
-
-// As many bytes are before the program at a time; the recorded text from one refill to the next must be within them.
-const TEXT: usize = 262144;
+use compare::{Replay, TEXT, Tally};
 
 // More scenes than any input has.
 const SCENES: u64 = 1 << 32;
 
-// Whether a text goes on: behind its end there are zeros.
-fn is_open(text: &[u8]) -> bool {
-    if text.len() == 0 {
-        return false;
-    }
-    text[0] != 0
-}
-
-// Replays all scenes of standard input.
-fn replay_all(text: &mut [u8]) -> Tally {
-    let start = Tally {
-        at: text.len(),
-        scenes: 0,
-        compared: 0,
-        different: 0,
-    };
-    let mut tally = go_on(start, text);
-    let mut left = SCENES;
-    while 0 < left {
-        if !is_open(text) {
-            return tally;
+// Replays all scenes of standard input. Behind the end of a text there are zeros.
+fn replay_all(replay: &mut Replay) {
+    replay.go_on();
+    for _ in 0..SCENES {
+        if replay.text[0] == 0 {
+            return;
         }
-        tally = replay_scene(tally, text);
-        left -= 1;
+        replay.replay_scene();
     }
-    tally
 }
 
 // Writes a line of the result.
@@ -51,9 +30,17 @@ fn print_count(name: &[u8], count: u64) {
 }
 
 fn main() {
-    let mut text = [0u8; TEXT];
-    let tally = replay_all(&mut text);
-    print_count(b"scenes=", tally.scenes);
-    print_count(b"compared=", tally.compared);
-    print_count(b"different=", tally.different);
+    let mut replay = Replay {
+        text: [0; TEXT],
+        tally: Tally {
+            at: TEXT,
+            scenes: 0,
+            compared: 0,
+            different: 0,
+        },
+    };
+    replay_all(&mut replay);
+    print_count(b"scenes=", replay.tally.scenes);
+    print_count(b"compared=", replay.tally.compared);
+    print_count(b"different=", replay.tally.different);
 }

@@ -1,43 +1,33 @@
--- Answers for the goals that the search leaves.
-use native.Mathlib.Omega.{arith}
-use lib.IntN.{ℤ, pos}
-use Prim.Native.Nat.{ℕ, ◌+◌, ◌<◌}
-use mathlib.Core.Path.{◌≡◌}
-use mathlib.Core.Bool.{Bool}
-use mathlib.Core.List.{List}
-use Rattle.lists.specs.Signed.{at}
-use Rattle.replay.specs.Differing.{one_unless, eq_n}
-use Rattle.replay.proofs.Counting.{Counted, counted_none, counted_more, counted_all, ended, inside}
-use lib.ListN.{length, get_or}
+-- Answers for the goals that the search leaves. Assumes nothing.
+use Rattle.std.proofs.Common.{rules, ◌≡◌, length, get_or, pos, sym, ap, ◌∙◌, subst}
+use mir.Val.{SFits}
+use mir.Syntax.{w64}
+use mir.Facts.{to_z-of_z}
+use Rattle.std.proofs.lemmas.List.{length_push}
+use Rattle.std.proofs.lemmas.Slice.Zip.{zip_turn, zip_end}
+use Rattle.replay.proofs.Counting.{counted_more, counted_all}
 use Rattle.replay.proofs.compare.differences.Goals as goal
-use Rattle.replay.proofs.compare.differences.Goals.{In-loop-i}
 
--- the place of a turn is in both lists
-both-have : (c : In-loop-i) → (c.loop-i.i < length c.args.recorded.now) × (c.loop-i.i < length c.args.answered.now)
-both-have c = inside _ _ _ c.loop-i-test.true
-
--- a place more is counted
-more : {xs : List ℤ} {ys : List ℕ} {count i one : ℕ} {same : Bool} → Counted eq_n xs ys count i → (i < length xs) × (i < length ys)
-    → one ≡ one_unless same → same ≡ eq_n (at xs i) (get_or ys i 0) → Counted eq_n xs ys (count + one) (i + 1)
-more counted h one same = rw (one, same) (counted_more eq_n _ _ (pos 0) 0 counted h.0 h.1)
-
-pub loop-i-init : goal.loop-i-init
-loop-i-init c = counted_none eq_n _ _
-
-pub same_number-requires : goal.same_number-requires
-same_number-requires c = both-have c
-
-pub overflow_add-count : goal.overflow_add-count
-overflow_add-count c =
-    let h = both-have (goal.at.overflow_add-count c).In-loop-i in
-    omega (arith, (more c.loop-i.invariant h c.one_unless-count.ensures c.same_number.ensures).few, h)
-
-pub loop-i-smaller : goal.loop-i-smaller
-loop-i-smaller c = omega (arith, both-have (goal.at.loop-i-smaller c).In-loop-i)
-
-pub loop-i-preserved : goal.loop-i-preserved
-loop-i-preserved c =
-    more c.loop-i.invariant (both-have (goal.at.loop-i-preserved c).In-loop-i) c.one_unless-count.ensures c.same_number.ensures
+pub loop-number-preserved : goal.loop-number-preserved
+loop-number-preserved g c =
+    let xs = c.args.recorded.now in
+    let ys = c.args.answered.now in
+    let l = c.loop-number in
+    let turn = zip_turn xs ys l.yielded _ _ c.next.new.self _ (search rules) (search rules) l.yielded_by _ c.in-Some.is c.next.ensures.steps in
+    let x = c.in-Some.number.now in
+    let y = c.in-Some.answer.now in
+    let there : SFits w64 (get_or xs (length l.yielded) (pos 0)) = search rules in
+    let fits : SFits w64 x = subst (SFits w64) (sym (turn.2 (pos 0))) there in
+    let same : c.is_recorded.result ≡ g.T.Answered.same x y = c.is_recorded.ensures ∙ ap (λ z. g.T.Answered.same z y) (to_z-of_z fits) in (
+      (tt, tt),
+      tt,
+      counted_more g.T.Answered.same xs ys x y c.is_recorded.result c.from-count.result _ l.invariant.2 turn same c.from-count.ensures (length_push _ _),
+    )
 
 pub returns : goal.returns
-returns c = counted_all eq_n _ _ c.loop-i.invariant (ended _ _ _ c.loop-i-test.false)
+returns g c =
+    let xs = c.args.recorded.now in
+    let ys = c.args.answered.now in
+    let l = c.loop-number in
+    let end = zip_end xs ys l.yielded _ _ c.next.new.self _ (search rules) (search rules) l.yielded_by c.in-None.is c.next.ensures.steps in
+    rw c.abs_diff.ensures (counted_all g.T.Answered.same xs ys l.invariant.2 end)

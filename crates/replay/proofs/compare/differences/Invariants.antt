@@ -1,13 +1,10 @@
--- `replay::compare::differences` meets its contract: the places passed are counted.
--- Assumes nothing.
-use Prim.Native.Nat.{◌-◌}
-use Rattle.replay.specs.Differing.{eq_n}
+-- The loop's invariant: the places passed are counted. Assumes nothing.
+use Rattle.std.proofs.Common.{length}
 use Rattle.replay.proofs.Counting.{Counted}
-use lib.ListN.{length}
 use Rattle.replay.proofs.compare.differences.Given as goal
 
-abbrev pub invariant-loop-i : goal.invariant-loop-i
-invariant-loop-i l = Counted eq_n l.recorded l.answered l.count l.i
-
-abbrev pub decreases-loop-i : goal.decreases-loop-i
-decreases-loop-i l = length l.recorded - l.i
+abbrev pub invariant-loop-number : goal.invariant-loop-number
+invariant-loop-number g l =
+    (goal.iterator-loop-number g).can_next l.number-iterator
+    × (goal.iterator-loop-number g).is_finite l.number-iterator
+    × Counted g.T.Answered.same l.recorded l.answered l.count (length l.yielded)

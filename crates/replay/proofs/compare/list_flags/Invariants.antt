@@ -1,13 +1,7 @@
--- `replay::compare::list_flags` meets its contract: the flags of the numbers passed stand at the front.
--- Assumes nothing.
-use lib.ListN.{length}
-use Prim.Native.Nat.{◌-◌}
+-- The loop's invariant: the flags of the numbers passed stand at the front. Assumes nothing.
+use Rattle.std.proofs.Common.{◌≡◌, take}
 use Rattle.replay.specs.Names.{flags_below}
-use Rattle.replay.proofs.Listing.{Front}
 use Rattle.replay.proofs.compare.list_flags.Given as goal
 
 abbrev pub invariant-loop-k : goal.invariant-loop-k
-invariant-loop-k l = Front (flags_below l.set.words l.k) l.k l.initial.out l.out
-
-abbrev pub decreases-loop-k : goal.decreases-loop-k
-decreases-loop-k l = length l.initial.out - l.k
+invariant-loop-k l = take l.k l.flag-items ≡ flags_below l.set.words l.k

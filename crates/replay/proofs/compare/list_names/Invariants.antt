@@ -1,16 +1,14 @@
--- `replay::compare::list_names` meets its contract: the names of the members passed stand at the front.
--- Assumes nothing.
-use mathlib.Core.Path.{◌≡◌}
-use mathlib.Core.Bool.{true}
-use Prim.Native.Nat.{◌-◌, ◌≤◌, ◌<◌}
-use Rattle.sets.specs.Members.{member_of}
+-- The loop's invariant: the names of the members below a number stand at the front, and `next` is the first from there on. It rises. Assumes nothing.
+use Rattle.std.proofs.Common.{ℕ, ◌-◌, ◌≤◌}
+use Rattle.std.specs.Option.{unwrap_or}
+use Rattle.sets.specs.Members.{FirstFrom}
 use Rattle.replay.specs.Names.{names_below}
 use Rattle.replay.proofs.Listing.{Front}
 use Rattle.replay.proofs.compare.list_names.Given as goal
 
-abbrev pub invariant-loop-m : goal.invariant-loop-m
-invariant-loop-m l =
-    Front (names_below l.keys l.set.words l.m) l.n l.initial.out l.out × (l.m ≤ 1024) × (l.m < 1024 → member_of l.set.words l.m ≡ true)
+abbrev pub invariant-loop-next : goal.invariant-loop-next
+invariant-loop-next l =
+    (start : ℕ) × (start ≤ 1024) × FirstFrom l.set.words start l.next × Front (names_below l.keys l.set.words start) l.n l.initial.out l.out
 
-abbrev pub decreases-loop-m : goal.decreases-loop-m
-decreases-loop-m l = 1024 - l.m
+abbrev pub decreases-loop-next : goal.decreases-loop-next
+decreases-loop-next l = 1024 - unwrap_or l.next 1024

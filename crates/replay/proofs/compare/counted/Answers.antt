@@ -1,7 +1,0 @@
--- `replay::compare::counted` meets its contract.
--- Assumes nothing.
-
-use Rattle.replay.proofs.compare.counted.Goals as goal
-
-pub returns : goal.returns
-returns c = cc
