@@ -13,8 +13,8 @@ pub loop-r-init : goal.loop-r-init
 unfolding all_rows
 loop-r-init c = below_none _ (λ p. []) 2 2 _ _ refl
 
-pub put_pair-at-requires : goal.put_pair-at-requires
-put_pair-at-requires c =
+pub put_row-at-requires : goal.put_row-at-requires
+put_row-at-requires c =
     let v = c.loop-r.invariant in
     omega (arith, v.put.place, v.few, v.long, c.loop-r-test.true, c.requires)
 
@@ -23,13 +23,10 @@ unfolding all_rows
 loop-r-preserved c =
     let row : ℕ → List ℕ = region_row_by c.args.cyclic.words c.args.has_drive.words in
     below_more _ row 2 2 _ _ (λ k. refl) c.loop-r-test.true c.loop-r.invariant (record { turns = 1; whole = refl; few = omega arith })
-    (pair_read (flag_read c.args.cyclic.words c.flag-first.ensures c.contains.ensures refl)
-    (flag_read c.args.has_drive.words c.flag-second.ensures c.contains-in-loop-r.ensures refl)
-    c.put_pair-at.ensures)
-    c.put_pair-at.auto.rows
-
-pub shape_of-rows : goal.shape_of-rows
-shape_of-rows c = c.loop-r.invariant.long
+    (pair_read (flag_read c.args.cyclic.words c.from-first.ensures c.contains.ensures refl)
+    (flag_read c.args.has_drive.words c.from-second.ensures c.contains-in-loop-r.ensures refl)
+    c.put_row-at.ensures)
+    c.put_row-at.auto.rows
 
 pub returns : goal.returns
 returns c =
