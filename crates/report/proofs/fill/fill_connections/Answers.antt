@@ -6,7 +6,7 @@ use native.Mathlib.Numerals.{add-one}
 use native.Mathlib.Omega.{arith}
 use lib.IntN.{ℤ, pos}
 use lib.ListN.{length, get_or, set, take, length-map}
-use lib.Seq.{take-suc, take_all, length-take-le}
+use lib.Seq.{take-suc, length-take-le}
 use Rattle.lists.specs.Slices.{laid}
 use Rattle.lines.proofs.Writing.{laid_snoc}
 use Rattle.report.proofs.RowText.{natural_in, natural_is}
@@ -31,8 +31,3 @@ loop-i-preserved c ns e =
     let t = c.loop-i-test.true in
     one_more ns c.args.rows.now (omega (arith, t, as_long ns e)) (omega (arith, t, c.requires.1))
     (c.natural_at.ensures ∙ natural_is ns e l.i) (l.invariant ns e)
-
-pub returns : goal.returns
-returns c ns e =
-    let l = c.loop-i in
-    l.invariant ns e ∙ ap (λ (xs : List ℕ). laid xs c.args.rows.now) (take_all l.i ns (omega (arith, c.loop-i-test.false, as_long ns e)))

@@ -3,7 +3,7 @@ use mathlib.Core.Path.{refl}
 use mathlib.Core.List.{List, []}
 use Prim.Native.Nat.{ℕ}
 use native.Mathlib.Omega.{arith}
-use Rattle.assessment.proofs.Devices.{below_none, below_more, below_all}
+use Rattle.assessment.proofs.Devices.{below_none, below_more}
 use Rattle.report.specs.Report.{all_rows}
 use Rattle.report.specs.Printing.{region_row_by}
 use Rattle.report.proofs.RowText.{pair_read, flag_read}
@@ -12,11 +12,6 @@ use Rattle.report.proofs.fill.fill_regions.Goals as goal
 pub loop-r-init : goal.loop-r-init
 unfolding all_rows
 loop-r-init c = below_none _ (λ p. []) 2 2 _ _ refl
-
-pub put_row-at-requires : goal.put_row-at-requires
-put_row-at-requires c =
-    let v = c.loop-r.invariant in
-    omega (arith, v.put.place, v.few, v.long, c.loop-r-test.true, c.requires)
 
 pub loop-r-preserved : goal.loop-r-preserved
 unfolding all_rows
@@ -27,9 +22,3 @@ loop-r-preserved c =
     (flag_read c.args.has_drive.words c.from-second.ensures c.contains-in-loop-r.ensures refl)
     c.put_row-at.ensures)
     c.put_row-at.auto.rows
-
-pub returns : goal.returns
-returns c =
-    let v = c.loop-r.invariant in
-    let row : ℕ → List ℕ = region_row_by c.args.cyclic.words c.args.has_drive.words in
-    (below_all _ row 2 2 _ _ {r = v.turns} c.loop-r-test.false v (omega (arith, v.put.place, v.whole))).is

@@ -34,8 +34,3 @@ slice_bounds-print_scene-end c =
     let accepted = sym checks.ensures.answer ∙ c.in_ok-grouping_lists.was in
     sym (length-take-le _ checks.new.keys
     (few a.components.now a.connections.now a.frontiers.now checks.new.keys accepted checks.auto.keys))
-
-pub print_scene-requires : goal.print_scene-requires
-print_scene-requires c =
-    let checks = c.grouping_lists in
-    record { accepted = sym checks.ensures.answer ∙ c.in_ok-grouping_lists.was; table = checks.ensures.table c.in_ok-grouping_lists.was }
