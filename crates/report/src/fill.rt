@@ -23,7 +23,8 @@ fn put_row(rows: &mut [u64], at: usize, row: &[u64]) -> usize
     end
 }
 
-// Fills the rows of the components, in list order, given the table of ids, the numbers of their groups and regions, and two sets of members.
+// Fills the rows of the components, in list order, given the table of ids, the numbers of their groups and
+// regions, and two sets of members.
 pub fn fill_components(
     components: &[i64],
     keys: &[u64],
@@ -35,9 +36,11 @@ pub fn fill_components(
     rows: &mut [u64],
 )
     requires components { Components components.now × IdTable components.now keys.now }
-    requires components_in_bounds { (component_count components.now ≤ length nets.now) × ((component_count components.now ≤ length fragments.now) × (component_count components.now ≤ length regions.now)) }
+    requires components_in_bounds { let n = component_count components.now in
+        (n ≤ length nets.now) × ((n ≤ length fragments.now) × (n ≤ length regions.now)) }
     requires components_in_bounds_2 { 6 * component_count components.now ≤ length rows.old }
-    ensures { rows.new ≡ laid (all_rows (component_row_by components.now nets.now fragments.now regions.now drive.words potential.words) (component_count components.now)) rows.old }
+    ensures { let row = component_row_by components.now nets.now fragments.now regions.now drive.words potential.words in
+        rows.new ≡ laid (all_rows row (component_count components.now)) rows.old }
 {
     let mut at = 0;
     for p in 0..components.len() / COMPONENT {

@@ -22,7 +22,8 @@ pub fn report(
     frontiers: &mut [i64],
     out: &mut [u8],
 ) -> Result<usize, Refusal>
-    ensures { Reported (parse limits.components limits.connections limits.frontiers text.now) components.old components.new connections.old connections.new frontiers.old frontiers.new out.old out.new result }
+    ensures { Reported (parse limits.components limits.connections limits.frontiers text.now)
+        components.old components.new connections.old connections.new frontiers.old frontiers.new out.old out.new result }
 {
     let counts = read_sheet(text, limits, components, connections, frontiers)?;
     let printed = print_lists(

@@ -206,7 +206,8 @@ fn print_kept(
     requires { (ps : List ℤ) × (Accepts scene.now ps frontiers.now keys.now × Gathered scene.now ps ports.now nets.now fragments.now) }
     ensures { (ps : List ℤ) → Accepts scene.now ps frontiers.now keys.now →
         Gathered scene.now ps ports.now nets.now fragments.now →
-        PrintedBy (fits (report_of scene.now ps frontiers.now) (length out.old)) (report_of scene.now ps frontiers.now) out.old out.new result }
+        PrintedBy (fits (report_of scene.now ps frontiers.now) (length out.old)) (report_of scene.now ps frontiers.now)
+        out.old out.new result }
 {
     let mut source_at = [0usize; CONNECTIONS];
     let mut sink_at = [0usize; CONNECTIONS];
@@ -246,7 +247,8 @@ fn print_scene(
     out: &mut [u8],
 ) -> Result<usize, Refusal>
     requires { Accepts scene.now connections.now frontiers.now keys.now }
-    ensures { PrintedBy (fits (report_of scene.now connections.now frontiers.now) (length out.old)) (report_of scene.now connections.now frontiers.now) out.old out.new result }
+    ensures { let text = report_of scene.now connections.now frontiers.now in
+        PrintedBy (fits text (length out.old)) text out.old out.new result }
 {
     let mut nets = [0u64; COMPONENTS];
     let mut fragments = [0u64; COMPONENTS];
@@ -271,7 +273,8 @@ pub(crate) fn print_lists(
     frontiers: &[i64],
     out: &mut [u8],
 ) -> Result<usize, Refusal>
-    ensures { PrintedBy (lists_checked components.now connections.now frontiers.now (length out.old)) (report_of components.now connections.now frontiers.now) out.old out.new result }
+    ensures { PrintedBy (lists_checked components.now connections.now frontiers.now (length out.old))
+        (report_of components.now connections.now frontiers.now) out.old out.new result }
 {
     let mut keys = [0u64; COMPONENTS];
     let count = components.len() / COMPONENT;
