@@ -26,6 +26,7 @@ pub fn put_ids(out: &mut [u8], at: usize, key: &[u8], set: ComponentSet, keys: &
 {
     let mut p = put_key(out, at, key);
     let mut next = next_listed(set, 0, keys);
+    // No range: the walk goes from member to member.
     while let Some(m) = next {
         next = next_listed(set, m + 1, keys);
         p = put_id(out, p, keys[m] / SPAN, next.is_some());
@@ -45,6 +46,7 @@ pub fn left_after_ids(
 {
     let mut rest = left_after(left, key.len() + 2);
     let mut next = next_listed(set, 0, keys);
+    // No range: the walk goes from member to member.
     while let Some(m) = next {
         next = next_listed(set, m + 1, keys);
         rest = left_after(rest, id_length(keys[m] / SPAN, next.is_some()));

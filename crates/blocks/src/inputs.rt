@@ -22,8 +22,10 @@ pub fn put_input(
     keys: &[u64],
 ) -> usize
     requires keys_len_bound { length keys.now ≤ member_limit }
-    requires words_in_bounds { at + length (input_text device port status (ids_in keys.now immediate.words) (ids_in keys.now inferred.words)) ≤ length out.old }
-    ensures { Put at (input_text device port status (ids_in keys.now immediate.words) (ids_in keys.now inferred.words)) out.old out.new result }
+    requires words_in_bounds { let text = input_text device port status (ids_in keys.now immediate.words) (ids_in keys.now inferred.words) in
+        at + length text ≤ length out.old }
+    ensures { Put at (input_text device port status (ids_in keys.now immediate.words) (ids_in keys.now inferred.words))
+        out.old out.new result }
 {
     let a = put_field(out, at, Block::Inputs, 0, device);
     let b = put_field(out, a, Block::Inputs, 1, port);
@@ -43,7 +45,8 @@ pub fn left_after_input(
     keys: &[u64],
 ) -> Option<usize>
     requires { length keys.now ≤ member_limit }
-    ensures { result ≡ left_after left (length (input_text device port status (ids_in keys.now immediate.words) (ids_in keys.now inferred.words))) }
+    ensures { let text = input_text device port status (ids_in keys.now immediate.words) (ids_in keys.now inferred.words) in
+        result ≡ left_after left (length text) }
 {
     let a = left_after(left, field_length(Block::Inputs, 0, device));
     let b = left_after(a, field_length(Block::Inputs, 1, port));

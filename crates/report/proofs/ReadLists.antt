@@ -1,7 +1,6 @@
--- A sheet that was read or refused: the lists that were read are the fronts of the work lists, by whole records, and what the entry leaves.
+-- A sheet that was read: the lists that were read are the fronts of the work lists, by whole records, and what the entry leaves.
 --     fronts          the lists of a sheet that was read
 --     reported        the entry on a sheet that was read
---     not_read        the entry on a sheet that was refused
 -- Assumes nothing.
 use Rattle.std.specs.Prelude.{⊤, Result, Ok, Err}
 use mathlib.Core.Path.{◌≡◌, refl, ap, sym, ◌∙◌}
@@ -28,10 +27,6 @@ use Rattle.report.proofs.Scenes.{front_long, front_is}
 by_read : (checks : Result ⊤ Refusal) (counts n : Counts) → reading_of checks counts ≡ Ok n → (checks ≡ Ok tt) × (n ≡ counts)
 by_read (Ok tt) counts n e = (refl, cc)
 by_read (Err r) counts n e = let o : ◌≡◌ {A = ℕ} 0 1 = cc in absurd (omega arith)
-
-by_refused : (checks : Result ⊤ Refusal) (counts : Counts) (r : Refusal) → reading_of checks counts ≡ Err r → checks ≡ Err r
-by_refused (Ok tt) counts r e = let o : ◌≡◌ {A = ℕ} 0 1 = cc in absurd (omega arith)
-by_refused (Err q) counts r e = cc
 
 -- ---- whole records
 
@@ -88,18 +83,6 @@ module _ (x y z : ℕ) (text : List ℕ) {a a' b b' c c' : List ℤ} {r : Result
         of_components = front a (omega (arith, w.components)) (omega (arith, w.components_few)) (rw good at s.components_left);
         of_connections = front b (omega (arith, w.connections)) (omega (arith, w.connections_few)) (rw good at s.connections_left);
         of_frontiers = front c (omega (arith, w.frontiers)) (omega (arith, w.frontiers_few)) (rw good at s.frontiers_left);
-      }
-
-  -- nothing is written, and the work lists are as they were
-  pub not_read : {q : Refusal} → r ≡ Err q → (out : List ℕ) → Reported (parse x y z text) a a' b b' c c' out out (Err q)
-  not_read {q} e out =
-      let p = parse x y z text in
-      let no = by_refused (sheet_checked p (length a) (length b) (length c)) (counts_of p) q (sym s.answer ∙ e) in
-      record {
-        printed = record { answer = rw no; numbers = rw no; left = rw no };
-        components_left = rw no (rw no at s.components_left);
-        connections_left = rw no (rw no at s.connections_left);
-        frontiers_left = rw no (rw no at s.frontiers_left);
       }
 
 -- ---- the entry

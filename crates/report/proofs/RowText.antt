@@ -1,34 +1,22 @@
 -- The rows that are filled, and what they are in the report.
---     six_puts                          a row of six numbers
---     row_read, flag_read               the same row by numbers that are equal
+--     row_read, pair_read, flag_read    the same row by numbers that are equal
 --     rows_same                         rows that are the same one by one
 --     natural_in, natural_is            a number of a list with no sign
 -- Assumes nothing.
-use mathlib.Core.Path.{◌≡◌, refl, ◌∙◌}
+use mathlib.Core.Path.{◌≡◌, refl}
 use mathlib.Core.Bool.{Bool}
-use mathlib.Core.List.{List, [], ◌∷◌, map, append_assoc}
-use Prim.Native.Nat.{ℕ, zero, suc, ◌+◌, ◌≤◌, ◌<◌}
-use native.Mathlib.Numerals.{add-one, add-two, add-three, add-four, add_five}
+use mathlib.Core.List.{List, [], ◌∷◌, map}
+use Prim.Native.Nat.{ℕ, zero, suc, ◌<◌}
 use native.Mathlib.Omega.{arith}
 use lib.Dec.{T}
 use lib.IntN.{ℤ, pos}
-use lib.ListN.{length, get_or, set, take, drop, get_or-map}
-use lib.Seq.{sets-eq}
+use lib.ListN.{get_or, get_or-map}
 use lib.Signed.{non_neg}
 use Rattle.sets.specs.Members.{as_nat, member_of}
 use Rattle.lists.specs.Signed.{at}
 use Rattle.lists.specs.Records.{natural_at}
 use Rattle.assessment.specs.Rows.{Put}
 use Rattle.report.specs.Report.{all_rows}
-
-pub six_puts : (a b c d e f : ℕ) (l : List ℕ) (i : ℕ) → i + 6 ≤ length l
-    → Put (a ∷ b ∷ c ∷ d ∷ e ∷ f ∷ []) i l (set (set (set (set (set (set l i a) (i + 1) b) (i + 2) c) (i + 3) d) (i + 4) e) (i + 5) f) (i + 6)
-six_puts a b c d e f l i h =
-    let row : List ℕ = a ∷ b ∷ c ∷ d ∷ e ∷ f ∷ [] in
-    record {
-      place = omega arith;
-      is = rw (add-one i, add-two i, add-three i, add-four i, add_five i) (sets-eq row l i h ∙ append_assoc (take i l) row (drop (i + 6) l));
-    }
 
 pub row_read : {at r : ℕ} {old new : List ℕ} {id id' net fragment region drive drive' potential potential' : ℕ} → id ≡ id' → drive ≡ drive' → potential ≡ potential'
     → Put (id ∷ net ∷ fragment ∷ region ∷ drive ∷ potential ∷ []) at old new r → Put (id' ∷ net ∷ fragment ∷ region ∷ drive' ∷ potential' ∷ []) at old new r

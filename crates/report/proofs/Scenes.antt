@@ -59,18 +59,18 @@ module _ {A : Type 0} (rows old : List A) {new : List A} (e : new ≡ laid rows 
   front_is n h = ap (take n) e ∙ take_at rows (drop (length rows) old) n (sym h)
 
 pub analyzed : {cs ps fs : List ℤ} {regions regions' sources sources' inputs inputs' stack stack' : List ℕ} {r : Analysis}
-    → AnalyzedBy (Ok tt) cs ps fs regions regions' sources sources' inputs inputs' stack stack' r
+    → AnalyzedBy (Ok tt) cs ps fs regions regions' sources sources' inputs inputs' stack stack' (Ok r)
     → Analyzed cs ps fs regions' (take (r.sources * 2) sources') (take (r.inputs * 3) inputs') r
 analyzed {cs} {ps} {fs} {regions = regions} {sources = sources} {inputs = inputs} {r = r} a = record {
   regions_old = regions;
   regions_are = a.regions_left;
-  sources_are = front_is (source_rows cs ps fs) sources a.sources_left (r.sources * 2) a.source_count;
-  inputs_are = front_is (input_rows cs ps fs) inputs a.inputs_left (r.inputs * 3) a.input_count;
-  region_count_lem = a.region_count_lem;
-  drive_set = a.drive_set;
-  potential_set = a.potential_set;
-  cyclic_set = a.cyclic_set;
-  has_drive_set = a.has_drive_set;
+  sources_are = front_is (source_rows cs ps fs) sources a.sources_left (r.sources * 2) a.analysis.source_count;
+  inputs_are = front_is (input_rows cs ps fs) inputs a.inputs_left (r.inputs * 3) a.analysis.input_count;
+  region_count_lem = a.analysis.region_count_lem;
+  drive_set = a.analysis.drive_set;
+  potential_set = a.analysis.potential_set;
+  cyclic_set = a.analysis.cyclic_set;
+  has_drive_set = a.analysis.has_drive_set;
 }
 
 -- ---- how long they are

@@ -1,5 +1,5 @@
 -- The lines of the verdict rows, row by row, are those that the report has, port by port.
---     lines_one, lines_none     the next row of three numbers; fewer than three
+--     lines_at, lines_end       the next row of three numbers; fewer than three
 --     rows_lines                the rows of the answer give the lines of the report
 --     asked_text_lem                the lines of a port, by the sets that were asked for
 -- Assumes nothing.
@@ -7,7 +7,7 @@ use Rattle.std.specs.Prelude.{Some, None}
 use mathlib.Core.Path.{◌≡◌, refl, sym, ap, ◌∙◌}
 use mathlib.Core.Bool.{Bool, true, false, cond}
 use mathlib.Core.List.{List, [], ◌∷◌, ◌++◌, append_assoc, append-nil}
-use Prim.Native.Nat.{ℕ, zero, suc, ◌+◌, ◌*◌, ◌≤◌, ◌<◌}
+use Prim.Native.Nat.{ℕ, zero, suc, ◌+◌, ◌*◌, ◌/◌, ◌≤◌, ◌<◌}
 use native.Mathlib.Omega.{arith}
 use lib.Dec.{eqb}
 use lib.IntN.{ℤ}
@@ -20,8 +20,7 @@ use Rattle.lists.proofs.Search.{first_is}
 use Rattle.lists.proofs.Members.{ids_distinct}
 use Rattle.faces.specs.Ports.{ports_of}
 use Rattle.assessment.specs.Verdicts.{status_of, is_required, port_rows, verdict_rows, input_rows}
-use Rattle.inputs.specs.Query.{row_place}
-use Rattle.inputs.specs.Inputs.{PortSets}
+use Rattle.inputs.specs.Query.{row_place, PortSets}
 use Rattle.inputs.specs.declared.InputSources.{InputSources}
 use Rattle.blocks.specs.Lines.{input_text}
 use Rattle.blocks.specs.Blocks.{ids_in}
@@ -35,8 +34,12 @@ use Rattle.report.proofs.Shown.{ids_are}
 abbrev pub lines_from : (ℕ → ℕ → ℕ → List ℕ) → List ℕ → ℕ → List ℕ
 lines_from text rows k = row_lines text (drop k rows)
 
+-- the lines of row k
+abbrev pub row_text : (ℕ → ℕ → ℕ → List ℕ) → List ℕ → ℕ → List ℕ
+row_text text rows k = text (get_or rows (3 * k) 0) (get_or rows (3 * k + 1) 0) (get_or rows (3 * k + 2) 0)
+
 module _ (text : ℕ → ℕ → ℕ → List ℕ) where
-  pub lines_one : (rows : List ℕ) (k : ℕ) → k + 2 < length rows
+  lines_one : (rows : List ℕ) (k : ℕ) → k + 2 < length rows
       → lines_from text rows k ≡ text (get_or rows k 0) (get_or rows (k + 1) 0) (get_or rows (k + 2) 0) ++ lines_from text rows (k + 3)
   unfolding row_lines
   lines_one rows k h =
@@ -52,8 +55,18 @@ module _ (text : ℕ → ℕ → ℕ → List ℕ) where
   few (a ∷ b ∷ []) h = refl
   few (a ∷ b ∷ c ∷ rest) h = absurd (omega arith)
 
-  pub lines_none : (rows : List ℕ) (k : ℕ) → length rows ≤ k + 2 → lines_from text rows k ≡ []
+  lines_none : (rows : List ℕ) (k : ℕ) → length rows ≤ k + 2 → lines_from text rows k ≡ []
   lines_none rows k h = few (drop k rows) (omega (arith, length-drop k rows))
+
+  -- row k of all, and behind the last one
+  pub lines_at : (rows : List ℕ) (k : ℕ) → k < length rows / 3
+      → lines_from text rows (3 * k) ≡ row_text text rows k ++ lines_from text rows (3 * (k + 1))
+  lines_at rows k h =
+      let next : 3 * (k + 1) ≡ 3 * k + 3 = omega arith in
+      rw next (lines_one rows (3 * k) (omega (arith, h)))
+
+  pub lines_end : (rows : List ℕ) (k : ℕ) → length rows / 3 ≤ k → lines_from text rows (3 * k) ≡ []
+  lines_end rows k h = lines_none rows (3 * k) (omega (arith, h))
 
   lines_append : (turns : ℕ) (rows more : List ℕ) → length rows ≡ turns * 3 → row_lines text (rows ++ more) ≡ row_lines text rows ++ row_lines text more
   unfolding row_lines

@@ -1,11 +1,8 @@
 // Prints the lists of a sheet: the checks, groups and ports, the analysis, the rows, and last the text, whose length is known before its
 // first byte is written. Each stage has its arrays only while it runs.
-ghost use Rattle.std.specs.Prelude.{◌≡◌, List, ◌+◌, ◌*◌, ◌≤◌, length, ℤ};
-ghost use Rattle.lists.specs.Ids.{IdTable};
-ghost use Rattle.lists.specs.Ends.{SettledEnds};
+ghost use Rattle.std.specs.Prelude.{◌≡◌, List, ◌*◌, ◌≤◌, length, ℤ};
 ghost use Rattle.lists.specs.Records.{component_count};
 ghost use Rattle.lines.specs.Wrote.{Put};
-ghost use Rattle.inputs.specs.Inputs.{Ready};
 ghost use Rattle.blocks.specs.Blocks.{left_after};
 ghost use Rattle.report.specs.Report.{report_of};
 ghost use Rattle.report.specs.Entry.{fits, lists_checked, PrintedBy};
@@ -18,10 +15,11 @@ use blocks::answer::put_accepted;
 use blocks::{Block, left_after, left_after_block, put_block};
 use checks::refusals::grouping_lists;
 use circuit::settle::group;
-use inputs::asked::make_ready;
+use inputs::asked::{Asked, make_ready};
 use lists::ends::settle_ends;
 use lists::{COMPONENT, COMPONENTS, CONNECTIONS, Fault, PORT, Refusal};
 use liveness::Analysis;
+use liveness::plot::Plot;
 use liveness::steps::analyze;
 use scene::connections::keep_all;
 
@@ -80,11 +78,7 @@ fn put_blocks(
 
 // Prints a report given its rows, where it fits.
 fn print_rows(
-    keys: &[u64],
-    scene: &[i64],
-    fed: &[u64],
-    labels: &[usize],
-    upstream: &[u64],
+    asked: &Asked,
     components: &[u64],
     kept: &[u64],
     regions: &[u64],
@@ -92,81 +86,67 @@ fn print_rows(
     inputs: &[u64],
     out: &mut [u8],
 ) -> Result<usize, Refusal>
-    requires id_table { IdTable scene.now keys.now }
-    requires ready { (ps fs : List ℤ) × Ready scene.now ps fs fed.now labels.now upstream.now }
-    ensures { (ps fs : List ℤ) → Ready scene.now ps fs fed.now labels.now upstream.now →
-        PrintedBy (fits (whole_text scene.now ps fs components.now kept.now regions.now sources.now inputs.now) (length out.old))
-        (whole_text scene.now ps fs components.now kept.now regions.now sources.now inputs.now)
-        out.old out.new result }
+    ensures { let p = asked.now.plot in
+        let text = whole_text p.components.now p.ports.now p.frontiers.now components.now kept.now regions.now sources.now inputs.now in
+        PrintedBy (fits text (length out.old)) text out.old out.new result }
 {
-    let a = left_after_blocks(Some(out.len()), components, kept, regions, sources);
-    let rest = left_after_rows(a, keys, scene, fed, labels, upstream, inputs);
-    if let None = rest {
-        return Err(Refusal {
+    let blocks = left_after_blocks(Some(out.len()), components, kept, regions, sources);
+    match left_after_rows(blocks, asked, inputs) {
+        None => Err(Refusal {
             fault: Fault::ShortSlice,
             list: None,
             item: 0,
-        });
+        }),
+        Some(_) => {
+            let at = put_blocks(out, components, kept, regions, sources);
+            Ok(put_rows(out, at, asked, inputs))
+        }
     }
-    let at = put_blocks(out, components, kept, regions, sources);
-    Ok(put_rows(out, at, keys, scene, fed, labels, upstream, inputs))
 }
 
 // ---- the rows of a scene
 
 // Prints what the analysis of the kept connections gave: `regions`, `sources` and `inputs` are its rows.
 fn print_analysis(
-    keys: &[u64],
-    scene: &[i64],
-    ports: &[i64],
+    asked: &Asked,
     nets: &[u64],
     fragments: &[u64],
-    fed: &[u64],
-    labels: &[usize],
-    upstream: &[u64],
     regions: &[u64],
     sources: &[u64],
     inputs: &[u64],
     found: Analysis,
     out: &mut [u8],
 ) -> Result<usize, Refusal>
-    requires { (ps fs : List ℤ) × (Accepts scene.now ps fs keys.now × (Gathered scene.now ps ports.now nets.now fragments.now ×
-        (Analyzed scene.now ports.now fs regions.now sources.now inputs.now found × Ready scene.now ports.now fs fed.now labels.now upstream.now))) }
-    ensures { (ps fs : List ℤ) → Accepts scene.now ps fs keys.now →
-        Gathered scene.now ps ports.now nets.now fragments.now →
-        Analyzed scene.now ports.now fs regions.now sources.now inputs.now found →
-        Ready scene.now ports.now fs fed.now labels.now upstream.now →
-        PrintedBy (fits (report_of scene.now ps fs) (length out.old)) (report_of scene.now ps fs) out.old out.new result }
+    requires gathered { let p = asked.now.plot in (ps : List ℤ) × Gathered p.components.now ps p.ports.now nets.now fragments.now }
+    requires analyzed { let p = asked.now.plot in
+        Analyzed p.components.now p.ports.now p.frontiers.now regions.now sources.now inputs.now found }
+    ensures { let p = asked.now.plot in
+        (ps : List ℤ) → Gathered p.components.now ps p.ports.now nets.now fragments.now →
+        PrintedBy (fits (report_of p.components.now ps p.frontiers.now) (length out.old)) (report_of p.components.now ps p.frontiers.now)
+        out.old out.new result }
 {
-    let n = keys.len();
+    let plot = asked.plot;
+    let n = plot.keys.len();
     let count = found.regions;
-    let drive = found.drive;
-    let potential = found.potential;
-    let cyclic = found.cyclic;
-    let has_drive = found.has_drive;
     let mut components = [0u64; COMPONENT_ROWS];
     let mut kept = [0u64; KEPT_ROWS];
     let mut marks = [0u64; REGION_ROWS];
     fill_components(
-        scene,
-        keys,
+        plot.components,
+        plot.keys,
         nets,
         fragments,
         regions,
-        drive,
-        potential,
+        found.drive,
+        found.potential,
         &mut components,
     );
-    fill_connections(ports, &mut kept);
-    fill_regions(count, cyclic, has_drive, &mut marks);
+    fill_connections(plot.ports, &mut kept);
+    fill_regions(count, found.cyclic, found.has_drive, &mut marks);
     print_rows(
-        keys,
-        scene,
-        fed,
-        labels,
-        upstream,
+        asked,
         &components[..6 * n],
-        &kept[..ports.len()],
+        &kept[..plot.ports.len()],
         &marks[..2 * count],
         sources,
         inputs,
@@ -177,12 +157,7 @@ fn print_analysis(
 // Makes the scene of the kept connections ready to be asked, and prints what their analysis gave. The rows of the report are filled only
 // after that, so that the two have no arrays at the same time.
 fn print_ready(
-    keys: &[u64],
-    scene: &[i64],
-    ports: &[i64],
-    frontiers: &[i64],
-    source_at: &[usize],
-    sink_at: &[usize],
+    plot: &Plot,
     nets: &[u64],
     fragments: &[u64],
     regions: &[u64],
@@ -192,45 +167,29 @@ fn print_ready(
     stack: &mut [usize],
     out: &mut [u8],
 ) -> Result<usize, Refusal>
-    requires accepts { (ps : List ℤ) × (Accepts scene.now ps frontiers.now keys.now × Gathered scene.now ps ports.now nets.now fragments.now) }
-    requires settled_ends { SettledEnds scene.now ports.now source_at.now sink_at.now }
-    requires analyzed { Analyzed scene.now ports.now frontiers.now regions.now sources.now inputs.now found }
-    requires scene_in_bounds { 2 * component_count scene.now ≤ length stack.old }
-    ensures { (ps : List ℤ) → Accepts scene.now ps frontiers.now keys.now →
-        Gathered scene.now ps ports.now nets.now fragments.now →
-        PrintedBy (fits (report_of scene.now ps frontiers.now) (length out.old)) (report_of scene.now ps frontiers.now) out.old out.new result }
+    requires gathered { let p = plot.now in (ps : List ℤ) × Gathered p.components.now ps p.ports.now nets.now fragments.now }
+    requires analyzed { let p = plot.now in
+        Analyzed p.components.now p.ports.now p.frontiers.now regions.now sources.now inputs.now found }
+    requires stack_room { 2 * component_count plot.now.components.now ≤ length stack.old }
+    ensures { let p = plot.now in
+        (ps : List ℤ) → Gathered p.components.now ps p.ports.now nets.now fragments.now →
+        PrintedBy (fits (report_of p.components.now ps p.frontiers.now) (length out.old)) (report_of p.components.now ps p.frontiers.now)
+        out.old out.new result }
 {
-    let n = keys.len();
-    let m = ports.len() / PORT;
+    let n = plot.keys.len();
+    let m = plot.ports.len() / PORT;
     let mut fed = [0u64; CONNECTIONS];
     let mut labels = [0usize; COMPONENTS];
     let mut upstream = [0u64; TABLE];
-    make_ready(
-        keys,
-        scene,
-        ports,
-        frontiers,
-        source_at,
-        sink_at,
-        &mut fed[..m],
-        &mut labels[..n],
-        &mut upstream,
-        stack,
-    );
+    make_ready(plot, &mut fed[..m], &mut labels[..n], &mut upstream, stack);
+    let asked = Asked {
+        plot: *plot,
+        fed: &fed[..m],
+        labels: &labels[..n],
+        upstream: &upstream,
+    };
     print_analysis(
-        keys,
-        scene,
-        ports,
-        nets,
-        fragments,
-        &fed[..m],
-        &labels[..n],
-        &upstream,
-        regions,
-        sources,
-        inputs,
-        found,
-        out,
+        &asked, nets, fragments, regions, sources, inputs, found, out,
     )
 }
 
@@ -247,7 +206,8 @@ fn print_kept(
     requires { (ps : List ℤ) × (Accepts scene.now ps frontiers.now keys.now × Gathered scene.now ps ports.now nets.now fragments.now) }
     ensures { (ps : List ℤ) → Accepts scene.now ps frontiers.now keys.now →
         Gathered scene.now ps ports.now nets.now fragments.now →
-        PrintedBy (fits (report_of scene.now ps frontiers.now) (length out.old)) (report_of scene.now ps frontiers.now) out.old out.new result }
+        PrintedBy (fits (report_of scene.now ps frontiers.now) (length out.old)) (report_of scene.now ps frontiers.now)
+        out.old out.new result }
 {
     let mut source_at = [0usize; CONNECTIONS];
     let mut sink_at = [0usize; CONNECTIONS];
@@ -256,32 +216,22 @@ fn print_kept(
     let mut inputs = [0u64; INPUT_ROWS];
     let mut stack = [0usize; STACK];
     settle_ends(keys, ports, &mut source_at, &mut sink_at);
-    let found = analyze(
+    let plot = Plot {
         keys,
-        scene,
+        components: scene,
         ports,
         frontiers,
-        &source_at,
-        &sink_at,
-        &mut regions,
-        &mut sources,
-        &mut inputs,
-        &mut stack,
-    );
-    let source_count = found.sources;
-    let input_count = found.inputs;
+        source_at: &source_at,
+        sink_at: &sink_at,
+    };
+    let found = analyze(&plot, &mut regions, &mut sources, &mut inputs, &mut stack);
     print_ready(
-        keys,
-        scene,
-        ports,
-        frontiers,
-        &source_at,
-        &sink_at,
+        &plot,
         nets,
         fragments,
         &regions,
-        &sources[..source_count * 2],
-        &inputs[..input_count * 3],
+        &sources[..found.sources * 2],
+        &inputs[..found.inputs * 3],
         found,
         &mut stack,
         out,
@@ -297,7 +247,8 @@ fn print_scene(
     out: &mut [u8],
 ) -> Result<usize, Refusal>
     requires { Accepts scene.now connections.now frontiers.now keys.now }
-    ensures { PrintedBy (fits (report_of scene.now connections.now frontiers.now) (length out.old)) (report_of scene.now connections.now frontiers.now) out.old out.new result }
+    ensures { let text = report_of scene.now connections.now frontiers.now in
+        PrintedBy (fits text (length out.old)) text out.old out.new result }
 {
     let mut nets = [0u64; COMPONENTS];
     let mut fragments = [0u64; COMPONENTS];
@@ -322,13 +273,11 @@ pub(crate) fn print_lists(
     frontiers: &[i64],
     out: &mut [u8],
 ) -> Result<usize, Refusal>
-    ensures { PrintedBy (lists_checked components.now connections.now frontiers.now (length out.old)) (report_of components.now connections.now frontiers.now) out.old out.new result }
+    ensures { PrintedBy (lists_checked components.now connections.now frontiers.now (length out.old))
+        (report_of components.now connections.now frontiers.now) out.old out.new result }
 {
     let mut keys = [0u64; COMPONENTS];
     let count = components.len() / COMPONENT;
-    let checked = grouping_lists(components, connections, frontiers, true, &mut keys);
-    match checked {
-        Err(refusal) => Err(refusal),
-        Ok(()) => print_scene(&keys[..count], components, connections, frontiers, out),
-    }
+    grouping_lists(components, connections, frontiers, true, &mut keys)?;
+    print_scene(&keys[..count], components, connections, frontiers, out)
 }

@@ -7,7 +7,7 @@ use lib.ListN.{length}
 use Rattle.lists.specs.Ids.{smaller_ids}
 use Rattle.lists.proofs.Search.{record_within}
 use Rattle.lists.proofs.Fields.{first_non_neg, first_most}
-use Rattle.assessment.proofs.Devices.{below_none, below_more, below_all}
+use Rattle.assessment.proofs.Devices.{below_none, below_more}
 use Rattle.report.specs.Report.{all_rows}
 use Rattle.report.specs.Printing.{component_row_by}
 use Rattle.report.proofs.RowText.{row_read, flag_read}
@@ -21,9 +21,6 @@ pub loop-p-init : goal.loop-p-init
 unfolding all_rows
 loop-p-init c = below_none _ (λ p. []) 6 6 _ _ refl
 
-pub overflow_mul-p : goal.overflow_mul-p
-overflow_mul-p c = omega (arith, within c)
-
 pub natural_at-id-requires : goal.natural_at-id-requires
 natural_at-id-requires c =
     (omega (arith, within c), first_non_neg c.requires.components.0 c.loop-p.p c.loop-p-test.true (omega arith) refl)
@@ -32,20 +29,6 @@ pub member_of-m-requires : goal.member_of-m-requires
 member_of-m-requires c =
     let most = first_most c.requires.components.0 c.loop-p.p c.loop-p-test.true (omega arith) 4294967295 refl refl in
     omega (arith, c.natural_at-id.ensures, most)
-
-pub bounds-nets-p : goal.bounds-nets-p
-bounds-nets-p c = omega (arith, c.requires.components_in_bounds.0, c.loop-p-test.true)
-
-pub bounds-fragments-p : goal.bounds-fragments-p
-bounds-fragments-p c = omega (arith, c.requires.components_in_bounds.1.0, c.loop-p-test.true)
-
-pub bounds-regions-p : goal.bounds-regions-p
-bounds-regions-p c = omega (arith, c.requires.components_in_bounds.1.1, c.loop-p-test.true)
-
-pub put_row-at-requires : goal.put_row-at-requires
-put_row-at-requires c =
-    let v = c.loop-p.invariant in
-    omega (arith, v.put.place, v.few, v.long, c.loop-p-test.true, c.requires.components_in_bounds_2)
 
 pub loop-p-preserved : goal.loop-p-preserved
 unfolding all_rows
@@ -57,18 +40,7 @@ loop-p-preserved c =
     let m = c.member_of-m.ensures cs c.requires.components.1 ∙ ap (smaller_ids cs) id in
     below_more _ row 6 6 _ _ (λ k. refl) c.loop-p-test.true c.loop-p.invariant (record { turns = 1; whole = refl; few = omega arith })
     (row_read id
-    (flag_read c.args.drive.words c.flag-driven.ensures c.contains.ensures m)
-    (flag_read c.args.potential.words c.flag-potent.ensures c.contains-in-loop-p.ensures m)
+    (flag_read c.args.drive.words c.from-driven.ensures c.contains.ensures m)
+    (flag_read c.args.potential.words c.from-potent.ensures c.contains-in-loop-p.ensures m)
     c.put_row-at.ensures)
     c.put_row-at.auto.rows
-
-pub shape_of-rows : goal.shape_of-rows
-shape_of-rows c = c.loop-p.invariant.long
-
-pub returns : goal.returns
-returns c =
-    let v = c.loop-p.invariant in
-    let a = c.args in
-    let row : ℕ → List ℕ =
-    component_row_by a.components.now a.nets.now a.fragments.now a.regions.now a.drive.words a.potential.words in
-    (below_all _ row 6 6 _ _ {r = v.turns} c.loop-p-test.false v (omega (arith, v.put.place, v.whole))).is

@@ -1,6 +1,5 @@
 -- `report::fill::fill_components` meets its contract: before component p the rows of those before it stand at the front.
 -- Assumes nothing.
-use Prim.Native.Nat.{◌-◌}
 use Rattle.assessment.proofs.Devices.{RowsPut}
 use Rattle.report.specs.Report.{all_rows}
 use Rattle.report.specs.Printing.{component_row_by}
@@ -8,7 +7,4 @@ use Rattle.report.proofs.fill.fill_components.Given as goal
 
 abbrev pub invariant-loop-p : goal.invariant-loop-p
 invariant-loop-p l =
-    RowsPut (all_rows (component_row_by l.components l.nets l.fragments l.regions l.drive.words l.potential.words)) 6 6 l.count l.initial.rows l.rows l.at l.p
-
-abbrev pub decreases-loop-p : goal.decreases-loop-p
-decreases-loop-p l = l.count - l.p
+    RowsPut (all_rows (component_row_by l.components l.nets l.fragments l.regions l.drive.words l.potential.words)) 6 6 l.p-end l.initial.rows l.rows l.at l.p

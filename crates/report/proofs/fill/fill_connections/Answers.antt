@@ -1,12 +1,12 @@
 -- Answers for the goals that the search leaves.
-use mathlib.Core.Path.{◌≡◌, refl, ap, ◌∙◌}
+use mathlib.Core.Path.{◌≡◌, ap, ◌∙◌}
 use mathlib.Core.List.{List, map}
 use Prim.Native.Nat.{ℕ, ◌+◌, ◌<◌}
 use native.Mathlib.Numerals.{add-one}
 use native.Mathlib.Omega.{arith}
 use lib.IntN.{ℤ, pos}
-use lib.ListN.{length, get_or, set, take, length-set, length-map}
-use lib.Seq.{take-suc, take_all, length-take-le}
+use lib.ListN.{length, get_or, set, take, length-map}
+use lib.Seq.{take-suc, length-take-le}
 use Rattle.lists.specs.Slices.{laid}
 use Rattle.lines.proofs.Writing.{laid_snoc}
 use Rattle.report.proofs.RowText.{natural_in, natural_is}
@@ -20,35 +20,14 @@ one_more ns old {rows} {i} {v} h l e r =
     let long : length (take i ns) ≡ i = length-take-le i ns (omega arith) in
     rw (r, e, add-one i, take-suc ns i 0 h) (laid_snoc (take i ns) old (get_or ns i 0) i long l)
 
-pub loop-i-init : goal.loop-i-init
-loop-i-init c = (omega arith, refl, λ ns e. refl)
-
 pub natural_at-requires : goal.natural_at-requires
 natural_at-requires c =
     let (ns, e) = c.requires.0 in
     (c.loop-i-test.true, natural_in ns e c.loop-i.i)
 
-pub bounds-rows-i : goal.bounds-rows-i
-bounds-rows-i c =
-    let v = c.loop-i.invariant in
-    omega (arith, v.1, c.loop-i-test.true, c.requires.1)
-
 pub loop-i-preserved : goal.loop-i-preserved
-loop-i-preserved c =
+loop-i-preserved c ns e =
     let l = c.loop-i in
-    let t = c.loop-i-test.true in (
-      omega (arith, t),
-      simp length-set l.invariant.1,
-      λ ns e.
-          one_more ns c.args.rows.now (omega (arith, t, as_long ns e)) (omega (arith, t, c.requires.1))
-          (c.natural_at.ensures ∙ natural_is ns e l.i) (l.invariant.2 ns e),
-    )
-
-pub shape_of-rows : goal.shape_of-rows
-shape_of-rows c = c.loop-i.invariant.1
-
-pub returns : goal.returns
-returns c =
-    λ ns e.
-    let l = c.loop-i in
-    l.invariant.2 ns e ∙ ap (λ (xs : List ℕ). laid xs c.args.rows.now) (take_all l.i ns (omega (arith, c.loop-i-test.false, as_long ns e)))
+    let t = c.loop-i-test.true in
+    one_more ns c.args.rows.now (omega (arith, t, as_long ns e)) (omega (arith, t, c.requires.1))
+    (c.natural_at.ensures ∙ natural_is ns e l.i) (l.invariant ns e)

@@ -2,15 +2,11 @@
 -- Assumes nothing.
 use mathlib.Core.Path.{◌≡◌}
 use mathlib.Core.List.{List, map}
-use Prim.Native.Nat.{ℕ, ◌-◌, ◌≤◌}
+use Prim.Native.Nat.{ℕ}
 use lib.IntN.{pos}
-use lib.ListN.{length, take}
+use lib.ListN.{take}
 use Rattle.lists.specs.Slices.{laid}
 use Rattle.report.proofs.fill.fill_connections.Given as goal
 
 abbrev pub invariant-loop-i : goal.invariant-loop-i
-invariant-loop-i l =
-    (l.i ≤ length l.ports) × (length l.rows ≡ length l.initial.rows) × ((ns : List ℕ) → l.ports ≡ map pos ns → l.rows ≡ laid (take l.i ns) l.initial.rows)
-
-abbrev pub decreases-loop-i : goal.decreases-loop-i
-decreases-loop-i l = length l.ports - l.i
+invariant-loop-i l = (ns : List ℕ) → l.ports ≡ map pos ns → l.rows ≡ laid (take l.i ns) l.initial.rows

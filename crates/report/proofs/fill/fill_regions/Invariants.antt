@@ -1,6 +1,5 @@
 -- `report::fill::fill_regions` meets its contract: before region r the rows of those before it stand at the front.
 -- Assumes nothing.
-use Prim.Native.Nat.{◌-◌}
 use Rattle.assessment.proofs.Devices.{RowsPut}
 use Rattle.report.specs.Report.{all_rows}
 use Rattle.report.specs.Printing.{region_row_by}
@@ -8,6 +7,3 @@ use Rattle.report.proofs.fill.fill_regions.Given as goal
 
 abbrev pub invariant-loop-r : goal.invariant-loop-r
 invariant-loop-r l = RowsPut (all_rows (region_row_by l.cyclic.words l.has_drive.words)) 2 2 l.count l.initial.rows l.rows l.at l.r
-
-abbrev pub decreases-loop-r : goal.decreases-loop-r
-decreases-loop-r l = l.count - l.r

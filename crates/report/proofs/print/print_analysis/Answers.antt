@@ -7,28 +7,24 @@ use native.Mathlib.Omega.{arith}
 use lib.IntN.{ℤ, pos}
 use lib.ListN.{length, take, length-map}
 use lib.Seq.{length-take-le}
-use Rattle.lists.specs.Limits.{component_limit, connection_limit, port_width}
+use Rattle.lists.specs.Limits.{component_limit}
 use Rattle.lists.specs.Records.{component_count}
+use Rattle.lists.specs.Ids.{IdTable}
 use Rattle.lists.specs.Slices.{laid}
 use Rattle.lists.proofs.Table.{table_long}
 use Rattle.scene.specs.Kept.{kept_rows}
 use Rattle.liveness.specs.Scene.{Scene}
 use Rattle.liveness.specs.declared.Analysis.{Analysis}
 use Rattle.report.specs.Report.{all_rows}
-use Rattle.report.specs.Printing.{component_row_by, region_row_by, Accepts, Gathered, Analyzed}
+use Rattle.report.specs.Printing.{component_row_by, region_row_by, Analyzed}
 use Rattle.report.specs.Entry.{fits, PrintedBy}
 use Rattle.report.proofs.Scenes.{front_is, nets_long, fragments_long, regions_long, regions_few, kept_fit}
 use Rattle.report.proofs.Assembled.{component_count_lem, region_pairs, assembled}
 use Rattle.report.proofs.print.print_analysis.Goals as goal
 
 -- the rows that are printed are the fronts of the arrays
-components_inside : {cs ps kept fs : List ℤ} {keys : List ℕ} (rows : List ℕ) → Accepts cs ps fs keys → Scene cs kept
-    → length rows ≡ 6 * component_limit → 6 * length keys ≤ length rows
-components_inside rows a scene long = omega (arith, table_long a.table, scene.components.few, long)
-
-connections_inside : {cs ps kept : List ℤ} {nets fragments : List ℕ} (rows : List ℕ) → Gathered cs ps kept nets fragments → Scene cs kept
-    → length rows ≡ port_width * connection_limit → length kept ≤ length rows
-connections_inside rows g scene long = omega (arith, kept_fit g scene, long)
+components_inside : {cs ps : List ℤ} {keys : List ℕ} (rows : List ℕ) → Scene cs ps → IdTable cs keys → length rows ≡ 6 * component_limit → 6 * length keys ≤ length rows
+components_inside rows scene table long = omega (arith, table_long table, scene.components.few, long)
 
 regions_fit : {cs kept fs : List ℤ} {regions sources inputs : List ℕ} {r : Analysis}
     → Analyzed cs kept fs regions sources inputs r → Scene cs kept → 2 * r.regions ≤ 2 * component_limit
@@ -38,66 +34,44 @@ regions_inside : {cs kept fs : List ℤ} {regions sources inputs : List ℕ} {r 
     → Analyzed cs kept fs regions sources inputs r → Scene cs kept → length rows ≡ 2 * component_limit → 2 * r.regions ≤ length rows
 regions_inside rows a scene long = omega (arith, regions_fit a scene, long)
 
-pub fill_components-requires : goal.fill_components-requires
-fill_components-requires c =
-    let known = c.requires.2 in
-    let scene = known.1.1.1.fed_scene.scene in
-    record {
-      components = (scene.components, known.0.table);
-      components_in_bounds = (nets_long known.1.0, (fragments_long known.1.0, regions_long known.1.1.0));
-      components_in_bounds_2 = omega (arith, scene.components.few);
-    }
+pub fill_components-requires-clause-components_in_bounds : goal.fill_components-requires-clause-components_in_bounds
+fill_components-requires-clause-components_in_bounds c =
+    let g = c.requires.gathered.1 in (nets_long g, (fragments_long g, regions_long c.requires.analyzed))
 
 pub fill_connections-requires : goal.fill_connections-requires
 fill_connections-requires c =
-    let known = c.requires.2 in
-    ((kept_rows c.args.scene.now c.requires.0, known.1.0.kept_are), kept_fit known.1.0 known.1.1.1.fed_scene.scene)
+    let p = c.args.asked.now.plot in
+    let g = c.requires.gathered in
+    ((kept_rows p.components.now g.0, g.1.kept_are), kept_fit g.1 p.accepted.scene)
 
 pub fill_regions-requires : goal.fill_regions-requires
-fill_regions-requires c = let known = c.requires.2 in regions_fit known.1.1.0 known.1.1.1.fed_scene.scene
+fill_regions-requires c = regions_fit c.requires.analyzed c.args.asked.now.plot.accepted.scene
+
+pub overflow_mul-components : goal.overflow_mul-components
+overflow_mul-components c =
+    let accepted = c.args.asked.now.plot.accepted in omega (arith, table_long accepted.table, accepted.scene.components.few)
 
 pub slice_bounds-components-end : goal.slice_bounds-components-end
 slice_bounds-components-end c =
-    let known = c.requires.2 in
-    components_inside c.fill_components.new.rows known.0 known.1.1.1.fed_scene.scene c.fill_components.auto.rows
+    let accepted = c.args.asked.now.plot.accepted in
+    components_inside c.fill_components.new.rows accepted.scene accepted.table c.fill_components.auto.rows
 
 pub slice_bounds-print_rows-end : goal.slice_bounds-print_rows-end
 slice_bounds-print_rows-end c =
-    let known = c.requires.2 in
+    let accepted = c.args.asked.now.plot.accepted in
     let rows = c.fill_components.new.rows in
-    sym (length-take-le _ rows (components_inside rows known.0 known.1.1.1.fed_scene.scene c.fill_components.auto.rows))
-
-pub slice_bounds-kept-end : goal.slice_bounds-kept-end
-slice_bounds-kept-end c =
-    let known = c.requires.2 in
-    connections_inside c.fill_connections.new.rows known.1.0 known.1.1.1.fed_scene.scene c.fill_connections.auto.rows
-
-pub slice_bounds-print_rows-end-2 : goal.slice_bounds-print_rows-end-2
-slice_bounds-print_rows-end-2 c =
-    let known = c.requires.2 in
-    let rows = c.fill_connections.new.rows in
-    sym (length-take-le _ rows (connections_inside rows known.1.0 known.1.1.1.fed_scene.scene c.fill_connections.auto.rows))
+    sym (length-take-le _ rows (components_inside rows accepted.scene accepted.table c.fill_components.auto.rows))
 
 pub overflow_mul-marks : goal.overflow_mul-marks
-overflow_mul-marks c = let known = c.requires.2 in omega (arith, regions_fit known.1.1.0 known.1.1.1.fed_scene.scene)
+overflow_mul-marks c = omega (arith, regions_fit c.requires.analyzed c.args.asked.now.plot.accepted.scene)
 
 pub slice_bounds-marks-end : goal.slice_bounds-marks-end
-slice_bounds-marks-end c =
-    let known = c.requires.2 in
-    regions_inside c.fill_regions.new.rows known.1.1.0 known.1.1.1.fed_scene.scene c.fill_regions.auto.rows
+slice_bounds-marks-end c = regions_inside c.fill_regions.new.rows c.requires.analyzed c.args.asked.now.plot.accepted.scene c.fill_regions.auto.rows
 
 pub slice_bounds-print_rows-end-3 : goal.slice_bounds-print_rows-end-3
 slice_bounds-print_rows-end-3 c =
-    let known = c.requires.2 in
     let rows = c.fill_regions.new.rows in
-    sym (length-take-le _ rows (regions_inside rows known.1.1.0 known.1.1.1.fed_scene.scene c.fill_regions.auto.rows))
-
-pub print_rows-requires : goal.print_rows-requires
-print_rows-requires c =
-    record {
-      id_table = c.requires.2.0.table;
-      ready = (c.args.ports.now, c.requires.1, c.requires.2.1.1.1);
-    }
+    sym (length-take-le _ rows (regions_inside rows c.requires.analyzed c.args.asked.now.plot.accepted.scene c.fill_regions.auto.rows))
 
 components_are : (cs : List ℤ) (nets fragments regions drive potential keys old : List ℕ) {rows : List ℕ} → length keys ≡ component_count cs
     → let all = all_rows (component_row_by cs nets fragments regions drive potential) (component_count cs) in
@@ -111,17 +85,18 @@ regions_are : (cyclic drive : List ℕ) (n : ℕ) (old : List ℕ) {rows : List 
 regions_are cyclic drive n old e = front_is (all_rows (region_row_by cyclic drive) n) old e (2 * n) (sym (region_pairs cyclic drive n))
 
 pub returns : goal.returns
-returns c ps fs accepted groups found ready =
+returns c ps groups =
     let called = c.print_rows in
     let a = c.args in
-    let rows = kept_rows a.scene.now ps in
+    let p = a.asked.now.plot in
+    let rows = kept_rows p.components.now ps in
     let f = a.found in
-    let many = table_long accepted.table in
-    let components-are = components_are a.scene.now a.nets.now a.fragments.now a.regions.now f.drive.words f.potential.words _ _ many
+    let many = table_long p.accepted.table in
+    let components-are = components_are p.components.now a.nets.now a.fragments.now a.regions.now f.drive.words f.potential.words _ _ many
     c.fill_components.ensures in
-    let connections-are : take (length a.ports.now) c.fill_connections.new.rows ≡ rows =
+    let connections-are : take (length p.ports.now) c.fill_connections.new.rows ≡ rows =
     front_is rows _ (c.fill_connections.ensures rows groups.kept_are) _ (ap length groups.kept_are ∙ length-map rows pos) in
     let regions-are = regions_are f.cyclic.words f.has_drive.words f.regions _ c.fill_regions.ensures in
     subst (λ (t : List ℕ). PrintedBy (fits t (length a.out.now)) t a.out.now called.new.out called.result)
-    (assembled a.scene.now ps fs ready.fed_scene.scene.distinct groups found components-are connections-are regions-are)
-    (called.ensures a.ports.now fs ready)
+    (assembled p.components.now ps p.frontiers.now p.accepted.scene.distinct groups c.requires.analyzed components-are connections-are regions-are)
+    called.ensures

@@ -29,23 +29,24 @@ settle_ends-requires c =
       ports_in_bounds = (connections.few, connections.few);
     }
 
-pub analyze-found-requires : goal.analyze-found-requires
-analyze-found-requires c =
-    let scene = scene_of c.requires.1.0 c.requires.1.1 in
-    let few = scene.components.few in
+pub invariant_of-plot : goal.invariant_of-plot
+invariant_of-plot c =
     let table = c.requires.1.0.table in
     record {
-      scene = (scene, (table, c.settle_ends.ensures c.args.scene.now table));
-      rows_room = record { regions_room = omega arith; sources_room = omega arith; inputs_room = omega arith; stack_room = omega arith };
+      accepted = record {
+        scene = scene_of c.requires.1.0 c.requires.1.1;
+        table = table;
+        ends = c.settle_ends.ensures c.args.scene.now table;
+      };
     }
 
 module _ {cs ps fs : List ℤ} {regions regions' sources sources' inputs inputs' stack stack' : List ℕ} {r : Analysis}
-    (a : AnalyzedBy (Ok tt) cs ps fs regions regions' sources sources' inputs inputs' stack stack' r) where
+    (a : AnalyzedBy (Ok tt) cs ps fs regions regions' sources sources' inputs inputs' stack stack' (Ok r)) where
   sources_inside : r.sources * 2 ≤ length sources'
-  sources_inside = omega (arith, a.source_count, front_long (source_rows cs ps fs) sources a.sources_left)
+  sources_inside = omega (arith, a.analysis.source_count, front_long (source_rows cs ps fs) sources a.sources_left)
 
   inputs_inside : r.inputs * 3 ≤ length inputs'
-  inputs_inside = omega (arith, a.input_count, front_long (input_rows cs ps fs) inputs a.inputs_left)
+  inputs_inside = omega (arith, a.analysis.input_count, front_long (input_rows cs ps fs) inputs a.inputs_left)
 
 pub overflow_mul-sources : goal.overflow_mul-sources
 overflow_mul-sources c = omega (arith, sources_inside c.analyze-found.ensures, c.analyze-found.auto.sources)
@@ -53,8 +54,8 @@ overflow_mul-sources c = omega (arith, sources_inside c.analyze-found.ensures, c
 pub slice_bounds-sources-end : goal.slice_bounds-sources-end
 slice_bounds-sources-end c = sources_inside c.analyze-found.ensures
 
-pub slice_bounds-print_ready-end-4 : goal.slice_bounds-print_ready-end-4
-slice_bounds-print_ready-end-4 c = sym (length-take-le _ c.analyze-found.new.sources (sources_inside c.analyze-found.ensures))
+pub slice_bounds-print_ready-end-2 : goal.slice_bounds-print_ready-end-2
+slice_bounds-print_ready-end-2 c = sym (length-take-le _ c.analyze-found.new.sources (sources_inside c.analyze-found.ensures))
 
 pub overflow_mul-inputs : goal.overflow_mul-inputs
 overflow_mul-inputs c = omega (arith, inputs_inside c.analyze-found.ensures, c.analyze-found.auto.inputs)
@@ -62,15 +63,17 @@ overflow_mul-inputs c = omega (arith, inputs_inside c.analyze-found.ensures, c.a
 pub slice_bounds-inputs-end : goal.slice_bounds-inputs-end
 slice_bounds-inputs-end c = inputs_inside c.analyze-found.ensures
 
-pub slice_bounds-print_ready-end-5 : goal.slice_bounds-print_ready-end-5
-slice_bounds-print_ready-end-5 c = sym (length-take-le _ c.analyze-found.new.inputs (inputs_inside c.analyze-found.ensures))
+pub slice_bounds-print_ready-end-3 : goal.slice_bounds-print_ready-end-3
+slice_bounds-print_ready-end-3 c = sym (length-take-le _ c.analyze-found.new.inputs (inputs_inside c.analyze-found.ensures))
 
 pub print_ready-requires : goal.print_ready-requires
 print_ready-requires c =
     let few = (scene_of c.requires.1.0 c.requires.1.1).components.few in
     record {
-      accepts = c.requires;
-      settled_ends = c.settle_ends.ensures c.args.scene.now c.requires.1.0.table;
+      gathered = (c.requires.0, c.requires.1.1);
       analyzed = analyzed c.analyze-found.ensures;
-      scene_in_bounds = omega (arith, few, c.analyze-found.auto.stack);
+      stack_room = omega (arith, few, c.analyze-found.auto.stack);
     }
+
+pub returns : goal.returns
+returns c ps accepts gathered = c.print_ready.ensures ps gathered

@@ -24,29 +24,13 @@ few cs ps fs keys accepted long =
 pub slice_bounds-keys-end : goal.slice_bounds-keys-end
 slice_bounds-keys-end c =
     let a = c.args in
-    let checks = c.grouping_lists-checked in
-    few a.components.now a.connections.now a.frontiers.now checks.new.keys (sym checks.ensures.answer ∙ c.in-Ok.is) checks.auto.keys
+    let checks = c.grouping_lists in
+    few a.components.now a.connections.now a.frontiers.now checks.new.keys (sym checks.ensures.answer ∙ c.in_ok-grouping_lists.was) checks.auto.keys
 
 pub slice_bounds-print_scene-end : goal.slice_bounds-print_scene-end
 slice_bounds-print_scene-end c =
     let a = c.args in
-    let checks = c.grouping_lists-checked in
-    let accepted = sym checks.ensures.answer ∙ c.in-Ok.is in
+    let checks = c.grouping_lists in
+    let accepted = sym checks.ensures.answer ∙ c.in_ok-grouping_lists.was in
     sym (length-take-le _ checks.new.keys
     (few a.components.now a.connections.now a.frontiers.now checks.new.keys accepted checks.auto.keys))
-
-pub print_scene-requires : goal.print_scene-requires
-print_scene-requires c =
-    let checks = c.grouping_lists-checked in
-    record { accepted = sym checks.ensures.answer ∙ c.in-Ok.is; table = checks.ensures.table c.in-Ok.is }
-
-pub returns-in-Err : goal.returns-in-Err
-returns-in-Err c =
-    let e = sym c.grouping_lists-checked.ensures.answer ∙ c.in-Err.is in
-    record { answer = rw e; numbers = rw e; left = rw e }
-
-pub returns-in-Ok : goal.returns-in-Ok
-returns-in-Ok c =
-    let e = sym c.grouping_lists-checked.ensures.answer ∙ c.in-Ok.is in
-    let p = c.print_scene.ensures in
-    record { answer = rw e p.answer; numbers = rw e p.numbers; left = rw e p.left }

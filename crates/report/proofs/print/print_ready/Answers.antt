@@ -1,6 +1,7 @@
 -- `report::print::print_ready` meets its contract: the scene is made ready in local arrays, then what its analysis gave is printed.
 -- Assumes nothing.
-use mathlib.Core.Path.{◌≡◌, sym, subst, ◌∙◌}
+use Rattle.std.proofs.lemmas.Grind.{merely}
+use mathlib.Core.Path.{◌≡◌, sym, ◌∙◌}
 use mathlib.Core.List.{List, ◌++◌}
 use Prim.Native.Nat.{ℕ, ◌≤◌}
 use native.Mathlib.Omega.{arith}
@@ -13,36 +14,25 @@ use Rattle.lists.specs.Records.{port_count}
 use Rattle.lists.proofs.Table.{table_long}
 use Rattle.assessment.specs.Upstream.{table_words}
 use Rattle.signals.proofs.Lent.{front, front_long, front_length}
-use Rattle.liveness.specs.Scene.{Scene}
+use Rattle.liveness.specs.Scene.{Accepted}
 use Rattle.inputs.specs.Inputs.{Ready}
 use Rattle.inputs.proofs.Asking.{ready_as}
-use Rattle.report.specs.Printing.{Accepts, Gathered}
-use Rattle.report.proofs.Scenes.{kept_scene}
 use Rattle.report.proofs.print.print_ready.Goals as goal
 
-scene_of : {cs ps kept fs : List ℤ} {keys nets fragments : List ℕ}
-    → Accepts cs ps fs keys → Gathered cs ps kept nets fragments → Scene cs kept
-scene_of {cs} {ps} {fs = fs} a g = subst (Scene cs) (sym g.kept_are) (kept_scene cs ps fs a.accepted)
-
-nodes_few : {cs ps kept fs : List ℤ} {keys nets fragments : List ℕ}
-    → Accepts cs ps fs keys → Gathered cs ps kept nets fragments → length keys ≤ component_limit
-nodes_few a g = omega (arith, table_long a.table, (scene_of a g).components.few)
+few : {cs ps : List ℤ} {keys sources sinks : List ℕ} → Accepted cs ps keys sources sinks → length keys ≤ component_limit
+few a = omega (arith, table_long a.table, a.scene.components.few)
 
 -- the fronts that are lent
 lent : {A : Type 0} (n limit : ℕ) (zero : A) → n ≤ limit → length (take n (replicate limit zero)) ≡ n
 lent n limit zero h = length-take-le n (replicate limit zero) (omega (arith, h, length-replicate limit zero))
 
-pub make_ready-requires : goal.make_ready-requires
-make_ready-requires c =
-    let known = c.requires.accepts.1 in
-    let scene = scene_of known.0 known.1 in
-    let fed_long = lent (port_count c.args.ports.now) connection_limit 0 scene.connections.few in
-    let labels_long = lent (length c.args.keys.now) component_limit 0 (nodes_few known.0 known.1) ∙ table_long known.0.table in
-    record {
-      scene = (scene, (known.0.table, c.requires.settled_ends));
-      fed_len = (fed_long, (labels_long, c.requires.scene_in_bounds));
-      upstream_len = (length-replicate {A = ℕ} table_words 0, get_or_zeros table_words);
-    }
+pub make_ready-requires-clause-labels_len : goal.make_ready-requires-clause-labels_len
+make_ready-requires-clause-labels_len c =
+    let accepted = c.args.plot.now.accepted in
+    (lent (length c.args.plot.now.keys.now) component_limit 0 (few accepted) ∙ table_long accepted.table, c.requires.stack_room)
+
+pub make_ready-requires-clause-upstream : goal.make_ready-requires-clause-upstream
+make_ready-requires-clause-upstream c = get_or_zeros table_words
 
 -- what came back stands at the fronts
 module _ {cs ps fs : List ℤ} {fed labels upstream : List ℕ} (m n : ℕ) (fed_rest labels_rest : List ℕ) where
@@ -50,73 +40,32 @@ module _ {cs ps fs : List ℤ} {fed labels upstream : List ℕ} (m n : ℕ) (fed
       → Ready cs ps fs (take m (fed ++ fed_rest)) (take n (labels ++ labels_rest)) upstream
   is_ready e f ready = ready_as (front m fed fed_rest e) (front n labels labels_rest f) ready
 
-pub print_analysis-requires : goal.print_analysis-requires
-print_analysis-requires c =
-    let known = c.requires.accepts in
+pub invariant_of-asked : goal.invariant_of-asked
+invariant_of-asked c =
+    let p = c.args.plot.now in
     let made = c.make_ready in
-    let m = port_count c.args.ports.now in
-    let n = length c.args.keys.now in
-    let fed_long = made.auto.fed ∙ lent m connection_limit 0 (scene_of known.1.0 known.1.1).connections.few in
-    let labels_long = made.auto.labels ∙ lent n component_limit 0 (nodes_few known.1.0 known.1.1) in
-    let fed_rest = drop m (replicate connection_limit 0) in
-    let labels_rest = drop n (replicate component_limit 0) in
-    let ready = is_ready m n fed_rest labels_rest fed_long labels_long made.ensures.0 in
-    (known.0, c.args.frontiers.now, (known.1.0, (known.1.1, (c.requires.analyzed, ready))))
-
-pub returns : goal.returns
-returns c ps accepts gathered =
-    let made = c.make_ready in
-    let m = port_count c.args.ports.now in
-    let n = length c.args.keys.now in
-    let fed_long = made.auto.fed ∙ lent m connection_limit 0 (scene_of accepts gathered).connections.few in
-    let labels_long = made.auto.labels ∙ lent n component_limit 0 (nodes_few accepts gathered) in
-    let fed_rest = drop m (replicate connection_limit 0) in
-    let labels_rest = drop n (replicate component_limit 0) in
-    let ready = is_ready m n fed_rest labels_rest fed_long labels_long made.ensures.0 in
-    c.print_analysis.ensures ps c.args.frontiers.now accepts gathered c.requires.analyzed ready
-
-pub slice_bounds-fed-end : goal.slice_bounds-fed-end
-slice_bounds-fed-end c = (scene_of c.requires.accepts.1.0 c.requires.accepts.1.1).connections.few
-
-pub slice_bounds-make_ready-end : goal.slice_bounds-make_ready-end
-slice_bounds-make_ready-end c =
-    sym (lent (port_count c.args.ports.now) connection_limit 0 (scene_of c.requires.accepts.1.0 c.requires.accepts.1.1).connections.few)
+    let m = port_count p.ports.now in
+    let n = length p.keys.now in
+    let fed_long = made.auto.fed ∙ lent m connection_limit 0 p.accepted.scene.connections.few in
+    let labels_long = made.auto.labels ∙ lent n component_limit 0 (few p.accepted) in
+    record {
+      ready = merely (is_ready m n (drop m (replicate connection_limit 0)) (drop n (replicate component_limit 0)) fed_long labels_long made.ensures.0);
+    }
 
 pub slice_bounds-labels-end : goal.slice_bounds-labels-end
-slice_bounds-labels-end c = nodes_few c.requires.accepts.1.0 c.requires.accepts.1.1
+slice_bounds-labels-end c = few c.args.plot.now.accepted
 
 pub slice_bounds-make_ready-end-2 : goal.slice_bounds-make_ready-end-2
-slice_bounds-make_ready-end-2 c =
-    sym (lent (length c.args.keys.now) component_limit 0 (nodes_few c.requires.accepts.1.0 c.requires.accepts.1.1))
-
-pub slice_bounds-fed-end-2 : goal.slice_bounds-fed-end-2
-slice_bounds-fed-end-2 c =
-    let known = c.requires.accepts.1 in
-    let m = port_count c.args.ports.now in
-    let fed_long = c.make_ready.auto.fed ∙ lent m connection_limit 0 (scene_of known.0 known.1).connections.few in
-    front_long m c.make_ready.new.fed (drop m (replicate connection_limit 0)) fed_long
-
-pub slice_bounds-print_analysis-end : goal.slice_bounds-print_analysis-end
-slice_bounds-print_analysis-end c =
-    let known = c.requires.accepts.1 in
-    let m = port_count c.args.ports.now in
-    let fed_long = c.make_ready.auto.fed ∙ lent m connection_limit 0 (scene_of known.0 known.1).connections.few in
-    front_length m c.make_ready.new.fed (drop m (replicate connection_limit 0)) fed_long
+slice_bounds-make_ready-end-2 c = sym (lent (length c.args.plot.now.keys.now) component_limit 0 (few c.args.plot.now.accepted))
 
 pub slice_bounds-labels-end-2 : goal.slice_bounds-labels-end-2
 slice_bounds-labels-end-2 c =
-    let n = length c.args.keys.now in
-    let labels_long = c.make_ready.auto.labels ∙ lent n component_limit 0 (nodes_few c.requires.accepts.1.0 c.requires.accepts.1.1) in
+    let n = length c.args.plot.now.keys.now in
+    let labels_long = c.make_ready.auto.labels ∙ lent n component_limit 0 (few c.args.plot.now.accepted) in
     front_long n c.make_ready.new.labels (drop n (replicate component_limit 0)) labels_long
 
-pub slice_bounds-print_analysis-end-2 : goal.slice_bounds-print_analysis-end-2
-slice_bounds-print_analysis-end-2 c =
-    let n = length c.args.keys.now in
-    let labels_long = c.make_ready.auto.labels ∙ lent n component_limit 0 (nodes_few c.requires.accepts.1.0 c.requires.accepts.1.1) in
+pub slice_bounds-asked-end-2 : goal.slice_bounds-asked-end-2
+slice_bounds-asked-end-2 c =
+    let n = length c.args.plot.now.keys.now in
+    let labels_long = c.make_ready.auto.labels ∙ lent n component_limit 0 (few c.args.plot.now.accepted) in
     front_length n c.make_ready.new.labels (drop n (replicate component_limit 0)) labels_long
-
-pub shape_of-stack : goal.shape_of-stack
-shape_of-stack c = c.make_ready.auto.stack
-
-pub shape_of-out : goal.shape_of-out
-shape_of-out c = c.print_analysis.auto.out

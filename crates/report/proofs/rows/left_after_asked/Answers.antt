@@ -1,5 +1,4 @@
--- `report::rows::left_after_asked` meets its contract: the sets that were asked for are those of the row's lines.
--- Assumes nothing.
+-- Answers for the goals that the search leaves.
 use mathlib.Core.Path.{ap, ◌∙◌}
 use mathlib.Core.List.{List}
 use Prim.Native.Nat.{ℕ}
@@ -10,20 +9,14 @@ use Rattle.blocks.specs.Blocks.{left_after}
 use Rattle.report.proofs.VerdictText.{asked_text_lem}
 use Rattle.report.proofs.rows.left_after_asked.Goals as goal
 
-pub asked_sources-found-requires : goal.asked_sources-found-requires
-asked_sources-found-requires c =
-    record {
-      id_table = c.requires.id_table;
-      ready = c.requires.ready;
-    }
-
 pub left_after_input-requires : goal.left_after_input-requires
 left_after_input-requires c =
-    omega (arith, table_long c.requires.id_table, c.requires.ready.2.fed_scene.scene.components.few)
+    let accepted = c.args.asked.now.plot.accepted in
+    omega (arith, table_long accepted.table, accepted.scene.components.few)
 
 pub returns : goal.returns
-returns c ps fs ready =
+returns c =
+    let accepted = c.args.asked.now.plot.accepted in
     c.left_after_input.ensures
     ∙ ap (λ (t : List ℕ). left_after c.args.left (length t))
-    (asked_text_lem c.args.device c.args.port c.args.status c.requires.id_table ready.fed_scene.scene.distinct
-    (c.asked_sources-found.ensures ps fs ready))
+    (asked_text_lem c.args.device c.args.port c.args.status accepted.table accepted.scene.distinct c.sources-found.ensures)
