@@ -64,3 +64,14 @@ impl Face {
         Face::try_from(number).unwrap_or(self)
     }
 }
+
+// The number of the face opposite, 0 where the number is no face's.
+#[tactic(auto, unfolding(crate::specs::Ports::opposite))]
+pub fn opposite_face(number: u64) -> u64
+    ensures { result ≡ opposite number }
+{
+    match Face::try_from(number) {
+        Ok(face) => face.opposite().number(),
+        Err(_) => 0,
+    }
+}

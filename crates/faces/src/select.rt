@@ -1,9 +1,8 @@
 // Which port a connection takes at an end.
 ghost use Rattle.std.specs.Prelude.{◌≡◌};
-ghost use Rattle.faces.specs.Codes.{face_code, port_code, ports_in};
+ghost use Rattle.faces.specs.Codes.{port_code, ports_in};
 ghost use Rattle.faces.specs.Select.{fits, serves, select_port, transfer_of};
 
-use super::face::Face;
 use super::ports::{Channel, PORTS, Port, Role};
 
 // ---- kinds of connection: numbers, as the lists that C hands over hold them
@@ -28,20 +27,21 @@ fn port_fits(port: Port, outgoing: bool, kind: u64) -> bool
     matches!(port.role, Role::Input | Role::Bidirectional | Role::Control)
 }
 
-fn port_serves(port: Port, face: Face, outgoing: bool, kind: u64) -> bool
-    ensures { result ≡ serves (port_code port) (face_code face) outgoing kind }
+fn port_serves(port: Port, face: u64, outgoing: bool, kind: u64) -> bool
+    ensures { result ≡ serves (port_code port) face outgoing kind }
 {
-    (port.face == face) & port_fits(port, outgoing, kind)
+    (port.face.number() == face) & port_fits(port, outgoing, kind)
 }
 
-// The first port that has the face and fits. No port stands past a place without one.
+// The first port that has the face of this number and fits, none where the number is no face's. No port stands past a place
+// without one.
 pub fn select_port(
     ports: [Option<Port>; PORTS],
-    face: Face,
+    face: u64,
     outgoing: bool,
     kind: u64,
 ) -> Option<usize>
-    ensures { result ≡ select_port (ports_in ports) (face_code face) outgoing kind }
+    ensures { result ≡ select_port (ports_in ports) face outgoing kind }
 {
     for i in 0..PORTS {
         let Some(port) = ports[i] else {

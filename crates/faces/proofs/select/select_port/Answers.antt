@@ -5,7 +5,7 @@ use Rattle.lists.specs.First.{first_from}
 use native.Mathlib.Omega.{arith}
 use lib.ListN.{length}
 use Rattle.lists.proofs.Search.{first_here, first_later, first_none}
-use Rattle.faces.specs.Codes.{face_code, ports_in}
+use Rattle.faces.specs.Codes.{ports_in}
 use Rattle.faces.specs.Select.{select_port}
 use Rattle.faces.proofs.Places.{at_place, past_ports, ports_long}
 use Rattle.faces.proofs.select.select_port.Invariants.{test}
@@ -14,14 +14,14 @@ use Rattle.faces.proofs.select.select_port.Goals.{After-port_serves}
 
 pub loop-i-init : goal.loop-i-init
 unfolding select_port
-loop-i-init c = record { passed = zero-le; left = ap (first_from (test c.args.ports (face_code c.args.face) c.args.outgoing c.args.kind) 0) (let all : length (ports_in c.args.ports) - 0 ≡ length (ports_in c.args.ports) = omega arith in all) }
+loop-i-init c = record { passed = zero-le; left = ap (first_from (test c.args.ports c.args.face c.args.outgoing c.args.kind) 0) (let all : length (ports_in c.args.ports) - 0 ≡ length (ports_in c.args.ports) = omega arith in all) }
 
 pub returns-in_default : goal.returns-in_default
 returns-in_default c = sym (first_none _ _ _ (past_ports c.args.ports c.loop-i.i c.loop-i.invariant.passed c.in_default.not-Some)) ∙ c.loop-i.invariant.left
 
 -- what the call says of the port at i
 tested : (c : After-port_serves)
-    → (c.loop-i.i < length (ports_in c.args.ports)) × (c.port_serves.result ≡ test c.args.ports (face_code c.args.face) c.args.outgoing c.args.kind c.loop-i.i)
+    → (c.loop-i.i < length (ports_in c.args.ports)) × (c.port_serves.result ≡ test c.args.ports c.args.face c.args.outgoing c.args.kind c.loop-i.i)
 tested c =
     let here = at_place c.args.ports c.loop-i.i c.in-Some.port c.loop-i.invariant.passed c.in-Some.is in
     (here.0, rw here.1 c.port_serves.ensures)
