@@ -198,13 +198,13 @@ impl Replay {
     }
 
     // A refusal is a difference: every recorded scene was accepted.
-    pub fn refuse(&mut self) {
+    pub(crate) fn refuse(&mut self) {
         self.tally = self.tally.counted(self.tally.at, 0, 1);
     }
 
     // Reads a list that a scene gives to the front of `out`, and answers how many numbers it has. Where there is none, that is a difference
     // and the list is empty.
-    pub fn read_given(&mut self, word: &[u8], out: &mut [i64]) -> usize
+    pub(crate) fn read_given(&mut self, word: &[u8], out: &mut [i64]) -> usize
         ensures { result ≤ length out.old }
     {
         let tally = self.tally;
@@ -221,7 +221,7 @@ impl Replay {
     }
 
     // The text from the tally's place on comes to the front, with more behind it.
-    pub fn go_on(&mut self) {
+    pub(crate) fn go_on(&mut self) {
         refill(&mut self.text, self.tally.at);
         self.tally = self.tally.counted(0, 0, 0);
     }

@@ -37,7 +37,7 @@ pub fn find_crossings<'a>(forward: &[u64], labels: &[usize], keys: &'a mut [u64]
     requires rows { Rows (length labels.now) forward.now
         × ((length forward.now ≤ length keys.old) × (length forward.now ≤ connection_limit)) }
     requires indices { Indices (length labels.now) component_limit labels.now }
-    ensures { FoundCrossings forward.now labels.now result.now }
+    ensures { FoundCrossings forward.now labels.now (length keys.old) result.now }
 {
     let mut listed = [0u64; CONNECTIONS];
     let mut ends = [0usize; COMPONENTS];

@@ -43,7 +43,8 @@ pub fn combine_flags<F: Fn(bool, bool) -> bool>(flags: &mut [bool], others: &[bo
 // The value of each index.
 pub fn spread<T: Copy>(index: &[usize], values: &[T], out: &mut [T])
     requires { Indices (length index.now) (length values.now) index.now × (length index.now ≤ length out.old) }
-    ensures { (p : ℕ) (d : T) → p < length index.now → get_or out.new p d ≡ get_or values.now (get_or index.now p 0) d }
+    ensures long { length index.now ≤ length out.new }
+    ensures values { (p : ℕ) (d : T) → p < length index.now → get_or out.new p d ≡ get_or values.now (get_or index.now p 0) d }
 {
     for (p, j) in index.iter().enumerate() {
         out[p] = values[*j];

@@ -26,6 +26,7 @@ returns c =
     let all : take (length listed) found ≡ found = take_all (length listed) found (omega (arith, length-take-le _ _ few)) in
     let laid : LaidByFirst listed found = rw all at c.lay_by_first.ensures in
     record {
+      few = omega (arith, c.lay_by_first.auto.out, length-take-le _ _ few);
       below = laid_below c.requires.rows.0 c.requires.indices pairs.ensures.pairs laid.rearranged;
       pairs = laid_crossings c.requires.rows.0 c.requires.indices pairs.ensures.pairs laid.rearranged laid.firsts;
     }

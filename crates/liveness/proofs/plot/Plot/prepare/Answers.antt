@@ -129,7 +129,7 @@ returns c =
         labels_are = regions.0;
         members_are = numbers;
         regions_are = labels_placed (cs s) numbers (ps s) (numbers_at c.place_members.new.members long regions.0 numbers.long
-            (omega (arith, room.regions_room, c.spread.auto.out)) c.spread.ensures);
+            (omega (arith, room.regions_room, c.spread.auto.out)) c.spread.ensures.values);
       };
       count = regions.1;
       stack_zeros = c.find_regions-count.ensures.stack_zeros;
