@@ -66,7 +66,7 @@ fn put_sets(
     encode_at(&has_drive.words, out, 3 * WORDS * NUMBER);
 }
 
-// Writes what was found of an accepted scene of so many components.
+// Writes what was found of an accepted scene of so many components: the rows lent have room for the most.
 fn write_answer(
     count: usize,
     analysis: Analysis,

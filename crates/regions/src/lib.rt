@@ -132,8 +132,8 @@ impl Graph<'_> {
         }
     }
 
-    // The region of `node`, if it has none yet: the nodes without a region that reach it get the number `count`.
-    // Answers the new number of regions.
+    // The region of `node`, if it has none yet: the nodes without a region that reach it get the number `count`, which is that of the regions
+    // so far and no length. Answers the new number of regions.
     fn label_from(
         self,
         node: usize,

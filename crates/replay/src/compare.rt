@@ -186,7 +186,7 @@ impl Replay {
         self.compare(word, &names[..n]);
     }
 
-    // Compares the list of a word with the flags of a set of numbers below a count.
+    // Compares the list of a word with the flags of a set of numbers below a count: a set has no length.
     pub fn compare_flags(&mut self, word: &[u8], set: ComponentSet, count: usize)
         ensures tally { self.new.tally ≡ compared eq_n 4096 (length self.old.text)
             (read_list word.now (drop self.old.tally.at self.old.text))

@@ -56,7 +56,7 @@ pub fn fill_components(
     }
 }
 
-// Fills the rows of the regions, in number order, given two sets of regions.
+// Fills the rows of so many regions, in number order, given two sets of regions, which have no length.
 pub fn fill_regions(count: usize, cyclic: ComponentSet, has_drive: ComponentSet, rows: &mut [u64])
     requires { 2 * count ≤ length rows.old }
     ensures { rows.new ≡ laid (all_rows (region_row_by cyclic.words has_drive.words) count) rows.old }

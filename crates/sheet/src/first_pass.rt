@@ -42,7 +42,7 @@ fn cut(limits: Counts) -> Counts
     }
 }
 
-// Checks n lines of a list's fields: where the last one ends, or the first, from 0, that is not as it must be.
+// Checks n lines of a list's fields, no length of the text: where the last one ends, or the first, from 0, that is not as it must be.
 fn check_fields(text: &[u8], at: usize, section: Section, n: usize) -> Result<usize, usize>
     requires { at ≤ length text.now }
     ensures { RunAs text.now n (read_fields (keys_of section) n 0 (drop at text.now)) result }
@@ -72,7 +72,7 @@ fn check_list(
     if limit < count {
         return Err(over_limit(section, limit));
     }
-    // No `map_err`: its closure would need a contract of its own.
+    // No `map_err`: what its closure gives reaches the proof as `..call_once.Reads.Learnt ..`, with no equation.
     match check_fields(text, start, section, count * width(section)) {
         Ok(end) => Ok(Place { count, start, end }),
         Err(k) => Err(bad_line(line + 1 + k)),
