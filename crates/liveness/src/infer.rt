@@ -24,8 +24,9 @@ pub(crate) fn infer(
     flags: &mut [bool],
 )
     requires components { Components components.now }
-    requires indices { Indices (component_count components.now) (length network.now.labels.now) members.now × (component_count components.now ≤ length flags.old) }
-    requires indices_2 { Indices (component_count components.now) (length has_drive.now) region_at.now × (length has_drive.now ≤ length fed.now) }
+    requires members_below { Indices (component_count components.now) (length network.now.labels.now) members.now }
+    requires regions_below { Indices (component_count components.now) (length has_drive.now) region_at.now }
+    requires fed_room { (length has_drive.now ≤ length fed.now) × (component_count components.now ≤ length flags.old) }
     ensures { let t = network.now in Flags (component_count components.now)
         (inferred_by components.now members.now region_at.now has_drive.now fed.now t.forward.keys.now t.backward.keys.now t.labels.now)
         flags.new }
@@ -45,9 +46,11 @@ pub(crate) fn outside_regions(
     members: &[usize],
     fed: &mut [bool],
 )
-    requires by_index { (ps : List ℤ) × (backward region_of : List ℕ) × PreparedScene components.now ps forward.now backward labels.now members.now region_of }
+    requires by_index { (ps : List ℤ) × (backward region_of : List ℕ) ×
+        PreparedScene components.now ps forward.now backward labels.now members.now region_of }
     requires fed_len { length fed.old ≡ component_limit }
-    ensures { (ps : List ℤ) (backward region_of : List ℕ) → PreparedScene components.now ps forward.now backward labels.now members.now region_of →
+    ensures { (ps : List ℤ) (backward region_of : List ℕ) →
+        PreparedScene components.now ps forward.now backward labels.now members.now region_of →
         Flags component_limit (fed_from_outside components.now ps) fed.new }
 {
     let n = labels.len();

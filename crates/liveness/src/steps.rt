@@ -69,10 +69,12 @@ pub fn flag_inferred(
     forward_rows: &[usize],
     backward_rows: &[usize],
 )
-    requires prepared_scene { (ps : List ℤ) × PreparedScene components.now ps forward.now backward.now labels.now members.now region_at.now }
+    requires prepared_scene { (ps : List ℤ) ×
+        PreparedScene components.now ps forward.now backward.now labels.now members.now region_at.now }
     requires has_drive_len { (length has_drive.now ≡ component_limit) × (component_count components.now ≤ length inferred.old) }
     ensures { (ps fs : List ℤ) → PreparedScene components.now ps forward.now backward.now labels.now members.now region_at.now →
-        Flags component_limit (holds_drive components.now ps fs) has_drive.now → Flags (component_count components.now) (is_inferred components.now ps fs) inferred.new }
+        Flags component_limit (holds_drive components.now ps fs) has_drive.now →
+        Flags (component_count components.now) (is_inferred components.now ps fs) inferred.new }
 {
     let mut fed = [false; COMPONENTS];
     outside_regions(components, forward, labels, members, &mut fed);

@@ -9,16 +9,16 @@ use Rattle.liveness.proofs.infer.infer.Goals as goal
 use Rattle.liveness.proofs.infer.infer.Goals.{In-loop-p}
 
 region_below : (c : In-loop-p) → get_or c.args.region_at.now c.loop-p.p 0 < length c.args.has_drive.now
-region_below c = c.requires.indices_2.0.below c.loop-p.p c.loop-p-test.true
+region_below c = c.requires.regions_below.below c.loop-p.p c.loop-p-test.true
 
 room : (c : In-loop-p) → c.loop-p.p < length c.loop-p.flags
-room c = omega (arith, c.loop-p-test.true, c.loop-p.auto.flags, c.requires.indices.1)
+room c = omega (arith, c.loop-p-test.true, c.loop-p.auto.flags, c.requires.fed_room.1)
 
 pub is_inferred-requires : goal.is_inferred-requires
 is_inferred-requires c =
     record {
       components = (c.requires.components, c.loop-p-test.true);
-      node = c.requires.indices.0.below c.loop-p.p c.loop-p-test.true;
+      node = c.requires.members_below.below c.loop-p.p c.loop-p-test.true;
     }
 
 pub loop-p-preserved : goal.loop-p-preserved
@@ -26,12 +26,12 @@ loop-p-preserved c =
     let l = c.loop-p in
     let a = c.args in
     let t = a.network.now in
-    stored false (inferred_by a.components.now a.members.now a.region_at.now a.has_drive.now a.fed.now t.forward.keys.now t.backward.keys.now
-    t.labels.now) l.flags l.p _ (room (goal.at.loop-p-preserved c).In-loop-p) l.invariant
+    stored false (inferred_by a.components.now a.members.now a.region_at.now a.has_drive.now a.fed.now
+    t.forward.keys.now t.backward.keys.now t.labels.now) l.flags l.p _ (room (goal.at.loop-p-preserved c).In-loop-p) l.invariant
     c.is_inferred.ensures
 
 pub bounds-has_drive-region : goal.bounds-has_drive-region
 bounds-has_drive-region c = region_below (goal.at.bounds-has_drive-region c).In-loop-p
 
 pub bounds-fed-region : goal.bounds-fed-region
-bounds-fed-region c = omega (arith, region_below (goal.at.bounds-fed-region c).In-loop-p, c.requires.indices_2.1)
+bounds-fed-region c = omega (arith, region_below (goal.at.bounds-fed-region c).In-loop-p, c.requires.fed_room.0)

@@ -20,8 +20,7 @@ use Rattle.liveness.proofs.infer.outside_regions.Goals as goal
 use Rattle.liveness.proofs.infer.outside_regions.Goals.{Start}
 
 -- the prepared scene
-abbrev scene : (c : Start)
-    → PreparedScene c.args.components.now c.requires.by_index.0 c.args.forward.now c.requires.by_index.1 c.args.labels.now c.args.members.now c.requires.by_index.2
+abbrev scene : (c : Start) → PreparedScene c.args.components.now c.requires.by_index.0 c.args.forward.now c.requires.by_index.1 c.args.labels.now c.args.members.now c.requires.by_index.2
 scene c = c.requires.by_index.3
 
 -- as many labels as components
@@ -31,6 +30,10 @@ labelled c = labels_long (scene c).scene (scene c).prepared
 small : (c : Start) → length c.args.labels.now ≤ component_limit
 small c = omega (arith, labelled c, (scene c).scene.components.few)
 
+-- and no more than members
+lent : (c : Start) → length c.args.labels.now ≤ length c.args.members.now
+lent c = omega (arith, labelled c, (members_below c.args.components.now (scene c).prepared.members_are).long)
+
 pub slice_bounds-passive-end : goal.slice_bounds-passive-end
 slice_bounds-passive-end c =
     let s = (goal.at.slice_bounds-passive-end c).Start in
@@ -39,8 +42,7 @@ slice_bounds-passive-end c =
 pub slice_bounds-gather-end : goal.slice_bounds-gather-end
 slice_bounds-gather-end c =
     let s = (goal.at.slice_bounds-gather-end c).Start in
-    let long : length c.args.labels.now ≤ length c.args.members.now = omega (arith, labelled s, (members_below c.args.components.now (scene s).prepared.members_are).long) in
-    sym (length-take-le _ _ long)
+    sym (length-take-le _ _ (lent s))
 
 pub slice_bounds-gather-end-3 : goal.slice_bounds-gather-end-3
 slice_bounds-gather-end-3 c =
@@ -50,8 +52,7 @@ slice_bounds-gather-end-3 c =
 pub gather-requires-clause-tests_in_bounds : goal.gather-requires-clause-tests_in_bounds
 gather-requires-clause-tests_in_bounds c =
     let s = (goal.at.gather-requires-clause-tests_in_bounds c).Start in
-    let long : length c.args.labels.now ≤ length c.args.members.now = omega (arith, labelled s, (members_below c.args.components.now (scene s).prepared.members_are).long) in
-    omega (arith, labelled s, length-take-le _ _ long, c.passive_flags.ensures.long)
+    omega (arith, labelled s, length-take-le _ _ (lent s), c.passive_flags.ensures.long)
 
 pub gather-requires-clause-indices : goal.gather-requires-clause-indices
 gather-requires-clause-indices c =

@@ -14,21 +14,22 @@ invariant_of-network c =
     let p = c.requires.prepared_scene.1.prepared in
     record { forward_rows = forward_rows scene p; backward_rows = backward_rows scene p }
 
-pub infer-requires-clause-indices : goal.infer-requires-clause-indices
-infer-requires-clause-indices c =
+pub infer-requires-clause-members_below : goal.infer-requires-clause-members_below
+infer-requires-clause-members_below c =
     let scene = c.requires.prepared_scene.1.scene in
     let p = c.requires.prepared_scene.1.prepared in
-    (indices_same (sym (labels_long scene p)) (members_below c.args.components.now p.members_are), c.requires.has_drive_len.1)
+    indices_same (sym (labels_long scene p)) (members_below c.args.components.now p.members_are)
 
-pub infer-requires-clause-indices_2 : goal.infer-requires-clause-indices_2
-infer-requires-clause-indices_2 c =
-    let scene = c.requires.prepared_scene.1.scene in
-    let p = c.requires.prepared_scene.1.prepared in
-    let flags = c.outside_regions.ensures c.requires.prepared_scene.0 c.args.backward.now c.args.region_at.now c.requires.prepared_scene.1 in (
-      places_under c.args.components.now c.requires.prepared_scene.0 scene.ends _
-          (omega (arith, scene.components.few, c.requires.has_drive_len.0)) p.regions_are,
-      omega (arith, c.requires.has_drive_len.0, flags.long),
-    )
+pub infer-requires-clause-regions_below : goal.infer-requires-clause-regions_below
+infer-requires-clause-regions_below c =
+    let (ps, r) = c.requires.prepared_scene in
+    places_under c.args.components.now ps r.scene.ends _ (omega (arith, r.scene.components.few, c.requires.has_drive_len.0)) r.prepared.regions_are
+
+pub infer-requires-clause-fed_room : goal.infer-requires-clause-fed_room
+infer-requires-clause-fed_room c =
+    let (ps, r) = c.requires.prepared_scene in
+    let flags = c.outside_regions.ensures ps c.args.backward.now c.args.region_at.now r in
+    (omega (arith, c.requires.has_drive_len.0, flags.long), c.requires.has_drive_len.1)
 
 pub returns : goal.returns
 returns c ps fs r driven =
