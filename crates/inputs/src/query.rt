@@ -142,7 +142,18 @@ pub(crate) fn inferred_members(plot: &PreparedPlot, inferred: &mut [bool])
         &mut drive_at,
         &mut has_drive,
     );
-    flag_inferred(plot, &has_drive, &mut inferred_at);
+    flag_inferred(
+        lists.components,
+        plot.forward,
+        plot.backward,
+        plot.labels,
+        plot.members,
+        plot.region_at,
+        &has_drive,
+        &mut inferred_at,
+        plot.forward_rows,
+        plot.backward_rows,
+    );
     let count = lists.components.len() / COMPONENT;
     gather(&plot.members[..count], &inferred_at, inferred);
 }

@@ -1,6 +1,7 @@
 -- The inferred inputs, by the arrays of the analysis.
 --     rows_of                      a table of keys has rows of nodes
 --     forward_rows, backward_rows  those of an accepted scene
+--     prepared_scene                   the scene as prepared
 --     graph, regions_of_lem            its edges, and with the regions what marks are carried by
 --     crossings_of                 the pairs of regions by the edges of its table are those of its signals
 --     neighbours_are               the neighbours of a node, by the two tables
@@ -31,7 +32,7 @@ use Rattle.signals.specs.Regions.{labels, region_of_place, wire, holds_drive, fe
 use Rattle.signals.specs.Keys.{KeysOf, signal_key}
 use Rattle.signals.specs.Flags.{Flags, Numbers}
 use Rattle.signals.specs.Seen.{Rows}
-use Rattle.liveness.specs.Scene.{Scene, Prepared}
+use Rattle.liveness.specs.Scene.{Scene, Prepared, PreparedScene}
 use Rattle.signals.specs.Stages.{inferred_by}
 use Rattle.signals.proofs.Tabulated.{tab_length, tab_at}
 use Rattle.signals.proofs.Ends.{ends_within}
@@ -87,6 +88,9 @@ module _ {cs ps : List ℤ} (scene : Scene cs ps) {sources sinks forward backwar
 
   pub labels_long : length labelled ≡ component_count cs
   labels_long = ap length p.labels_are ∙ labels_count cs ps scene.ends
+
+  pub prepared_scene : PreparedScene cs ps forward backward labelled members region_of
+  prepared_scene = record { scene = scene; sources = sources; sinks = sinks; prepared = p }
 
   pub forward_rows : Rows (length labelled) forward
   forward_rows = subst (λ (n : ℕ). Rows n forward) (sym labels_long)

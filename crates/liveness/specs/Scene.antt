@@ -53,6 +53,13 @@ pub record Prepares (cs ps : List ℤ) (sources sinks forward backward labelled 
   pub count : r ≡ region_count cs ps
   pub stack_zeros : Zeros stack
 
+-- an accepted scene that is prepared, the ends of its connections left out
+pub record PreparedScene (cs ps : List ℤ) (forward backward labelled members region_of : List ℕ) : Type 0 where
+  pub scene : Scene cs ps
+  pub sources : List ℕ
+  pub sinks : List ℕ
+  pub prepared : Prepared cs ps sources sinks forward backward labelled members region_of
+
 -- what the drive sources reach, and what these and the inferred inputs reach
 pub record Alive (cs ps fs : List ℤ) (driven possible : List Bool) : Type 0 where
   pub drive_is : driven ≡ drive cs ps fs

@@ -1,54 +1,62 @@
 // Which wires are inferred inputs: the regions fed from outside, then a test for each component.
-ghost use Rattle.std.specs.Prelude.{◌≡◌, ◌≤◌, length};
+ghost use Rattle.std.specs.Prelude.{◌≡◌, ℕ, ◌≤◌, length, ℤ, List};
 ghost use Rattle.lists.specs.Limits.{component_limit};
 ghost use Rattle.lists.specs.Records.{component_count};
+ghost use Rattle.lists.specs.Within.{Components};
 ghost use Rattle.signals.specs.Regions.{fed_from_outside};
-ghost use Rattle.signals.specs.Flags.{Flags};
+ghost use Rattle.liveness.specs.Scene.{PreparedScene};
+ghost use Rattle.signals.specs.Flags.{Flags, Indices};
 ghost use Rattle.signals.specs.Stages.{inferred_by};
 
-use super::plot::PreparedPlot;
 use lists::{COMPONENT, COMPONENTS};
 use signals::flags::gather;
 use signals::inferred::{flag_outside, is_inferred, passive_flags};
-use signals::network::{Network, Table};
+use signals::network::Network;
 
 // Flags the inferred inputs, by list place, given which regions have a drive source and which are fed from outside.
-pub(crate) fn infer(plot: &PreparedPlot, has_drive: &[bool], fed: &[bool], flags: &mut [bool])
-    requires has_drive_len { (length has_drive.now ≡ component_limit) × (component_limit ≤ length fed.now) }
-    requires flags_room { component_count plot.now.plot.components.now ≤ length flags.old }
-    ensures { let p = plot.now in let cs = p.plot.components.now in
-        Flags (component_count cs)
-        (inferred_by cs p.members.now p.region_at.now has_drive.now fed.now p.forward.now p.backward.now p.labels.now)
+pub(crate) fn infer(
+    components: &[i64],
+    members: &[usize],
+    region_at: &[usize],
+    has_drive: &[bool],
+    fed: &[bool],
+    network: &Network,
+    flags: &mut [bool],
+)
+    requires components { Components components.now }
+    requires members_below { Indices (component_count components.now) (length network.now.labels.now) members.now }
+    requires regions_below { Indices (component_count components.now) (length has_drive.now) region_at.now }
+    requires fed_room { (length has_drive.now ≤ length fed.now) × (component_count components.now ≤ length flags.old) }
+    ensures { let t = network.now in Flags (component_count components.now)
+        (inferred_by components.now members.now region_at.now has_drive.now fed.now t.forward.keys.now t.backward.keys.now t.labels.now)
         flags.new }
 {
-    let components = plot.plot.components;
-    let network = Network {
-        forward: Table {
-            keys: plot.forward,
-            rows: plot.forward_rows,
-        },
-        backward: Table {
-            keys: plot.backward,
-            rows: plot.backward_rows,
-        },
-        labels: plot.labels,
-    };
     for p in 0..components.len() / COMPONENT {
-        let region = plot.region_at[p];
+        let region = region_at[p];
         let quiet = !has_drive[region] & !fed[region];
-        flags[p] = is_inferred(components, p, quiet, &network, plot.members[p]);
+        flags[p] = is_inferred(components, p, quiet, network, members[p]);
     }
 }
 
 // Flags the regions that get a connection from another region's component, Solid and Transparent sources left uncounted.
-pub(crate) fn outside_regions(plot: &PreparedPlot, fed: &mut [bool])
-    requires { length fed.old ≡ component_limit }
-    ensures { Flags component_limit (fed_from_outside plot.now.plot.components.now plot.now.plot.ports.now) fed.new }
+pub(crate) fn outside_regions(
+    components: &[i64],
+    forward: &[u64],
+    labels: &[usize],
+    members: &[usize],
+    fed: &mut [bool],
+)
+    requires by_index { (ps : List ℤ) × (backward region_of : List ℕ) ×
+        PreparedScene components.now ps forward.now backward labels.now members.now region_of }
+    requires fed_len { length fed.old ≡ component_limit }
+    ensures { (ps : List ℤ) (backward region_of : List ℕ) →
+        PreparedScene components.now ps forward.now backward labels.now members.now region_of →
+        Flags component_limit (fed_from_outside components.now ps) fed.new }
 {
-    let n = plot.labels.len();
+    let n = labels.len();
     let mut passive_at = [false; COMPONENTS];
     let mut passive = [false; COMPONENTS];
-    passive_flags(plot.plot.components, &mut passive_at);
-    gather(&plot.members[..n], &passive_at, &mut passive[..n]);
-    flag_outside(plot.forward, plot.labels, &passive, fed);
+    passive_flags(components, &mut passive_at);
+    gather(&members[..n], &passive_at, &mut passive[..n]);
+    flag_outside(forward, labels, &passive, fed);
 }

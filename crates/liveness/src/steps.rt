@@ -10,7 +10,7 @@ ghost use Rattle.signals.specs.Regions.{region_count, region_of_place, holds_dri
 ghost use Rattle.signals.specs.Flags.{Flags, Numbers};
 ghost use Rattle.liveness.specs.Entry.{AnalyzedBy};
 ghost use Rattle.signals.specs.Stages.{cyclic_at};
-ghost use Rattle.liveness.specs.Scene.{Scene, Driven, Marked, MarkRoom, RowsRoom, AnswerBy};
+ghost use Rattle.liveness.specs.Scene.{Scene, PreparedScene, Driven, Marked, MarkRoom, RowsRoom, AnswerBy};
 
 use super::Analysis;
 use super::alive::flag_alive;
@@ -23,6 +23,7 @@ use lists::{COMPONENT, COMPONENTS, CONNECTIONS, PORT};
 use regions::HINTED;
 use sets::ComponentSet;
 use signals::flags::gather;
+use signals::network::{Network, Table};
 use signals::stages::find_cyclic;
 
 // How many source rows and verdict rows were written.
@@ -55,15 +56,42 @@ pub fn flag_drive(
     );
 }
 
-// Flags the inferred inputs, by list place.
-pub fn flag_inferred(plot: &PreparedPlot, has_drive: &[bool], inferred: &mut [bool])
-    requires { (length has_drive.now ≡ component_limit) × (component_count plot.now.plot.components.now ≤ length inferred.old) }
-    ensures { let p = plot.now.plot in let cs = p.components.now in (fs : List ℤ) →
-        Flags component_limit (holds_drive cs p.ports.now fs) has_drive.now → Flags (component_count cs) (is_inferred cs p.ports.now fs) inferred.new }
+// Flags the inferred inputs, by list place. The rows are hints. Its slices stay: a prepared plot would ask more.
+pub fn flag_inferred(
+    components: &[i64],
+    forward: &[u64],
+    backward: &[u64],
+    labels: &[usize],
+    members: &[usize],
+    region_at: &[usize],
+    has_drive: &[bool],
+    inferred: &mut [bool],
+    forward_rows: &[usize],
+    backward_rows: &[usize],
+)
+    requires prepared_scene { (ps : List ℤ) ×
+        PreparedScene components.now ps forward.now backward.now labels.now members.now region_at.now }
+    requires has_drive_len { (length has_drive.now ≡ component_limit) × (component_count components.now ≤ length inferred.old) }
+    ensures { (ps fs : List ℤ) → PreparedScene components.now ps forward.now backward.now labels.now members.now region_at.now →
+        Flags component_limit (holds_drive components.now ps fs) has_drive.now →
+        Flags (component_count components.now) (is_inferred components.now ps fs) inferred.new }
 {
     let mut fed = [false; COMPONENTS];
-    outside_regions(plot, &mut fed);
-    infer(plot, has_drive, &fed, inferred);
+    outside_regions(components, forward, labels, members, &mut fed);
+    let network = Network {
+        forward: Table {
+            keys: forward,
+            rows: forward_rows,
+        },
+        backward: Table {
+            keys: backward,
+            rows: backward_rows,
+        },
+        labels,
+    };
+    infer(
+        components, members, region_at, has_drive, &fed, &network, inferred,
+    );
 }
 
 // All marks of a plot.
@@ -88,7 +116,18 @@ fn mark(
         &mut drive_at,
         has_drive,
     );
-    flag_inferred(plot, has_drive, inferred);
+    flag_inferred(
+        plot.plot.components,
+        plot.forward,
+        plot.backward,
+        plot.labels,
+        plot.members,
+        plot.region_at,
+        has_drive,
+        inferred,
+        plot.forward_rows,
+        plot.backward_rows,
+    );
     flag_alive(plot, has_drive, inferred, drive, potential);
 }
 

@@ -8,4 +8,5 @@ use Rattle.liveness.proofs.infer.infer.Given as goal
 
 abbrev pub invariant-loop-p : goal.invariant-loop-p
 invariant-loop-p l =
-    (j : ℕ) → j < l.p → marked l.flags j ≡ inferred_by l.components l.plot.members.now l.plot.region_at.now l.has_drive l.fed l.plot.forward.now l.plot.backward.now l.plot.labels.now j
+    let t = l.network in
+    (j : ℕ) → j < l.p → marked l.flags j ≡ inferred_by l.components l.members l.region_at l.has_drive l.fed t.forward.keys.now t.backward.keys.now t.labels.now j
