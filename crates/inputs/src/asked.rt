@@ -1,8 +1,10 @@
 // The sets of many ports of one accepted scene, which is prepared once: for each region, the inferred inputs upstream of it stand in a table.
+ghost use Rattle.std.proofs.Props.{props};
 ghost use Rattle.std.specs.Prelude.{◌≡◌, List, ℕ, ◌*◌, ◌^◌, ◌≤◌, ◌<◌, length, ℤ};
 ghost use Rattle.tables.specs.Order.{Ascending};
 ghost use Rattle.lists.specs.Limits.{component_limit};
 ghost use Rattle.lists.specs.Records.{component_count, port_count};
+ghost use Rattle.lists.specs.Ids.{IdTable};
 ghost use Rattle.regions.specs.Search.{Zeros};
 ghost use Rattle.signals.specs.Flags.{Indices};
 ghost use Rattle.assessment.specs.Rows.{SlotWithin};
@@ -22,15 +24,17 @@ use signals::edges::PORTS;
 use signals::stages::build_fed;
 use tables::SPAN;
 
-// What the ports of a plot are asked by: its edges by the port that they feed, the regions of its members, and the rows of the inferred
-// inputs upstream of each region.
+// What the ports of a scene are asked by: the table of its components' ids, its edges by the port that they feed, the regions of its
+// members, and the rows of the inferred inputs upstream of each region.
 #[derive(Clone, Copy)]
 pub struct Asked<'a> {
-    pub plot: Plot<'a>,
+    pub keys: &'a [u64],
+    pub components: &'a [i64],
     pub fed: &'a [u64],
     pub labels: &'a [usize],
     pub upstream: &'a [u64; TABLE],
-    pub ghost ready: { ∥ Ready plot.components.now plot.ports.now plot.frontiers.now fed.now labels.now upstream.now ∥₁ },
+    pub ghost table: { IdTable components.now keys.now } by { Prim.hlevel props },
+    pub ghost ready: { ∥ ((ps fs : List ℤ) × Ready components.now ps fs fed.now labels.now upstream.now) ∥₁ },
 }
 
 // Fills what the ports of a plot are asked by: its edges by the port that they feed, the regions of its members, and the rows of the
@@ -90,16 +94,16 @@ fn slot_sources(fed: &[u64], slot: usize, labels: &[usize], upstream: &[u64; TAB
 }
 
 impl<'a> Asked<'a> {
-    // The sets of a port by the id of its component, empty where it has no verdict row.
+    // The sets of a port by the id of its component, empty where it has no verdict row: those of every scene that the tables are of.
     pub fn sources(&self, id: u64, port: u64) -> InputSources
-        ensures { let p = self.now.plot in
-            PortSets p.components.now p.ports.now p.frontiers.now (row_place p.components.now id port) port result }
+        ensures { let a = self.now in
+            (ps fs : List ℤ) → Ready a.components.now ps fs a.fed.now a.labels.now a.upstream.now →
+            PortSets a.components.now ps fs (row_place a.components.now id port) port result }
     {
-        let plot = self.plot;
-        match row_place(plot.keys, plot.components, id, port) {
+        match row_place(self.keys, self.components, id, port) {
             Some(_) => slot_sources(
                 self.fed,
-                member_of(plot.keys, id) * PORTS + port as usize,
+                member_of(self.keys, id) * PORTS + port as usize,
                 self.labels,
                 self.upstream,
             ),

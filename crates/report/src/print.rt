@@ -3,6 +3,7 @@
 ghost use Rattle.std.specs.Prelude.{◌≡◌, List, ◌*◌, ◌≤◌, length, ℤ};
 ghost use Rattle.lists.specs.Records.{component_count};
 ghost use Rattle.lines.specs.Wrote.{Put};
+ghost use Rattle.inputs.specs.Inputs.{Ready};
 ghost use Rattle.blocks.specs.Blocks.{left_after};
 ghost use Rattle.report.specs.Report.{report_of};
 ghost use Rattle.report.specs.Entry.{fits, lists_checked, PrintedBy};
@@ -86,8 +87,10 @@ fn print_rows(
     inputs: &[u64],
     out: &mut [u8],
 ) -> Result<usize, Refusal>
-    ensures { let p = asked.now.plot in
-        let text = whole_text p.components.now p.ports.now p.frontiers.now components.now kept.now regions.now sources.now inputs.now in
+    requires { let a = asked.now in (ps fs : List ℤ) × Ready a.components.now ps fs a.fed.now a.labels.now a.upstream.now }
+    ensures { let a = asked.now in
+        (ps fs : List ℤ) → Ready a.components.now ps fs a.fed.now a.labels.now a.upstream.now →
+        let text = whole_text a.components.now ps fs components.now kept.now regions.now sources.now inputs.now in
         PrintedBy (fits text (length out.old)) text out.old out.new result }
 {
     let blocks = left_after_blocks(Some(out.len()), components, kept, regions, sources);
@@ -109,6 +112,7 @@ fn print_rows(
 // Prints what the analysis of the kept connections gave: `regions`, `sources` and `inputs` are its rows.
 fn print_analysis(
     asked: &Asked,
+    ports: &[i64],
     nets: &[u64],
     fragments: &[u64],
     regions: &[u64],
@@ -117,23 +121,24 @@ fn print_analysis(
     found: Analysis,
     out: &mut [u8],
 ) -> Result<usize, Refusal>
-    requires gathered { let p = asked.now.plot in (ps : List ℤ) × Gathered p.components.now ps p.ports.now nets.now fragments.now }
-    requires analyzed { let p = asked.now.plot in
-        Analyzed p.components.now p.ports.now p.frontiers.now regions.now sources.now inputs.now found }
-    ensures { let p = asked.now.plot in
-        (ps : List ℤ) → Gathered p.components.now ps p.ports.now nets.now fragments.now →
-        PrintedBy (fits (report_of p.components.now ps p.frontiers.now) (length out.old)) (report_of p.components.now ps p.frontiers.now)
-        out.old out.new result }
+    requires gathered { (ps : List ℤ) × Gathered asked.now.components.now ps ports.now nets.now fragments.now }
+    requires analyzed { let a = asked.now in
+        (fs : List ℤ) × (Ready a.components.now ports.now fs a.fed.now a.labels.now a.upstream.now ×
+        Analyzed a.components.now ports.now fs regions.now sources.now inputs.now found) }
+    ensures { let a = asked.now in
+        (ps fs : List ℤ) → Gathered a.components.now ps ports.now nets.now fragments.now →
+        Ready a.components.now ports.now fs a.fed.now a.labels.now a.upstream.now →
+        Analyzed a.components.now ports.now fs regions.now sources.now inputs.now found →
+        PrintedBy (fits (report_of a.components.now ps fs) (length out.old)) (report_of a.components.now ps fs) out.old out.new result }
 {
-    let plot = asked.plot;
-    let n = plot.keys.len();
+    let n = asked.keys.len();
     let count = found.regions;
     let mut components = [0u64; COMPONENT_ROWS];
     let mut kept = [0u64; KEPT_ROWS];
     let mut marks = [0u64; REGION_ROWS];
     fill_components(
-        plot.components,
-        plot.keys,
+        asked.components,
+        asked.keys,
         nets,
         fragments,
         regions,
@@ -141,12 +146,12 @@ fn print_analysis(
         found.potential,
         &mut components,
     );
-    fill_connections(plot.ports, &mut kept);
+    fill_connections(ports, &mut kept);
     fill_regions(count, found.cyclic, found.has_drive, &mut marks);
     print_rows(
         asked,
         &components[..6 * n],
-        &kept[..plot.ports.len()],
+        &kept[..ports.len()],
         &marks[..2 * count],
         sources,
         inputs,
@@ -183,13 +188,14 @@ fn print_ready(
     let mut upstream = [0u64; TABLE];
     make_ready(plot, &mut fed[..m], &mut labels[..n], &mut upstream, stack);
     let asked = Asked {
-        plot: *plot,
+        keys: plot.keys,
+        components: plot.components,
         fed: &fed[..m],
         labels: &labels[..n],
         upstream: &upstream,
     };
     print_analysis(
-        &asked, nets, fragments, regions, sources, inputs, found, out,
+        &asked, plot.ports, nets, fragments, regions, sources, inputs, found, out,
     )
 }
 

@@ -1,7 +1,8 @@
 // The block of the verdict rows: each row is asked for its sets when it is measured, and again when it is written, since all sets of a
 // scene together have no bound but the square of its components.
-ghost use Rattle.std.specs.Prelude.{◌≡◌, ◌+◌, ◌≤◌, length};
+ghost use Rattle.std.specs.Prelude.{◌≡◌, List, ◌+◌, ◌≤◌, length, ℤ};
 ghost use Rattle.lines.specs.Wrote.{Put};
+ghost use Rattle.inputs.specs.Inputs.{Ready};
 ghost use Rattle.blocks.specs.Blocks.{left_after};
 ghost use Rattle.report.specs.Printing.{asked_text, inputs_text};
 
@@ -12,10 +13,12 @@ use inputs::asked::Asked;
 
 // Writes the lines of a row into the rest of `out` from `at` on, and answers where they end.
 fn put_asked(out: &mut [u8], at: usize, asked: &Asked, device: u64, port: u64, status: u64) -> usize
-    requires { let p = asked.now.plot in
-        at + length (asked_text p.components.now p.ports.now p.frontiers.now device port status) ≤ length out.old }
-    ensures { let p = asked.now.plot in
-        Put at (asked_text p.components.now p.ports.now p.frontiers.now device port status) out.old out.new result }
+    requires { let a = asked.now in
+        (ps fs : List ℤ) × (Ready a.components.now ps fs a.fed.now a.labels.now a.upstream.now ×
+        (at + length (asked_text a.components.now ps fs device port status) ≤ length out.old)) }
+    ensures { let a = asked.now in
+        (ps fs : List ℤ) → Ready a.components.now ps fs a.fed.now a.labels.now a.upstream.now →
+        Put at (asked_text a.components.now ps fs device port status) out.old out.new result }
 {
     let found = asked.sources(device, port);
     put_input(
@@ -26,7 +29,7 @@ fn put_asked(out: &mut [u8], at: usize, asked: &Asked, device: u64, port: u64, s
         status,
         found.immediate,
         found.inferred,
-        asked.plot.keys,
+        asked.keys,
     )
 }
 
@@ -38,8 +41,9 @@ fn left_after_asked(
     port: u64,
     status: u64,
 ) -> Option<usize>
-    ensures { let p = asked.now.plot in
-        result ≡ left_after left (length (asked_text p.components.now p.ports.now p.frontiers.now device port status)) }
+    ensures { let a = asked.now in
+        (ps fs : List ℤ) → Ready a.components.now ps fs a.fed.now a.labels.now a.upstream.now →
+        result ≡ left_after left (length (asked_text a.components.now ps fs device port status)) }
 {
     let found = asked.sources(device, port);
     left_after_input(
@@ -49,16 +53,19 @@ fn left_after_asked(
         status,
         found.immediate,
         found.inferred,
-        asked.plot.keys,
+        asked.keys,
     )
 }
 
 // Writes the block into the rest of `out` from `at` on, and answers where it ends.
 pub fn put_rows(out: &mut [u8], at: usize, asked: &Asked, rows: &[u64]) -> usize
-    requires { let p = asked.now.plot in
-        at + length (inputs_text p.components.now p.ports.now p.frontiers.now rows.now) ≤ length out.old }
-    ensures { let p = asked.now.plot in
-        Put at (inputs_text p.components.now p.ports.now p.frontiers.now rows.now) out.old out.new result }
+    requires { let a = asked.now in
+        (ps fs : List ℤ) × (Ready a.components.now ps fs a.fed.now a.labels.now a.upstream.now ×
+        (at + length (inputs_text a.components.now ps fs rows.now) ≤ length out.old)) }
+    ensures { let a = asked.now in
+        (ps fs : List ℤ) → Ready a.components.now ps fs a.fed.now a.labels.now a.upstream.now →
+        at + length (inputs_text a.components.now ps fs rows.now) ≤ length out.old →
+        Put at (inputs_text a.components.now ps fs rows.now) out.old out.new result }
 {
     let count = rows.len() / 3;
     let mut p = put_count(out, at, Block::Inputs, count as u64);
@@ -70,8 +77,9 @@ pub fn put_rows(out: &mut [u8], at: usize, asked: &Asked, rows: &[u64]) -> usize
 
 // How many bytes are left after the block.
 pub fn left_after_rows(left: Option<usize>, asked: &Asked, rows: &[u64]) -> Option<usize>
-    ensures { let p = asked.now.plot in
-        result ≡ left_after left (length (inputs_text p.components.now p.ports.now p.frontiers.now rows.now)) }
+    ensures { let a = asked.now in
+        (ps fs : List ℤ) → Ready a.components.now ps fs a.fed.now a.labels.now a.upstream.now →
+        result ≡ left_after left (length (inputs_text a.components.now ps fs rows.now)) }
 {
     let count = rows.len() / 3;
     let mut rest = left_after(left, count_length(Block::Inputs, count as u64));

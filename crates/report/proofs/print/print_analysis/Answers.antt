@@ -36,42 +36,41 @@ regions_inside rows a scene long = omega (arith, regions_fit a scene, long)
 
 pub fill_components-requires-clause-components_in_bounds : goal.fill_components-requires-clause-components_in_bounds
 fill_components-requires-clause-components_in_bounds c =
-    let g = c.requires.gathered.1 in (nets_long g, (fragments_long g, regions_long c.requires.analyzed))
+    let g = c.requires.gathered.1 in (nets_long g, (fragments_long g, regions_long c.requires.analyzed.1.1))
 
 pub fill_connections-requires : goal.fill_connections-requires
 fill_connections-requires c =
-    let p = c.args.asked.now.plot in
     let g = c.requires.gathered in
-    ((kept_rows p.components.now g.0, g.1.kept_are), kept_fit g.1 p.accepted.scene)
+    ((kept_rows c.args.asked.now.components.now g.0, g.1.kept_are), kept_fit g.1 c.requires.analyzed.1.0.fed_scene.scene)
 
 pub fill_regions-requires : goal.fill_regions-requires
-fill_regions-requires c = regions_fit c.requires.analyzed c.args.asked.now.plot.accepted.scene
+fill_regions-requires c = regions_fit c.requires.analyzed.1.1 c.requires.analyzed.1.0.fed_scene.scene
 
 pub overflow_mul-components : goal.overflow_mul-components
 overflow_mul-components c =
-    let accepted = c.args.asked.now.plot.accepted in omega (arith, table_long accepted.table, accepted.scene.components.few)
+    omega (arith, table_long c.args.asked.now.table, c.requires.analyzed.1.0.fed_scene.scene.components.few)
 
 pub slice_bounds-components-end : goal.slice_bounds-components-end
 slice_bounds-components-end c =
-    let accepted = c.args.asked.now.plot.accepted in
-    components_inside c.fill_components.new.rows accepted.scene accepted.table c.fill_components.auto.rows
+    let scene = c.requires.analyzed.1.0.fed_scene.scene in
+    components_inside c.fill_components.new.rows scene c.args.asked.now.table c.fill_components.auto.rows
 
 pub slice_bounds-print_rows-end : goal.slice_bounds-print_rows-end
 slice_bounds-print_rows-end c =
-    let accepted = c.args.asked.now.plot.accepted in
+    let scene = c.requires.analyzed.1.0.fed_scene.scene in
     let rows = c.fill_components.new.rows in
-    sym (length-take-le _ rows (components_inside rows accepted.scene accepted.table c.fill_components.auto.rows))
+    sym (length-take-le _ rows (components_inside rows scene c.args.asked.now.table c.fill_components.auto.rows))
 
 pub overflow_mul-marks : goal.overflow_mul-marks
-overflow_mul-marks c = omega (arith, regions_fit c.requires.analyzed c.args.asked.now.plot.accepted.scene)
+overflow_mul-marks c = omega (arith, regions_fit c.requires.analyzed.1.1 c.requires.analyzed.1.0.fed_scene.scene)
 
 pub slice_bounds-marks-end : goal.slice_bounds-marks-end
-slice_bounds-marks-end c = regions_inside c.fill_regions.new.rows c.requires.analyzed c.args.asked.now.plot.accepted.scene c.fill_regions.auto.rows
+slice_bounds-marks-end c = regions_inside c.fill_regions.new.rows c.requires.analyzed.1.1 c.requires.analyzed.1.0.fed_scene.scene c.fill_regions.auto.rows
 
 pub slice_bounds-print_rows-end-3 : goal.slice_bounds-print_rows-end-3
 slice_bounds-print_rows-end-3 c =
     let rows = c.fill_regions.new.rows in
-    sym (length-take-le _ rows (regions_inside rows c.requires.analyzed c.args.asked.now.plot.accepted.scene c.fill_regions.auto.rows))
+    sym (length-take-le _ rows (regions_inside rows c.requires.analyzed.1.1 c.requires.analyzed.1.0.fed_scene.scene c.fill_regions.auto.rows))
 
 components_are : (cs : List ℤ) (nets fragments regions drive potential keys old : List ℕ) {rows : List ℕ} → length keys ≡ component_count cs
     → let all = all_rows (component_row_by cs nets fragments regions drive potential) (component_count cs) in
@@ -84,19 +83,22 @@ regions_are : (cyclic drive : List ℕ) (n : ℕ) (old : List ℕ) {rows : List 
     → take (2 * n) rows ≡ all_rows (region_row_by cyclic drive) n
 regions_are cyclic drive n old e = front_is (all_rows (region_row_by cyclic drive) n) old e (2 * n) (sym (region_pairs cyclic drive n))
 
+pub print_rows-requires : goal.print_rows-requires
+print_rows-requires c = let known = c.requires.analyzed in (c.args.ports.now, known.0, known.1.0)
+
 pub returns : goal.returns
-returns c ps groups =
+returns c ps fs groups ready found =
     let called = c.print_rows in
     let a = c.args in
-    let p = a.asked.now.plot in
-    let rows = kept_rows p.components.now ps in
+    let cs = a.asked.now.components.now in
+    let rows = kept_rows cs ps in
     let f = a.found in
-    let many = table_long p.accepted.table in
-    let components-are = components_are p.components.now a.nets.now a.fragments.now a.regions.now f.drive.words f.potential.words _ _ many
+    let many = table_long a.asked.now.table in
+    let components-are = components_are cs a.nets.now a.fragments.now a.regions.now f.drive.words f.potential.words _ _ many
     c.fill_components.ensures in
-    let connections-are : take (length p.ports.now) c.fill_connections.new.rows ≡ rows =
+    let connections-are : take (length a.ports.now) c.fill_connections.new.rows ≡ rows =
     front_is rows _ (c.fill_connections.ensures rows groups.kept_are) _ (ap length groups.kept_are ∙ length-map rows pos) in
     let regions-are = regions_are f.cyclic.words f.has_drive.words f.regions _ c.fill_regions.ensures in
     subst (λ (t : List ℕ). PrintedBy (fits t (length a.out.now)) t a.out.now called.new.out called.result)
-    (assembled p.components.now ps p.frontiers.now p.accepted.scene.distinct groups c.requires.analyzed components-are connections-are regions-are)
-    called.ensures
+    (assembled cs ps fs ready.fed_scene.scene.distinct groups found components-are connections-are regions-are)
+    (called.ensures a.ports.now fs ready)

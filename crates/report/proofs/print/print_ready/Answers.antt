@@ -35,22 +35,42 @@ pub make_ready-requires-clause-upstream : goal.make_ready-requires-clause-upstre
 make_ready-requires-clause-upstream c = get_or_zeros table_words
 
 -- what came back stands at the fronts
-module _ {cs ps fs : List ℤ} {fed labels upstream : List ℕ} (m n : ℕ) (fed_rest labels_rest : List ℕ) where
-  is_ready : length fed ≡ m → length labels ≡ n → Ready cs ps fs fed labels upstream
-      → Ready cs ps fs (take m (fed ++ fed_rest)) (take n (labels ++ labels_rest)) upstream
-  is_ready e f ready = ready_as (front m fed fed_rest e) (front n labels labels_rest f) ready
+ready_fronts : {cs ps fs : List ℤ} {keys sources sinks fed labels upstream : List ℕ} → Accepted cs ps keys sources sinks
+    → length fed ≡ length {A = ℕ} (take (port_count ps) (replicate connection_limit 0))
+    → length labels ≡ length {A = ℕ} (take (length keys) (replicate component_limit 0))
+    → Ready cs ps fs fed labels upstream
+    → Ready cs ps fs (take (port_count ps) (fed ++ drop (port_count ps) (replicate connection_limit 0)))
+    (take (length keys) (labels ++ drop (length keys) (replicate component_limit 0))) upstream
+ready_fronts {ps = ps} {keys = keys} {fed = fed} {labels = labels} a e f ready =
+    let m = port_count ps in
+    let n = length keys in
+    ready_as (front m fed (drop m (replicate connection_limit 0)) (e ∙ lent m connection_limit 0 a.scene.connections.few))
+    (front n labels (drop n (replicate component_limit 0)) (f ∙ lent n component_limit 0 (few a)))
+    ready
 
 pub invariant_of-asked : goal.invariant_of-asked
 invariant_of-asked c =
     let p = c.args.plot.now in
     let made = c.make_ready in
-    let m = port_count p.ports.now in
-    let n = length p.keys.now in
-    let fed_long = made.auto.fed ∙ lent m connection_limit 0 p.accepted.scene.connections.few in
-    let labels_long = made.auto.labels ∙ lent n component_limit 0 (few p.accepted) in
     record {
-      ready = merely (is_ready m n (drop m (replicate connection_limit 0)) (drop n (replicate component_limit 0)) fed_long labels_long made.ensures.0);
+      table = p.accepted.table;
+      ready = merely (p.ports.now, p.frontiers.now, ready_fronts p.accepted made.auto.fed made.auto.labels made.ensures.0);
     }
+
+pub print_analysis-requires : goal.print_analysis-requires
+print_analysis-requires c =
+    let p = c.args.plot.now in
+    let made = c.make_ready in
+    record {
+      gathered = c.requires.gathered;
+      analyzed = (p.frontiers.now, (ready_fronts p.accepted made.auto.fed made.auto.labels made.ensures.0, c.requires.analyzed));
+    }
+
+pub returns : goal.returns
+returns c ps groups =
+    let p = c.args.plot.now in
+    let made = c.make_ready in
+    c.print_analysis.ensures ps p.frontiers.now groups (ready_fronts p.accepted made.auto.fed made.auto.labels made.ensures.0) c.requires.analyzed
 
 pub slice_bounds-labels-end : goal.slice_bounds-labels-end
 slice_bounds-labels-end c = few c.args.plot.now.accepted

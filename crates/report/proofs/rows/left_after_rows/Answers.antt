@@ -14,19 +14,20 @@ use Rattle.report.specs.Printing.{asked_text}
 use Rattle.report.proofs.VerdictText.{lines_from, row_text, lines_at, lines_end}
 use Rattle.report.proofs.rows.left_after_rows.Goals as goal
 
+pub loop-k-init : goal.loop-k-init
+loop-k-init c ps fs ready = refl
+
 pub loop-k-preserved : goal.loop-k-preserved
-loop-k-preserved c =
-    let p = c.args.asked.now.plot in
-    let text : ℕ → ℕ → ℕ → List ℕ = asked_text p.components.now p.ports.now p.frontiers.now in
+loop-k-preserved c ps fs ready =
+    let text : ℕ → ℕ → ℕ → List ℕ = asked_text c.args.asked.now.components.now ps fs in
     let l = c.loop-k in
     let rows = c.args.rows.now in
     left_on l.rest (row_text text rows l.k) (lines_from text rows (3 * (l.k + 1))) (lines_at text rows l.k c.loop-k-test.true)
-    refl c.left_after_asked-rest.ensures l.invariant
+    refl (c.left_after_asked-rest.ensures ps fs ready) (l.invariant ps fs ready)
 
 pub returns : goal.returns
-returns c =
-    let p = c.args.asked.now.plot in
-    let text : ℕ → ℕ → ℕ → List ℕ = asked_text p.components.now p.ports.now p.frontiers.now in
+returns c ps fs ready =
+    let text : ℕ → ℕ → ℕ → List ℕ = asked_text c.args.asked.now.components.now ps fs in
     let l = c.loop-k in
     let rows = c.args.rows.now in
     let all : List ℕ = lines_from text rows 0 in
@@ -35,7 +36,7 @@ returns c =
     let first : counted.result ≡ length line = counted.ensures in
     let none : length (lines_from text rows (3 * l.k)) ≡ 0 = ap length (lines_end text rows l.k c.loop-k-test.false) in
     let sum : counted.result + length all ≡ length (line ++ all) = omega (arith, length-append line all) in
-    sym (left_none l.rest) ∙ ap (left_after l.rest) (sym none) ∙ l.invariant
+    sym (left_none l.rest) ∙ ap (left_after l.rest) (sym none) ∙ l.invariant ps fs ready
     ∙ ap (λ (r : Option ℕ). left_after r (length all)) c.left_after-rest.ensures
     ∙ left_then c.args.left counted.result (length all)
     ∙ ap (left_after c.args.left) sum

@@ -1,14 +1,15 @@
 -- Answers for the goals that the search leaves.
-use mathlib.Core.Path.{subst}
+use mathlib.Core.Path.{subst, ◌∙◌}
 use mathlib.Core.List.{List, ◌++◌}
 use Prim.Native.Nat.{ℕ, ◌+◌, ◌*◌, ◌/◌, ◌≤◌, ◌<◌}
+use native.Mathlib.Omega.{arith}
 use lib.IntN.{pos}
-use lib.ListN.{length}
+use lib.ListN.{length, length-append}
 use Rattle.lines.specs.Text.{ascii}
 use Rattle.lines.specs.Decimal.{line_of}
 use Rattle.lines.specs.Wrote.{Put}
-use Rattle.lines.proofs.Writing.{put_room, put_put}
-use Rattle.blocks.proofs.Going.{Going, goes_room, goes_on, goes_done}
+use Rattle.lines.proofs.Writing.{put_length, put_room, put_put}
+use Rattle.blocks.proofs.Going.{Going, goes_from, goes_room, goes_on, goes_done, goes_length}
 use Rattle.report.specs.Printing.{asked_text}
 use Rattle.report.proofs.VerdictText.{lines_from, row_text, lines_at, lines_end}
 use Rattle.report.proofs.rows.put_rows.Goals as goal
@@ -31,23 +32,46 @@ module _ (text : ℕ → ℕ → ℕ → List ℕ) (rows : List ℕ) {at p : ℕ
       → Put at (lines_from text rows 0) old out p
   all_done k h g = goes_done (subst (λ (t : List ℕ). Going (lines_from text rows 0) at old t out p) (lines_end text rows k h) g)
 
+pub put_count-p-requires : goal.put_count-p-requires
+put_count-p-requires c =
+    let known = c.requires in
+    let rows = c.args.rows.now in
+    let text : ℕ → ℕ → ℕ → List ℕ = asked_text c.args.asked.now.components.now known.0 known.1 in
+    omega (arith, known.2.1, length-append (count_line rows) (lines_from text rows 0))
+
+pub loop-k-init : goal.loop-k-init
+loop-k-init c ps fs ready room = goes_from room
+
 pub put_asked-p-requires : goal.put_asked-p-requires
 put_asked-p-requires c =
-    let p = c.args.asked.now.plot in
-    let text : ℕ → ℕ → ℕ → List ℕ = asked_text p.components.now p.ports.now p.frontiers.now in
+    let known = c.requires in
+    let text : ℕ → ℕ → ℕ → List ℕ = asked_text c.args.asked.now.components.now known.0 known.1 in
     let rows = c.args.rows.now in
     let l = c.loop-k in
-    goes_room (row_text text rows l.k) (lines_from text rows (3 * (l.k + 1))) (lines_room text rows c.requires c.put_count-p.ensures)
-    (next_row text rows l.k c.loop-k-test.true l.invariant)
+    let room = lines_room text rows known.2.1 c.put_count-p.ensures in (
+      known.0,
+      known.1,
+      (
+        known.2.0,
+        goes_room (row_text text rows l.k) (lines_from text rows (3 * (l.k + 1))) room
+            (next_row text rows l.k c.loop-k-test.true (l.invariant known.0 known.1 known.2.0 room)),
+      ),
+    )
 
 pub loop-k-preserved : goal.loop-k-preserved
-loop-k-preserved c =
-    let p = c.args.asked.now.plot in
-    let text : ℕ → ℕ → ℕ → List ℕ = asked_text p.components.now p.ports.now p.frontiers.now in
-    goes_on _ _ (next_row text c.args.rows.now c.loop-k.k c.loop-k-test.true c.loop-k.invariant) c.put_asked-p.ensures
+loop-k-preserved c ps fs ready room =
+    let text : ℕ → ℕ → ℕ → List ℕ = asked_text c.args.asked.now.components.now ps fs in
+    goes_on _ _ (next_row text c.args.rows.now c.loop-k.k c.loop-k-test.true (c.loop-k.invariant ps fs ready room)) (c.put_asked-p.ensures ps fs ready)
+
+pub shape_of-out : goal.shape_of-out
+shape_of-out c =
+    let known = c.requires in
+    let text : ℕ → ℕ → ℕ → List ℕ = asked_text c.args.asked.now.components.now known.0 known.1 in
+    let room = lines_room text c.args.rows.now known.2.1 c.put_count-p.ensures in
+    goes_length (c.loop-k.invariant known.0 known.1 known.2.0 room) ∙ put_length c.put_count-p.ensures
 
 pub returns : goal.returns
-returns c =
-    let p = c.args.asked.now.plot in
-    let text : ℕ → ℕ → ℕ → List ℕ = asked_text p.components.now p.ports.now p.frontiers.now in
-    put_put c.put_count-p.ensures (all_done text c.args.rows.now c.loop-k.k c.loop-k-test.false c.loop-k.invariant)
+returns c ps fs ready room =
+    let text : ℕ → ℕ → ℕ → List ℕ = asked_text c.args.asked.now.components.now ps fs in
+    let lines = lines_room text c.args.rows.now room c.put_count-p.ensures in
+    put_put c.put_count-p.ensures (all_done text c.args.rows.now c.loop-k.k c.loop-k-test.false (c.loop-k.invariant ps fs ready lines))

@@ -20,60 +20,66 @@ use Rattle.inputs.proofs.asked.Asked.sources.Goals as goal
 use Rattle.inputs.proofs.asked.Asked.sources.Goals.{Start}
 
 abbrev cs : Start → List ℤ
-cs s = s.args.self.now.plot.components.now
+cs s = s.args.self.now.components.now
 
-abbrev ReadyPlot : Start → Type 0
-ReadyPlot s =
-    let a = s.args.self.now in
-    Ready (cs s) a.plot.ports.now a.plot.frontiers.now a.fed.now a.labels.now a.upstream.now
+-- a scene that the tables are of
+abbrev ReadyScene : Start → Type 0
+ReadyScene s = let a = s.args.self.now in (ps fs : List ℤ) × Ready (cs s) ps fs a.fed.now a.labels.now a.upstream.now
 
-within : (s : Start) → Components (cs s)
-within s = s.args.self.now.plot.accepted.scene.components
+within : (s : Start) → ReadyScene s → Components (cs s)
+within s r = r.2.fed_scene.scene.components
 
 pub member_of-requires : goal.member_of-requires
 member_of-requires c =
     let s = (goal.at.member_of-requires c).Start in
-    row_id_small (within s) (row_found (cs s) c.args.id c.args.port (sym c.row_place.ensures ∙ c.in-Some.is))
+    let row = row_found (cs s) c.args.id c.args.port (sym c.row_place.ensures ∙ c.in-Some.is) in
+    ∥∥₁_elim c.args.self.now.ready (hlevel props) (λ (r : ReadyScene s). row_id_small (within s r) row)
 
 -- the member and the port that a row is found for
-member_small : (s : Start) {p m : ℕ} → row_place (cs s) s.args.id s.args.port ≡ Some p → m ≡ smaller_ids (cs s) s.args.id
+member_small : (s : Start) → ReadyScene s → {p m : ℕ} → row_place (cs s) s.args.id s.args.port ≡ Some p → m ≡ smaller_ids (cs s) s.args.id
     → (m < component_limit) × (s.args.port < 256)
-member_small s e d = let row = row_found (cs s) s.args.id s.args.port e in (omega (arith, row_member_small (within s) row), row.port_small)
+member_small s r e d = let row = row_found (cs s) s.args.id s.args.port e in (omega (arith, row_member_small (within s r) row), row.port_small)
 
 pub slot_sources-requires : goal.slot_sources-requires
 slot_sources-requires c =
     let s = (goal.at.slot_sources-requires c).Start in
     let a = c.args.self.now in
     let row = row_found (cs s) c.args.id c.args.port (sym c.row_place.ensures ∙ c.in-Some.is) in
-    ∥∥₁_elim a.ready (hlevel props) (λ (r : ReadyPlot s).
-    let q = slot_asked (row_slot r.fed_scene row (c.member_of.ensures (cs s) a.plot.accepted.table)) (length a.labels.now) (ready_nodes r) in record {
+    ∥∥₁_elim a.ready (hlevel props) (λ (r : ReadyScene s).
+    let q = slot_asked (row_slot r.2.fed_scene row (c.member_of.ensures (cs s) a.table)) (length a.labels.now) (ready_nodes r.2) in record {
       ascending = (q.0.0, (q.0.1, q.1.0));
-      indices = (ready_labels r, omega (arith, ready_nodes r, (within s).few));
+      indices = (ready_labels r.2, omega (arith, ready_nodes r.2, (within s r).few));
     })
 
 pub returns-in-Some : goal.returns-in-Some
-returns-in-Some c =
-    let s = (goal.at.returns-in-Some c).Start in
+returns-in-Some c ps fs r =
     let a = c.args.self.now in
     let found = sym c.row_place.ensures ∙ c.in-Some.is in
-    ∥∥₁_elim a.ready (hlevel props) (λ (r : ReadyPlot s).
     sets_at c.args.id found
-    (port_sets r (row_slot r.fed_scene (row_found (cs s) c.args.id c.args.port found) (c.member_of.ensures (cs s) a.plot.accepted.table))
-    c.slot_sources.ensures))
+    (port_sets r (row_slot r.fed_scene (row_found a.components.now c.args.id c.args.port found) (c.member_of.ensures a.components.now a.table))
+    c.slot_sources.ensures)
 
 pub returns-in-None : goal.returns-in-None
-returns-in-None c =
-    let p = c.args.self.now.plot in
+returns-in-None c ps fs r =
     sets_at c.args.id (sym c.row_place.ensures ∙ c.in-None.is)
-    (c.no_sources.ensures p.components.now p.ports.now p.frontiers.now c.args.port)
+    (c.no_sources.ensures c.args.self.now.components.now ps fs c.args.port)
+
+pub row_place-requires : goal.row_place-requires
+row_place-requires c =
+    let s = (goal.at.row_place-requires c).Start in
+    ∥∥₁_elim c.args.self.now.ready (hlevel props) (λ (r : ReadyScene s). (within s r, c.args.self.now.table))
 
 pub overflow_mul-member_of : goal.overflow_mul-member_of
 overflow_mul-member_of c =
     let s = (goal.at.overflow_mul-member_of c).Start in
-    omega (arith, (member_small s (sym c.row_place.ensures ∙ c.in-Some.is) (c.member_of.ensures (cs s) s.args.self.now.plot.accepted.table)).0)
+    let found = sym c.row_place.ensures ∙ c.in-Some.is in
+    let member = c.member_of.ensures (cs s) c.args.self.now.table in
+    ∥∥₁_elim c.args.self.now.ready (hlevel props) (λ (r : ReadyScene s). omega (arith, (member_small s r found member).0))
 
 pub overflow_add-member_of : goal.overflow_add-member_of
 overflow_add-member_of c =
     let s = (goal.at.overflow_add-member_of c).Start in
-    let m = member_small s (sym c.row_place.ensures ∙ c.in-Some.is) (c.member_of.ensures (cs s) s.args.self.now.plot.accepted.table) in
-    omega (arith, m.0, m.1)
+    let found = sym c.row_place.ensures ∙ c.in-Some.is in
+    let member = c.member_of.ensures (cs s) c.args.self.now.table in
+    ∥∥₁_elim c.args.self.now.ready (hlevel props) (λ (r : ReadyScene s).
+    let m = member_small s r found member in omega (arith, m.0, m.1))
