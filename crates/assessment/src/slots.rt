@@ -46,11 +46,12 @@ pub enum Status {
     NoKnownSource,
 }
 
-// The number of a status in verdict rows.
-fn status_number(status: Status) -> u64
-    ensures { result ≡ status_number status }
-{
-    status as u64
+impl From<Status> for u64 {
+    ghost from_gives = { λ status number. number ≡ status_number status };
+
+    fn from(status: Status) -> u64 {
+        status as u64
+    }
 }
 
 // The slot of the port that port connection k feeds: nobody's, where it is a support or feeds a port past the places.
@@ -130,7 +131,7 @@ fn put_verdict(out: &mut [u64], at: usize, device: u64, port: u64, status: Statu
 {
     out[at] = device;
     out[at + 1] = port;
-    out[at + 2] = status_number(status);
+    out[at + 2] = u64::from(status);
     at + 3
 }
 

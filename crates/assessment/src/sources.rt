@@ -12,6 +12,7 @@ ghost use Rattle.signals.specs.Flags.{Flags, FirstFlagged};
 ghost use Rattle.std.specs.Option.{option_map};
 ghost use Rattle.assessment.specs.Rows.{source_number};
 
+use lists::kinds::BlockKind;
 use lists::numbers::natural_at;
 use lists::{COMPONENT, FRONTIER};
 
@@ -24,11 +25,12 @@ pub enum SourceKind {
     InferredPrimaryInput,
 }
 
-// The number of a source kind in source rows.
-pub(crate) fn source_number(kind: SourceKind) -> u64
-    ensures { result ≡ source_number kind }
-{
-    kind as u64
+impl From<SourceKind> for u64 {
+    ghost from_gives = { λ kind number. number ≡ source_number kind };
+
+    fn from(kind: SourceKind) -> u64 {
+        kind as u64
+    }
 }
 
 // The source kind of a block's kind: levers, buttons and plates are inputs, torches and redstone blocks sources of their own.
@@ -36,10 +38,13 @@ pub(crate) fn source_number(kind: SourceKind) -> u64
 pub fn source_kind(kind: u64) -> Option<SourceKind>
     ensures { option_map source_number result ≡ source_kind kind }
 {
-    // By numbers: kinds come so in the lists that C hands over.
-    match kind {
-        3 | 7 => Some(SourceKind::IntrinsicSource),
-        4 | 5 | 6 => Some(SourceKind::ControllableInput),
+    match BlockKind::try_from(kind) {
+        Ok(BlockKind::RedstoneTorch | BlockKind::RedstoneBlock) => Some(
+            SourceKind::IntrinsicSource,
+        ),
+        Ok(BlockKind::Lever | BlockKind::Button | BlockKind::PressurePlate) => Some(
+            SourceKind::ControllableInput,
+        ),
         _ => None,
     }
 }

@@ -9,8 +9,9 @@ ghost use Rattle.signals.specs.Sources.{source_kind};
 ghost use Rattle.assessment.specs.Verdicts.{kind_row};
 ghost use Rattle.assessment.specs.Rows.{Put, first_required, required_count, slot_fed, Scanned, source_number, sources_of, sources_below, InferredAlone};
 
-use super::sources::{SourceKind, source_kind, source_number};
+use super::sources::{SourceKind, source_kind};
 use lists::COMPONENT;
+use lists::kinds::BlockKind;
 use lists::numbers::natural_at;
 use std::ops::Range;
 use tables::SPAN;
@@ -21,11 +22,10 @@ pub fn required_ports(kind: u64) -> Range<usize>
     ensures range { (result.start ≡ first_required kind) × (result.end ≡ first_required kind + required_count kind) }
     ensures few { (result.start ≤ 4) × (result.end ≤ result.start + 4) }
 {
-    // By numbers: kinds come so in the lists that C hands over.
-    match kind {
-        1 | 2 => 1..2,
-        3 => 4..5,
-        8 => 0..4,
+    match BlockKind::try_from(kind) {
+        Ok(BlockKind::Repeater | BlockKind::Comparator) => 1..2,
+        Ok(BlockKind::RedstoneTorch) => 4..5,
+        Ok(BlockKind::Piston) => 0..4,
         _ => 0..0,
     }
 }
@@ -48,7 +48,7 @@ fn put_source(out: &mut [u64], at: usize, id: u64, kind: Option<SourceKind>) -> 
         return at;
     };
     out[at] = id;
-    out[at + 1] = source_number(kind);
+    out[at + 1] = u64::from(kind);
     at + 2
 }
 

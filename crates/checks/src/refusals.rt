@@ -15,7 +15,7 @@ use lists::ranges::{
 };
 use lists::{
     COMPONENT, COMPONENTS, CONNECTION, CONNECTIONS, FRONTIER, FRONTIERS, Fault, PORT, Refusal,
-    Section, fault_number, list_number,
+    Section, list_number,
 };
 
 // A fault that was found is refused with its list.
@@ -226,9 +226,7 @@ pub fn pack(checked: Result<(), Refusal>) -> u64
     match checked {
         Ok(()) => 0,
         Err(refusal) => {
-            fault_number(refusal.fault)
-                + 256 * list_number(refusal.list)
-                + 65536 * refusal.item as u64
+            u64::from(refusal.fault) + 256 * list_number(refusal.list) + 65536 * refusal.item as u64
         }
     }
 }

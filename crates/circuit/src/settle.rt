@@ -11,13 +11,14 @@ ghost use Rattle.circuit.specs.Settled.{place_or, Settled, settled_join, settled
 use super::Counts;
 use super::forest::UnionFind;
 use lists::hints::{HINTS, hint_ids, place_near};
+use lists::kinds::ConnectionKind;
 use lists::numbers::natural_at;
 use lists::{COMPONENTS, CONNECTION, CONNECTIONS};
 
-// Nets use kinds 0 to 4, fragments 0 to 8. Limits among numbers, as kinds stand in the lists that C hands over.
-const NET_KINDS: u64 = 4;
+// Nets use the kinds up to this one, and fragments up to the next.
+const NET_KINDS: u64 = ConnectionKind::StrongPower as u64;
 
-const FRAGMENT_KINDS: u64 = 8;
+const FRAGMENT_KINDS: u64 = ConnectionKind::Control as u64;
 
 // A place; the limit stands for none: a list of Option<usize> is twice as long, and `join_one` tests both ends without a branch for none.
 fn place_or(found: Option<usize>) -> usize

@@ -2,6 +2,7 @@
 pub mod Faces
 pub mod Table
 pub mod Computed
+pub mod Blocks
 pub mod Runs
 pub mod Steps
 pub mod Places

@@ -35,14 +35,15 @@ impl TryFrom<u64> for Face {
     }
 }
 
-impl Face {
-    // The number that stands for it.
-    pub fn number(self) -> u64
-        ensures { result ≡ face_code self }
-    {
-        self as u64
-    }
+impl From<Face> for u64 {
+    ghost from_gives = { λ face number. number ≡ face_code face };
 
+    fn from(face: Face) -> u64 {
+        face as u64
+    }
+}
+
+impl Face {
     #[tactic(auto, unfolding(crate::specs::Ports::opposite))]
     pub fn opposite(self) -> Self
         ensures { face_code result ≡ opposite (face_code self) }
@@ -71,7 +72,7 @@ pub fn opposite_face(number: u64) -> u64
     ensures { result ≡ opposite number }
 {
     match Face::try_from(number) {
-        Ok(face) => face.opposite().number(),
+        Ok(face) => u64::from(face.opposite()),
         Err(_) => 0,
     }
 }

@@ -5,6 +5,7 @@ ghost use Rattle.faces.specs.Codes.{role_code, channel_code, face_code, numbers_
 ghost use Rattle.faces.specs.Rows.{places_of};
 
 use super::face::Face;
+use lists::kinds::BlockKind;
 
 // The most ports of a component.
 pub const PORTS: usize = 7;
@@ -18,12 +19,11 @@ pub enum Role {
     Support,
 }
 
-impl Role {
-    // The number that stands for it.
-    pub fn number(self) -> u64
-        ensures { result ≡ role_code self }
-    {
-        self as u64
+impl From<Role> for u64 {
+    ghost from_gives = { λ role number. number ≡ role_code role };
+
+    fn from(role: Role) -> u64 {
+        role as u64
     }
 }
 
@@ -36,12 +36,11 @@ pub enum Channel {
     Structural,
 }
 
-impl Channel {
-    // The number that stands for it.
-    pub fn number(self) -> u64
-        ensures { result ≡ channel_code self }
-    {
-        self as u64
+impl From<Channel> for u64 {
+    ghost from_gives = { λ channel number. number ≡ channel_code channel };
+
+    fn from(channel: Channel) -> u64 {
+        channel as u64
     }
 }
 
@@ -184,41 +183,55 @@ fn solid_ports() -> [Option<Port>; PORTS]
     ]
 }
 
-// The ports of a component by its codes, which are those of the lists that C hands over: kind 0 wire, 1 repeater,
-// 2 comparator, 3 torch, 4 to 7 lever, button, pressure plate and redstone block, 8 piston, 9 to 11 solid, transparent
-// and lamp, 12 air. A facing of none is North, a support of none is Down.
+// The ports of a component by its numbers in the lists. A facing of none is North, a support of none is Down.
 pub fn ports_for(kind: u64, facing: u64, support: u64, conducts: u64) -> [Option<Port>; PORTS]
     ensures { map numbers_at result ≡ places_of (ports_for kind facing support conducts) }
 {
-    match kind {
-        0 => wire_ports(),
-        1 | 2 => repeater_ports(Face::North.unless(facing)),
-        3 => torch_ports(Face::Down.unless(support)),
-        4 | 5 | 6 | 7 => lever_ports(),
-        8 => piston_ports(Face::North.unless(facing)),
-        9 | 10 | 11 => if conducts == 1 {
+    let Ok(block) = BlockKind::try_from(kind) else {
+        return NO_PORTS;
+    };
+    match block {
+        BlockKind::RedstoneWire => wire_ports(),
+        BlockKind::Repeater | BlockKind::Comparator => repeater_ports(Face::North.unless(facing)),
+        BlockKind::RedstoneTorch => torch_ports(Face::Down.unless(support)),
+        BlockKind::Lever
+        | BlockKind::Button
+        | BlockKind::PressurePlate
+        | BlockKind::RedstoneBlock => lever_ports(),
+        BlockKind::Piston => piston_ports(Face::North.unless(facing)),
+        BlockKind::Solid | BlockKind::Transparent | BlockKind::RedstoneLamp => if conducts == 1 {
             solid_ports()
         } else {
             NO_PORTS
         },
-        _ => NO_PORTS,
+        BlockKind::Air => NO_PORTS,
     }
 }
 
-// How many there are, by the same codes. A repeater that faces Up or Down has a Control on each of the four.
+// How many there are. A repeater that faces Up or Down has a Control on each of the four.
 pub fn port_count(kind: u64, facing: u64, support: u64, conducts: u64) -> usize
     ensures { result ≡ length (ports_for kind facing support conducts) }
 {
-    match kind {
-        0 => 7,
-        1 | 2 => match facing {
-            5 | 6 => 7,
-            _ => 5,
+    let Ok(block) = BlockKind::try_from(kind) else {
+        return 0;
+    };
+    match block {
+        BlockKind::RedstoneWire => 7,
+        BlockKind::Repeater | BlockKind::Comparator => match Face::North.unless(facing) {
+            Face::Up | Face::Down => 7,
+            Face::North | Face::East | Face::South | Face::West => 5,
         },
-        3 => 5,
-        4 | 5 | 6 | 7 => 4,
-        8 => 5,
-        9 | 10 | 11 => if conducts == 1 { 6 } else { 0 },
-        _ => 0,
+        BlockKind::RedstoneTorch => 5,
+        BlockKind::Lever
+        | BlockKind::Button
+        | BlockKind::PressurePlate
+        | BlockKind::RedstoneBlock => 4,
+        BlockKind::Piston => 5,
+        BlockKind::Solid | BlockKind::Transparent | BlockKind::RedstoneLamp => if conducts == 1 {
+            6
+        } else {
+            0
+        },
+        BlockKind::Air => 0,
     }
 }

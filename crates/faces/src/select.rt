@@ -1,15 +1,15 @@
 // Which port a connection takes at an end.
 ghost use Rattle.std.specs.Prelude.{◌≡◌};
+ghost use Rattle.lists.specs.Kinds.{connection_number, transfer_number};
 ghost use Rattle.faces.specs.Codes.{port_code, ports_in};
 ghost use Rattle.faces.specs.Select.{fits, serves, select_port, transfer_of};
 
 use super::ports::{Channel, PORTS, Port, Role};
+use lists::kinds::{ConnectionKind, TransferKind};
 
-// ---- kinds of connection: numbers, as the lists that C hands over hold them
+pub const CONTROL_KIND: u64 = ConnectionKind::Control as u64;
 
-pub const CONTROL_KIND: u64 = 8;
-
-pub const SUPPORT_KIND: u64 = 9;
+pub const SUPPORT_KIND: u64 = ConnectionKind::Support as u64;
 
 // Whether a port fits a connection that goes out from it or comes in.
 fn port_fits(port: Port, outgoing: bool, kind: u64) -> bool
@@ -30,7 +30,7 @@ fn port_fits(port: Port, outgoing: bool, kind: u64) -> bool
 fn port_serves(port: Port, face: u64, outgoing: bool, kind: u64) -> bool
     ensures { result ≡ serves (port_code port) face outgoing kind }
 {
-    (port.face.number() == face) & port_fits(port, outgoing, kind)
+    (u64::from(port.face) == face) & port_fits(port, outgoing, kind)
 }
 
 // The first port that has the face of this number and fits, none where the number is no face's. No port stands past a place
@@ -54,15 +54,31 @@ pub fn select_port(
     None
 }
 
-const TRANSFERS: [u64; 10] = [0, 0, 0, 2, 3, 4, 4, 1, 5, 6];
+// What a connection of the kind passes on.
+#[tactic(auto, unfolding(crate::specs::Select::transfer_of))]
+fn transfer(kind: ConnectionKind) -> TransferKind
+    ensures { transfer_number result ≡ transfer_of (connection_number kind) }
+{
+    match kind {
+        ConnectionKind::Dust
+        | ConnectionKind::DustRise
+        | ConnectionKind::DustFallThroughConductor => TransferKind::DustPropagation,
+        ConnectionKind::WeakPower => TransferKind::WeakPower,
+        ConnectionKind::StrongPower => TransferKind::StrongPower,
+        ConnectionKind::DirectionalInput | ConnectionKind::DirectionalOutput =>
+            TransferKind::DirectionalDevice,
+        ConnectionKind::DirectSource => TransferKind::DirectSignal,
+        ConnectionKind::Control => TransferKind::SideControl,
+        ConnectionKind::Support => TransferKind::StructuralSupport,
+    }
+}
 
-// The transfer of a kind of connection.
+// The number of the transfer of a kind of connection, 0 where the number is no kind's.
 pub fn transfer_of(kind: u64) -> u64
     ensures { result ≡ transfer_of kind }
 {
-    if kind < 10 {
-        TRANSFERS[kind as usize]
-    } else {
-        0
+    match ConnectionKind::try_from(kind) {
+        Ok(kind) => u64::from(transfer(kind)),
+        Err(_) => 0,
     }
 }

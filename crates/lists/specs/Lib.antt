@@ -10,3 +10,4 @@ pub mod Order
 pub mod Ids
 pub mod Ends
 pub mod Slices
+pub mod Kinds

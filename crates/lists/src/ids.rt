@@ -6,6 +6,7 @@ ghost use Rattle.lists.specs.Ids.{place_of, has_component, used_earlier, first_r
 ghost use Rattle.lists.specs.Within.{Components};
 
 use super::COMPONENT;
+use super::kinds::TransferKind;
 use super::numbers::natural_at;
 use tables::SPAN;
 
@@ -97,8 +98,8 @@ pub fn first_repeated(keys: &[u64], components: &[i64]) -> Option<usize>
     None
 }
 
-// Transfer 6, StructuralSupport, makes no signal edge. A number, as it stands in the lists that C hands over.
-pub const SUPPORT: u64 = 6;
+// A support makes no signal edge.
+pub const SUPPORT: u64 = TransferKind::StructuralSupport as u64;
 
 // The member that stands for the component with the id: how many ids are below it.
 pub fn member_of(keys: &[u64], id: u64) -> usize

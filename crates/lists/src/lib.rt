@@ -6,6 +6,7 @@
 pub mod ends;
 pub mod hints;
 pub mod ids;
+pub mod kinds;
 pub mod numbers;
 pub mod order;
 pub mod ranges;
@@ -89,11 +90,13 @@ pub struct Refusal {
     pub item: usize,
 }
 
-// The number of a fault in answers.
-pub fn fault_number(fault: Fault) -> u64
-    ensures { result ≡ fault_number fault }
-{
-    fault as u64 + 1
+impl From<Fault> for u64 {
+    ghost from_gives = { λ fault number. number ≡ fault_number fault };
+
+    // The number of a fault in answers.
+    fn from(fault: Fault) -> u64 {
+        fault as u64 + 1
+    }
 }
 
 // The number of a list in answers, 3 for none.

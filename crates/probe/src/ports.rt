@@ -34,7 +34,7 @@ pub extern "C" fn probe_port(
     }
     match ports[place] {
         Some(port) => {
-            port.role.number() + 256 * port.face.number() + 65536 * port.channel.number()
+            u64::from(port.role) + 256 * u64::from(port.face) + 65536 * u64::from(port.channel)
         }
         None => 0,
     }
@@ -51,7 +51,7 @@ pub extern "C" fn probe_facing_between(
 ) -> u64
     ensures { result ≡ facing_between x y z to_x to_y to_z }
 {
-    facing_between(x, y, z, to_x, to_y, to_z).map_or(0, Face::number)
+    facing_between(x, y, z, to_x, to_y, to_z).map_or(0, u64::from)
 }
 
 // A refusal as one number, or the count of kept rows above its sixteen lowest bits.

@@ -3,7 +3,7 @@ ghost use Rattle.std.specs.Prelude.{◌≡◌};
 ghost use Rattle.sheet.specs.Sheet.{parse};
 ghost use Rattle.probe.specs.Sheets.{packed_refusal, packed_report, ReportedAs};
 
-use lists::{Refusal, fault_number, list_number};
+use lists::{Refusal, list_number};
 use report::report;
 use sheet::Counts;
 
@@ -35,7 +35,7 @@ fn pack_printed(printed: Result<usize, Refusal>) -> u64
     match printed {
         Ok(n) => pack_refusal(0, 0, n),
         Err(refusal) => pack_refusal(
-            fault_number(refusal.fault),
+            u64::from(refusal.fault),
             list_number(refusal.list),
             refusal.item,
         ),

@@ -46,7 +46,7 @@ impl Scene<'_> {
         let conducts = natural_at(self.components, at + 7);
         select_port(
             ports_for(block, facing, support, conducts),
-            face.number(),
+            u64::from(face),
             outgoing,
             kind,
         )

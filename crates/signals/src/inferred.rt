@@ -12,16 +12,16 @@ ghost use Rattle.signals.specs.Seen.{SeenOf, Rows, few_near, outside_key};
 use super::edges::flag_sinks;
 use super::network::{Network, Table};
 use lists::COMPONENT;
+use lists::kinds::BlockKind;
 use lists::numbers::natural_at;
 use tables::SPAN;
 use tables::rows::lower_bound_in;
 
-// Kinds of components, by their numbers in the lists.
-const WIRE: u64 = 0;
+const WIRE: u64 = BlockKind::RedstoneWire as u64;
 
-const SOLID: u64 = 9;
+const SOLID: u64 = BlockKind::Solid as u64;
 
-const TRANSPARENT: u64 = 10;
+const TRANSPARENT: u64 = BlockKind::Transparent as u64;
 
 // The distinct neighbours seen so far.
 #[derive(Clone, Copy)]

@@ -4,4 +4,4 @@ use Rattle.assessment.proofs.Written.{three_puts}
 use Rattle.assessment.proofs.slots.put_verdict.Goals as goal
 
 pub returns : goal.returns
-returns c = rw c.status_number.ensures (three_puts _ _ _ _ _ c.requires)
+returns c = rw c.from.ensures (three_puts _ _ _ _ _ c.requires)

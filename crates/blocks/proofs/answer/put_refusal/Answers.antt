@@ -34,21 +34,21 @@ room at r out h = subst (λ (t : List ℕ). at + length t ≤ length out) (lines
 pub put_natural-a-requires : goal.put_natural-a-requires
 put_natural-a-requires c =
     let r = c.args.refusal in
-    omega (arith, room c.args.at r c.args.out.now c.requires, length-append (answer_line r) (list_line r ++ item_line r), ap (λ (n : ℕ). length (line_of (ascii "answer") (pos n))) c.fault_number.ensures)
+    omega (arith, room c.args.at r c.args.out.now c.requires, length-append (answer_line r) (list_line r ++ item_line r), ap (λ (n : ℕ). length (line_of (ascii "answer") (pos n))) c.from.ensures)
 
 pub put_natural-b-requires : goal.put_natural-b-requires
 put_natural-b-requires c =
     let r = c.args.refusal in
-    let behind = put_room (rw c.fault_number.ensures at c.put_natural-a.ensures) (list_line r ++ item_line r) (room c.args.at r c.args.out.now c.requires) in
+    let behind = put_room (rw c.from.ensures at c.put_natural-a.ensures) (list_line r ++ item_line r) (room c.args.at r c.args.out.now c.requires) in
     omega (arith, behind, length-append (list_line r) (item_line r), ap (λ (n : ℕ). length (line_of (ascii "list") (pos n))) c.list_number.ensures)
 
 pub put_natural-requires : goal.put_natural-requires
 put_natural-requires c =
     let r = c.args.refusal in
-    let behind = put_room (rw c.fault_number.ensures at c.put_natural-a.ensures) (list_line r ++ item_line r) (room c.args.at r c.args.out.now c.requires) in
+    let behind = put_room (rw c.from.ensures at c.put_natural-a.ensures) (list_line r ++ item_line r) (room c.args.at r c.args.out.now c.requires) in
     put_room (rw c.list_number.ensures at c.put_natural-b.ensures) (item_line r) behind
 
 pub returns : goal.returns
 returns c =
     rw (lines_are c.args.refusal)
-    (put_put (rw c.fault_number.ensures at c.put_natural-a.ensures) (put_put (rw c.list_number.ensures at c.put_natural-b.ensures) c.put_natural.ensures))
+    (put_put (rw c.from.ensures at c.put_natural-a.ensures) (put_put (rw c.list_number.ensures at c.put_natural-b.ensures) c.put_natural.ensures))

@@ -11,7 +11,7 @@ overflow_mul-result c = omega (arith, c.list_number.ensures, list_few c.in-Err.r
 
 pub overflow_add-result : goal.overflow_add-result
 overflow_add-result c =
-    omega (arith, c.list_number.ensures, list_few c.in-Err.refusal.list, c.fault_number.ensures, fault_few c.in-Err.refusal.fault)
+    omega (arith, c.list_number.ensures, list_few c.in-Err.refusal.list, c.from.ensures, fault_few c.in-Err.refusal.fault)
 
 pub overflow_mul-result-in-Err : goal.overflow_mul-result-in-Err
 overflow_mul-result-in-Err c = let known : Small (Err c.in-Err.refusal) = rw c.in-Err.is at c.requires in omega arith
@@ -19,10 +19,10 @@ overflow_mul-result-in-Err c = let known : Small (Err c.in-Err.refusal) = rw c.i
 pub overflow_add-result-in-Err : goal.overflow_add-result-in-Err
 overflow_add-result-in-Err c =
     let known : Small (Err c.in-Err.refusal) = rw c.in-Err.is at c.requires in
-    omega (arith, c.list_number.ensures, list_few c.in-Err.refusal.list, c.fault_number.ensures, fault_few c.in-Err.refusal.fault)
+    omega (arith, c.list_number.ensures, list_few c.in-Err.refusal.list, c.from.ensures, fault_few c.in-Err.refusal.fault)
 
 pub returns-in-Ok : goal.returns-in-Ok
 returns-in-Ok c = rw c.in-Ok.is
 
 pub returns-in-Err : goal.returns-in-Err
-returns-in-Err c = rw (c.in-Err.is, c.fault_number.ensures, c.list_number.ensures)
+returns-in-Err c = rw (c.in-Err.is, c.from.ensures, c.list_number.ensures)

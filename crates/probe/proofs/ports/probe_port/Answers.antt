@@ -22,5 +22,5 @@ returns-in-None c =
 pub returns-in-Some : goal.returns-in-Some
 returns-in-Some c =
     let a = c.args in
-    rw (c.number.ensures, c.number-in-Some.ensures, c.number-in-Some-2.ensures)
+    rw (c.from.ensures, c.from-in-Some.ensures, c.from-in-Some-2.ensures)
     (sym (ap code_at c.in-Some.is) ∙ place_coded c.ports_for-ports.result (ports_for a.kind a.facing a.support a.conducts) c.ports_for-ports.ensures a.place)

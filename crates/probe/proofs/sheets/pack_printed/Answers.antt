@@ -8,4 +8,4 @@ pub returns-in-Ok : goal.returns-in-Ok
 returns-in-Ok c = c.pack_refusal.ensures ∙ ap packed_report (sym c.in-Ok.is)
 
 pub returns-in-Err : goal.returns-in-Err
-returns-in-Err c = c.pack_refusal-in-Err.ensures ∙ rw (c.fault_number.ensures, c.list_number.ensures, c.in-Err.is)
+returns-in-Err c = c.pack_refusal-in-Err.ensures ∙ rw (c.from.ensures, c.list_number.ensures, c.in-Err.is)
