@@ -5,14 +5,12 @@ ghost use Rattle.checks.specs.Refusals.{refuse, ◌or_else◌, not_whole, room_f
 ghost use Rattle.checks.specs.Checks.{lengths_of, ranges_of, scene_of, Ordered, CheckedBy, LivenessChecked};
 ghost use Rattle.lists.specs.Records.{component_count};
 ghost use Rattle.lists.specs.Within.{Components};
+ghost use Rattle.lists.specs.Ends.{sources_of, sinks_of};
 
-use lists::ends::{first_end_missing, settle_ends};
+use super::ranges::{COMPONENT_RANGES, CONNECTION_RANGES, FRONTIER_RANGES, PORT_RANGES};
+use lists::ends::{Ends, first_end_missing, settle_ends};
 use lists::ids::{first_repeated, id_table};
 use lists::order::{first_component_not_ascending, first_connection_not_ascending};
-use lists::ranges::{
-    first_component_out_of_range, first_connection_out_of_range, first_frontier_out_of_range,
-    first_port_connection_out_of_range,
-};
 use lists::{
     COMPONENT, COMPONENTS, CONNECTION, CONNECTIONS, FRONTIER, FRONTIERS, Fault, PORT, Refusal,
     Section, list_number,
@@ -121,13 +119,13 @@ fn refuse_ranges(
     refuse_at(
         out_of_range,
         Some(Section::Components),
-        first_component_out_of_range(components),
+        COMPONENT_RANGES.first_outside(components),
     )?;
     refuse_at(out_of_range, Some(Section::Connections), connections)?;
     refuse_at(
         out_of_range,
         Some(Section::Frontiers),
-        first_frontier_out_of_range(frontiers),
+        FRONTIER_RANGES.first_outside(frontiers),
     )
 }
 
@@ -167,7 +165,7 @@ pub fn grouping_lists(
     requires { component_limit ≤ length keys.old }
     ensures { CheckedBy (grouping_lists components.now connections.now frontiers.now enough) components.now keys.new result }
 {
-    let found = first_connection_out_of_range(connections);
+    let found = CONNECTION_RANGES.first_outside(connections);
     refuse_scene(
         components,
         CONNECTION,
@@ -193,13 +191,13 @@ pub fn liveness_lists(
     frontiers: &[i64],
     enough: bool,
     keys: &mut [u64],
-    sources: &mut [usize],
-    sinks: &mut [usize],
+    ends: &mut [Ends],
 ) -> Result<(), Refusal>
-    requires { (component_limit ≤ length keys.old) × ((connection_limit ≤ length sources.old) × (connection_limit ≤ length sinks.old)) }
-    ensures { LivenessChecked (liveness_lists components.now ports.now frontiers.now enough) components.now ports.now keys.new sources.new sinks.new result }
+    requires { (component_limit ≤ length keys.old) × (connection_limit ≤ length ends.old) }
+    ensures { LivenessChecked (liveness_lists components.now ports.now frontiers.now enough)
+        components.now ports.now keys.new (sources_of ends.new) (sinks_of ends.new) result }
 {
-    let found = first_port_connection_out_of_range(ports);
+    let found = PORT_RANGES.first_outside(ports);
     refuse_scene(
         components,
         PORT,
@@ -210,11 +208,11 @@ pub fn liveness_lists(
         keys,
     )?;
     let count = components.len() / COMPONENT;
-    settle_ends(&keys[..count], ports, sources, sinks);
+    settle_ends(&keys[..count], ports, ends);
     refuse_at(
         Fault::MissingEnd,
         Some(Section::Connections),
-        first_end_missing(&keys[..count], ports, sources, sinks),
+        first_end_missing(&keys[..count], ports, ends),
     )
 }
 

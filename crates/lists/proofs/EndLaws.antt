@@ -1,5 +1,6 @@
 -- The ends of port connections.
---     end_range         source and sink are ids
+--     none              the ends that a list has past its last
+--     source_of, sink_of, sources_length, sinks_length     the lists of sources and sinks, by the list of ends
 --     source_at         settled sources, by the connections' first fields
 --     member_stands     a component has an id where the key at the id's member says so
 --     member_past       and none where there is no key
@@ -7,31 +8,42 @@
 use Rattle.std.specs.Prelude.{Option, Some, None}
 use mathlib.Core.Path.{◌≡◌, refl, sym, ap, ◌∙◌, subst}
 use mathlib.Core.Bool.{Bool, false}
-use mathlib.Core.Logic.{◌⊎◌, ⊎_elim}
+use mathlib.Core.Logic.{⊎_elim}
 use mathlib.Core.List.{List}
 use Prim.Native.Nat.{ℕ, ◌*◌, ◌/◌, ◌≤◌, ◌<◌}
 use native.Mathlib.Nat.{add-zero}
 use native.Mathlib.Omega.{arith}
 use lib.Dec.{eqb, leb}
-use lib.ListN.{length, get_or}
-use lib.IntN.{ℤ, pos}
+use lib.ListN.{length, get_or, get_or-map, length-map}
+use lib.IntN.{ℤ}
 use borrow.Author.Tests.{leb-true, leb-false, eq-eqb, ne_eqb}
 use Rattle.tables.specs.Order.{LowerBound}
 use Rattle.tables.specs.Laws.{same?}
 use Rattle.tables.specs.Pairs.{span}
 use Rattle.lists.specs.Limits.{port_width}
-use Rattle.lists.specs.Signed.{at}
 use Rattle.lists.specs.Records.{natural_at, port_count}
-use Rattle.lists.specs.Ranges.{port_low, port_high}
 use Rattle.lists.specs.First.{first_from, is_found}
 use Rattle.lists.specs.Ids.{has_component, IdTable, smaller_ids}
-use Rattle.lists.specs.Ends.{SettledEnds}
+use Rattle.lists.specs.declared.ends.Ends.{Ends}
+use Rattle.lists.specs.Ends.{SettledEnds, sources_of, sinks_of}
 use Rattle.lists.proofs.Search.{found_at, none_found}
 use Rattle.lists.proofs.Table.{place_found, place_none}
 use Rattle.lists.proofs.Members.{smaller_at}
 
-pub end_range : (f : ℕ) → (f ≡ 0) ⊎ (f ≡ 2) → (f < 5) × ((at port_low f ≡ pos 0) × (at port_high f ≡ pos 4294967295))
-end_range f = ⊎_elim (λ e. rw e (omega arith, (refl, refl))) (λ e. rw e (omega arith, (refl, refl)))
+abbrev pub none : Ends
+none = record { source = 0; sink = 0 }
+
+pub source_of : (ends : List Ends) (k : ℕ) → get_or (sources_of ends) k 0 ≡ (get_or ends k none).source
+source_of ends k = get_or-map (λ (e : Ends). e.source) ends k none
+
+pub sink_of : (ends : List Ends) (k : ℕ) → get_or (sinks_of ends) k 0 ≡ (get_or ends k none).sink
+sink_of ends k = get_or-map (λ (e : Ends). e.sink) ends k none
+
+pub sources_length : (ends : List Ends) → length (sources_of ends) ≡ length ends
+sources_length ends = length-map ends (λ (e : Ends). e.source)
+
+pub sinks_length : (ends : List Ends) → length (sinks_of ends) ≡ length ends
+sinks_length ends = length-map ends (λ (e : Ends). e.sink)
 
 pub source_at : {cs ps : List ℤ} {sources sinks : List ℕ} → SettledEnds cs ps sources sinks → (k : ℕ) → k < port_count ps
     → get_or sources k 0 ≡ smaller_ids cs (natural_at ps (k * port_width))

@@ -1,5 +1,4 @@
--- Laws of `record_before`, a field at a time, and of `less_then`.
---     before_less, before_more, before_same, before_done     the fields from k on
+-- Laws of `less_then`, and of records that ascend.
 --     then_cases, then_less, then_rest                       what `less_then` says
 --     then_step                                              it is transitive where what decides after it is
 --     ascending_at                                           a record comes before the next
@@ -19,38 +18,9 @@ use lib.IntN.{ℤ}
 use lib.Signed.{lt_z}
 use Rattle.lists.specs.Signed.{at, less_then}
 use borrow.Author.Tests.{not-false}
-use Rattle.lists.specs.Order.{FieldsBelow, record_before, first_not_ascending}
+use Rattle.lists.specs.Order.{record_before, first_not_ascending}
 use Rattle.lists.proofs.Search.{never, none_found}
 use Rattle.lists.proofs.Signed.{lt_z_self, lt_z_trans, lt_z_neither}
-
-pub field_below : (width : ℕ) (fields : List ℕ) → FieldsBelow width fields → (k : ℕ) → k < length fields → get_or fields k 0 < width
-unfolding FieldsBelow
-field_below width [] t k h = absurd (not-suc-le-zero h)
-field_below width (f ∷ fields) t zero h = t.0
-field_below width (f ∷ fields) t (suc k) h = field_below width fields t.1 k (le_of_suc-le-suc h)
-
-module _ (fields : List ℕ) (list : List ℤ) (a b k : ℕ) where
-  turn : k < length fields
-      → record_before (drop k fields) list a b ≡ less_then (at list (a + get_or fields k 0)) (at list (b + get_or fields k 0)) (record_before (drop (k + 1) fields) list a b)
-  unfolding record_before
-  turn h = rw (add-one k, drop-cons fields k 0 h)
-
-  pub before_less : k < length fields → lt_z (at list (a + get_or fields k 0)) (at list (b + get_or fields k 0)) ≡ true → record_before (drop k fields) list a b ≡ true
-  before_less h e = turn h ∙ rw e
-
-  pub before_more : k < length fields → lt_z (at list (a + get_or fields k 0)) (at list (b + get_or fields k 0)) ≡ false
-      → lt_z (at list (b + get_or fields k 0)) (at list (a + get_or fields k 0)) ≡ true → record_before (drop k fields) list a b ≡ false
-  before_more h e g = turn h ∙ rw (e, g)
-
-  pub before_same : k < length fields → lt_z (at list (a + get_or fields k 0)) (at list (b + get_or fields k 0)) ≡ false
-      → lt_z (at list (b + get_or fields k 0)) (at list (a + get_or fields k 0)) ≡ false → record_before (drop k fields) list a b ≡ record_before (drop (k + 1) fields) list a b
-  before_same h e g = turn h ∙ rw (e, g)
-
-  pub before_done : k ≡ length fields → record_before (drop k fields) list a b ≡ false
-  unfolding record_before
-  before_done e = rw (e, drop-length)
-
--- ---- one field, and what decides after it
 
 pub then_less : (a b : ℤ) (r : Bool) → lt_z a b ≡ true → less_then a b r ≡ true
 then_less a b r e = rw e

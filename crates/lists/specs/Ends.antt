@@ -1,9 +1,17 @@
 -- The ends of port connections as members, looked up once: refusal 7 and the signal edges both read them.
 -- Assumes nothing: these are definitions.
-use Rattle.std.specs.Prelude.{ℕ, ◌+◌, ◌*◌, ◌≤◌, ◌<◌, ◌≡◌, List, length, get_or, ℤ}
+use Rattle.std.specs.Prelude.{ℕ, ◌+◌, ◌*◌, ◌≤◌, ◌<◌, ◌≡◌, List, map, length, get_or, ℤ}
+use Rattle.lists.specs.declared.ends.Ends.{Ends}
 use Rattle.lists.specs.Limits.{port_width}
 use Rattle.lists.specs.Records.{natural_at, port_count}
 use Rattle.lists.specs.Ids.{smaller_ids}
+
+-- the sources and the sinks
+abbrev pub sources_of : List Ends → List ℕ
+sources_of ends = map (λ e. e.source) ends
+
+abbrev pub sinks_of : List Ends → List ℕ
+sinks_of ends = map (λ e. e.sink) ends
 
 -- the member of field f of each port connection
 pub record Settled (cs ps : List ℤ) (f : ℕ) (members : List ℕ) : Type 0 where

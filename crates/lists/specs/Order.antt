@@ -1,7 +1,7 @@
 -- The strict orders of components (refusal 4) and of grouping connections (refusal 6).
 -- Assumes nothing: these are definitions.
 use Rattle.std.specs.Prelude.{Option}
-use Rattle.std.specs.Prelude.{ℕ, ◌+◌, ◌*◌, ◌-◌, ◌/◌, ◌<◌, Bool, false, not, List, ◌∷◌, [], length, ℤ}
+use Rattle.std.specs.Prelude.{ℕ, ◌+◌, ◌*◌, ◌-◌, ◌/◌, Bool, false, not, List, ◌∷◌, [], length, ℤ}
 use Rattle.lists.specs.Signed.{at, less_then}
 use Rattle.lists.specs.First.{first_from}
 
@@ -9,11 +9,6 @@ use Rattle.lists.specs.First.{first_from}
 unfoldable pub record_before : List ℕ → List ℤ → ℕ → ℕ → Bool
 record_before [] list a b = false
 record_before (f ∷ fields) list a b = less_then (at list (a + f)) (at list (b + f)) (record_before fields list a b)
-
--- each named field lies within a record of the width
-unfoldable pub FieldsBelow : ℕ → List ℕ → Type 0
-FieldsBelow width [] = Unit
-FieldsBelow width (f ∷ fields) = (f < width) × FieldsBelow width fields
 
 -- the first record that does not come strictly after the one before it
 unfoldable pub first_not_ascending : List ℕ → ℕ → List ℤ → Option ℕ

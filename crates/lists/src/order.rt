@@ -1,42 +1,40 @@
-// The strict order of records by named fields.
+// The strict orders of components and of connections.
 ghost use Rattle.std.specs.Prelude.{None};
-ghost use Rattle.std.specs.Prelude.{◌≡◌, true, ◌+◌, ◌≤◌, ◌<◌, length};
+ghost use Rattle.std.specs.Prelude.{◌≡◌, Bool, true, List, ℕ, ◌+◌, ◌≤◌, ◌<◌, length};
 ghost use Rattle.lists.specs.Limits.{component_width, connection_width};
-ghost use Rattle.lists.specs.Order.{FieldsBelow, record_before, first_not_ascending, component_order, connection_order};
+ghost use Rattle.lists.specs.Order.{record_before, first_not_ascending, component_order, connection_order};
 
 use super::numbers::number_less;
 use super::{COMPONENT, CONNECTION};
 
-// Whether the record at `a` comes strictly before the one at `b`, the first field that differs deciding.
-fn record_before(fields: &[usize], width: usize, list: &[i64], a: usize, b: usize) -> bool
-    requires fields_below { FieldsBelow width fields.now }
-    requires width_in_bounds { (a + width ≤ length list.now) × (b + width ≤ length list.now) }
-    ensures { result ≡ record_before fields.now list.now a b }
-{
-    for f in fields {
-        let f = *f;
-        if number_less(list, a + f, list, b + f) {
-            return true;
-        }
-        if number_less(list, b + f, list, a + f) {
-            return false;
-        }
-    }
-    false
-}
-
-// The first record that does not come strictly after the one before it.
-fn first_not_ascending(fields: &[usize], width: usize, list: &[i64]) -> Option<usize>
-    requires fields_below { FieldsBelow width fields.now }
+// The first record that does not come strictly after the one before it, given the test of the records at two places.
+fn first_not_ascending<F: Fn(usize, usize) -> bool>(
+    list: &[i64],
+    width: usize,
+    precedes: F,
+) -> Option<usize>
+    ghost fields: { List ℕ }
     requires width_nonzero { 0 < width }
-    ensures { result ≡ first_not_ascending fields.now width list.now }
+    requires callable { (a b : ℕ) → a + width ≤ length list.now → b + width ≤ length list.now → F.pre precedes a b }
+    requires answer { (a b : ℕ) (r : Bool) → a + width ≤ length list.now → b + width ≤ length list.now →
+        F.post precedes a b r → r ≡ record_before fields list.now a b }
+    ensures { result ≡ first_not_ascending fields width list.now }
 {
     for k in 1..list.len() / width {
-        if !record_before(fields, width, list, (k - 1) * width, k * width) {
+        if !precedes((k - 1) * width, k * width) {
             return Some(k);
         }
     }
     None
+}
+
+// Whether the component at `a` comes strictly before the one at `b`: by x, y, z, id.
+fn component_before(list: &[i64], a: usize, b: usize) -> bool
+    requires { (a + 8 ≤ length list.now) × (b + 8 ≤ length list.now) }
+    ensures { result ≡ record_before component_order list.now a b }
+{
+    (list[a + 1], list[a + 2], list[a + 3], list[a])
+        < (list[b + 1], list[b + 2], list[b + 3], list[b])
 }
 
 // Whether the connection at `a` comes strictly before the one at `b`. There is no branch: sources and sinks change in no
@@ -64,17 +62,14 @@ fn all_ascending(list: &[i64]) -> bool
     all
 }
 
-// By x, y, z, id.
-const COMPONENT_ORDER: [usize; 4] = [1, 2, 3, 0];
-
-// By source, sink, kind.
-const CONNECTION_ORDER: [usize; 3] = [0, 1, 2];
-
 pub fn first_component_not_ascending(components: &[i64]) -> Option<usize>
     ensures { result ≡ first_not_ascending component_order component_width components.now }
 {
-    let fields = COMPONENT_ORDER;
-    first_not_ascending(&fields, COMPONENT, components)
+    first_not_ascending(
+        components,
+        COMPONENT,
+        |a, b| component_before(components, a, b),
+    )
 }
 
 pub fn first_connection_not_ascending(connections: &[i64]) -> Option<usize>
@@ -83,6 +78,9 @@ pub fn first_connection_not_ascending(connections: &[i64]) -> Option<usize>
     if all_ascending(connections) {
         return None;
     }
-    let fields = CONNECTION_ORDER;
-    first_not_ascending(&fields, CONNECTION, connections)
+    first_not_ascending(
+        connections,
+        CONNECTION,
+        |a, b| connection_before(connections, a, b),
+    )
 }

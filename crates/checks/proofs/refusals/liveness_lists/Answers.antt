@@ -24,7 +24,7 @@ use Rattle.checks.proofs.refusals.liveness_lists.Goals.{In_ok-refuse_scene}
 first : (c : In_ok-refuse_scene)
     → c.refuse_scene.result
     ≡ scene_of c.args.components.now port_width (length c.args.ports.now) (first_out_of_range port_low port_high c.args.ports.now) c.args.frontiers.now c.args.enough
-first c = rw c.first_port_connection_out_of_range-found.ensures at c.refuse_scene.ensures.answer
+first c = rw c.first_outside-found.ensures at c.refuse_scene.ensures.answer
 
 -- where they pass
 passed : (c : In_ok-refuse_scene)
@@ -47,7 +47,7 @@ returns-in_err-refuse_scene c =
     let back : c.from_residual.result ≡ Err c.in_err-refuse_scene.field-0.0 = search rules in
     let parts = liveness_parts a.components.now a.ports.now a.frontiers.now a.enough in
     record {
-      lists = stopped _ _ (rw c.first_port_connection_out_of_range-found.ensures at c.in_err-refuse_scene.ensures) back parts;
+      lists = stopped _ _ (rw c.first_outside-found.ensures at c.in_err-refuse_scene.ensures) back parts;
       ends = λ e. absurd (refused_not (sym back ∙ e));
     }
 
@@ -56,7 +56,7 @@ settle_ends-requires c =
     let all = connections (goal.at.settle_ends-requires c).In_ok-refuse_scene in
     record {
       port_connections = all;
-      ports_in_bounds = (omega (arith, all.few, c.requires.1.0), omega (arith, all.few, c.requires.1.1));
+      ports_in_bounds = omega (arith, all.few, c.requires.1);
     }
 
 pub first_end_missing-requires : goal.first_end_missing-requires
@@ -64,7 +64,7 @@ first_end_missing-requires c =
     let all = connections (goal.at.first_end_missing-requires c).In_ok-refuse_scene in
     record {
       port_connections = all;
-      ports_in_bounds = (omega (arith, all.few, c.requires.1.0, c.settle_ends.auto.sources), omega (arith, all.few, c.requires.1.1, c.settle_ends.auto.sinks));
+      ports_in_bounds = omega (arith, all.few, c.requires.1, c.settle_ends.auto.ends);
     }
 
 pub returns : goal.returns

@@ -14,7 +14,7 @@ pub end_missing-requires : goal.end_missing-requires
 end_missing-requires c =
     record {
       port_connections = (c.requires.port_connections, c.loop-k-test.true);
-      k_in_bounds = (omega (arith, c.requires.ports_in_bounds.0), omega (arith, c.requires.ports_in_bounds.1));
+      k_in_bounds = omega (arith, c.requires.ports_in_bounds);
     }
 
 pub returns-then-end_missing : goal.returns-then-end_missing

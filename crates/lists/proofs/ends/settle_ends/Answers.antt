@@ -1,29 +1,16 @@
--- `lists::ends::settle_ends` meets its contract.
--- Assumes nothing.
-use mathlib.Core.Path.{refl}
-use mathlib.Core.Logic.{inl, inr}
+-- Answers for the goals that the search leaves.
+use mathlib.Core.Path.{◌∙◌}
+use native.Mathlib.Nat.{add-zero}
 use native.Mathlib.Omega.{arith}
+use Rattle.lists.proofs.EndLaws.{source_of, sink_of, sources_length, sinks_length}
 use Rattle.lists.proofs.ends.settle_ends.Goals as goal
-
-pub settle-requires : goal.settle-requires
-settle-requires c =
-    record {
-      port_connections = c.requires.port_connections;
-      fact = (inl refl, c.requires.ports_in_bounds.0);
-    }
-
-pub settle-requires-2 : goal.settle-requires-2
-settle-requires-2 c =
-    record {
-      port_connections = c.requires.port_connections;
-      fact = (inr refl, c.requires.ports_in_bounds.1);
-    }
 
 pub returns : goal.returns
 returns c cs t =
+    let ends = c.loop-k.ends in
     record {
-      source_members = c.settle.ensures cs t;
-      sink_members = c.settle-2.ensures cs t;
-      sources_long = omega (arith, c.requires.ports_in_bounds.0, c.settle.auto.members);
-      sinks_long = omega (arith, c.requires.ports_in_bounds.1, c.settle-2.auto.members);
+      source_members = record { at = λ k h. rw add-zero (source_of ends k ∙ (c.loop-k.invariant.1 cs t k (omega (arith, c.loop-k-test.false))).0) };
+      sink_members = record { at = λ k h. sink_of ends k ∙ (c.loop-k.invariant.1 cs t k (omega (arith, c.loop-k-test.false))).1 };
+      sources_long = omega (arith, sources_length ends, c.loop-k.invariant.0, c.requires.ports_in_bounds);
+      sinks_long = omega (arith, sinks_length ends, c.loop-k.invariant.0, c.requires.ports_in_bounds);
     }
