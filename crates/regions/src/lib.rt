@@ -18,12 +18,12 @@ use tables::rows::{hint_rows, lower_bound_in};
 // The nodes whose row of keys has a hint of where it ends: those of a full plot, and one that stands for none. Others are searched for.
 pub const HINTED: usize = (1 << 10) + 1;
 
-// A graph: its edges as a table of keys, and hints of where the rows of the table end. The arrays that a walk writes are no fields: each
-// method would owe that its struct still holds the same references.
+// A graph: its edges as a sorted table of keys, and hints of where the rows of its nodes end. The arrays that a walk writes are no fields:
+// each method would owe that its struct still holds the same references.
 #[derive(Clone, Copy)]
-struct Graph<'a> {
-    keys: &'a [u64],
-    rows: &'a [usize; HINTED],
+pub struct Graph<'a> {
+    pub keys: &'a [u64],
+    pub rows: &'a [usize],
 }
 
 // A neighbour, and the place of its key.
@@ -35,7 +35,7 @@ struct Neighbour {
 
 impl Graph<'_> {
     // The place of the first key of the node.
-    fn first_key(self, node: usize) -> usize
+    pub fn first_key(self, node: usize) -> usize
         requires { node < span }
         ensures { LowerBound self.entry.keys.now (node * span) result }
     {
@@ -190,35 +190,23 @@ fn paint(labels: &mut [usize], members: &[usize], r: usize)
     }
 }
 
-// The number of regions; `labels` gets the number of each node's. The two tables hold the edges and the edges turned
-// around; `rows` and `turned` are hints of their rows.
+// The number of regions; `labels` gets the number of each node's. The two graphs have the edges, and the edges turned around.
 #[tactic(auto, using(crate::proofs::Label::back_room, crate::proofs::Label::regions_forward))]
 pub fn regions(
-    forward: &[u64],
-    backward: &[u64],
+    forward: Graph,
+    backward: Graph,
     labels: &mut [usize],
     visited: &mut [bool],
     order: &mut [usize],
     members: &mut [usize],
     stack: &mut [usize],
-    rows: &[usize; HINTED],
-    turned: &[usize; HINTED],
 ) -> usize
-    requires { let n = length labels.old in Reversed n forward.now backward.now × Ascending backward.now × (n ≤ length members.old)
-        × Room n forward.now visited.old order.old stack.old }
-    ensures { let n = length labels.old in Regions n (edges n forward.now) labels.new result stack.new }
+    requires { let n = length labels.old in Reversed n forward.keys.now backward.keys.now × Ascending backward.keys.now × (n ≤ length members.old)
+        × Room n forward.keys.now visited.old order.old stack.old }
+    ensures { let n = length labels.old in Regions n (edges n forward.entry.keys.now) labels.new result stack.new }
 {
-    let onward = Graph {
-        keys: forward,
-        rows,
-    };
-    onward.finish_order(visited, order, stack);
-    let finished = &order[..labels.len()];
-    let back = Graph {
-        keys: backward,
-        rows: turned,
-    };
-    back.label_all(finished, visited, labels, members, stack)
+    forward.finish_order(visited, order, stack);
+    backward.label_all(&order[..labels.len()], visited, labels, members, stack)
 }
 
 // Marks in `visited` what the marked starts reach, the starts among it. The order is scratch.

@@ -4,12 +4,14 @@ ghost use Rattle.tables.specs.Pairs.{pair, span, KeysBelow};
 ghost use Rattle.tables.specs.Order.{Ascending, Sorted};
 ghost use Rattle.lists.specs.Records.{port_count};
 ghost use Rattle.lists.specs.Limits.{component_limit};
+ghost use Rattle.lists.specs.Ends.{sources_of, sinks_of};
 ghost use Rattle.lists.specs.Within.{PortConnections};
 ghost use Rattle.signals.specs.Signals.{is_signal};
 ghost use Rattle.signals.specs.Keys.{Slots, signal_key, signal_keys, turned, KeysOf, Sortable};
 ghost use Rattle.signals.specs.Flags.{Flags, Indices};
 ghost use Rattle.signals.specs.Seen.{Rows, EdgeKeys, some_edge_into};
 
+use lists::ends::Ends;
 use lists::ids::SUPPORT;
 use lists::numbers::natural_at;
 use lists::{COMPONENTS, PORT};
@@ -18,15 +20,20 @@ use tables::SPAN;
 // A port of a member: ports are 0 to 255.
 pub const PORTS: usize = 1 << 8;
 
-// The port that each port connection feeds, as one number: its sink's member, then the port.
-pub fn settle_slots(ports: &[i64], sinks: &[usize], slots: &mut [usize])
+// The port that each port connection feeds, as one number, its sink's member and then the port; and the member that feeds it.
+pub fn settle_slots(ports: &[i64], ends: &[Ends], fed: &mut [Ends])
     requires port_connections { PortConnections ports.now }
-    requires ports_in_bounds { (port_count ports.now ≤ length sinks.now) × (port_count ports.now ≤ length slots.old) }
-    requires by_index { (k : ℕ) → k < port_count ports.now → get_or sinks.now k 0 ≤ component_limit }
-    ensures { Slots ports.now sinks.now slots.new }
+    requires ports_in_bounds { (port_count ports.now ≤ length ends.now) × (port_count ports.now ≤ length fed.old) }
+    requires by_index { (k : ℕ) → k < port_count ports.now → get_or (sinks_of ends.now) k 0 ≤ component_limit }
+    ensures slots { Slots ports.now (sinks_of ends.now) (sources_of fed.new) }
+    ensures sources { (k : ℕ) → k < port_count ports.now → get_or (sinks_of fed.new) k 0 ≡ get_or (sources_of ends.now) k 0 }
 {
     for k in 0..ports.len() / PORT {
-        slots[k] = sinks[k] * PORTS + natural_at(ports, k * PORT + 3) as usize;
+        let port = natural_at(ports, k * PORT + 3) as usize;
+        fed[k] = Ends {
+            source: ends[k].sink * PORTS + port,
+            sink: ends[k].source,
+        };
     }
 }
 
@@ -43,38 +50,31 @@ fn signal_key(ports: &[i64], k: usize, first: usize, second: usize, nowhere: usi
     first as u64 * SPAN + second as u64
 }
 
-// Lists the keys of the port connections: pairs of firsts[k] and seconds[k].
-pub(crate) fn list_keys(
-    ports: &[i64],
-    firsts: &[usize],
-    seconds: &[usize],
-    nowhere: usize,
-    keys: &mut [u64],
-)
+// Lists the keys of the port connections: pairs of their ends.
+pub(crate) fn list_keys(ports: &[i64], ends: &[Ends], nowhere: usize, keys: &mut [u64])
     requires port_connections { PortConnections ports.now }
-    requires sortable { Sortable (port_count ports.now) firsts.now seconds.now nowhere × (length keys.old ≡ port_count ports.now) }
-    ensures { keys.new ≡ signal_keys ports.now firsts.now seconds.now nowhere }
+    requires sortable { Sortable (port_count ports.now) (sources_of ends.now) (sinks_of ends.now) nowhere × (length keys.old ≡ port_count ports.now) }
+    ensures { keys.new ≡ signal_keys ports.now (sources_of ends.now) (sinks_of ends.now) nowhere }
 {
     for (k, key) in keys.iter_mut().enumerate() {
-        *key = signal_key(ports, k, firsts[k], seconds[k], nowhere);
+        *key = signal_key(ports, k, ends[k].source, ends[k].sink, nowhere);
     }
 }
 
 // The same sorted. The spare is for the sort.
 pub fn signal_keys(
     ports: &[i64],
-    firsts: &[usize],
-    seconds: &[usize],
+    ends: &[Ends],
     nowhere: usize,
     keys: &mut [u64],
     spare: &mut [u64],
 )
     requires port_connections { PortConnections ports.now }
-    requires sortable { Sortable (port_count ports.now) firsts.now seconds.now nowhere }
+    requires sortable { Sortable (port_count ports.now) (sources_of ends.now) (sinks_of ends.now) nowhere }
     requires keys_len { (length keys.old ≡ port_count ports.now) × (port_count ports.now ≤ length spare.old) }
-    ensures { KeysOf ports.now firsts.now seconds.now nowhere keys.new }
+    ensures { KeysOf ports.now (sources_of ends.now) (sinks_of ends.now) nowhere keys.new }
 {
-    list_keys(ports, firsts, seconds, nowhere, keys);
+    list_keys(ports, ends, nowhere, keys);
     tables::sort(keys, spare);
 }
 

@@ -10,12 +10,12 @@ ghost use Rattle.signals.specs.Flags.{Flags, Indices};
 ghost use Rattle.signals.specs.Seen.{SeenOf, Rows, few_near, outside_key};
 
 use super::edges::flag_sinks;
-use super::network::{Network, Table};
+use super::network::Network;
 use lists::COMPONENT;
 use lists::kinds::BlockKind;
 use lists::numbers::natural_at;
+use regions::Graph;
 use tables::SPAN;
-use tables::rows::lower_bound_in;
 
 const WIRE: u64 = BlockKind::RedstoneWire as u64;
 
@@ -42,16 +42,16 @@ fn see(seen: Seen, j: usize) -> Seen
     }
 }
 
-// With the neighbours of m in a table seen too, those of its own region.
-fn see_row(table: &Table, labels: &[usize], m: usize, seen: Seen) -> Seen
-    requires { Rows (length labels.now) table.now.keys.now × (m < length labels.now) }
+// With the neighbours of m in a graph seen too, those of its own region.
+fn see_row(graph: &Graph, labels: &[usize], m: usize, seen: Seen) -> Seen
+    requires { Rows (length labels.now) graph.now.keys.now × (m < length labels.now) }
     ensures { (test : ℕ → Bool) → SeenOf (length labels.now) test seen →
         SeenOf (length labels.now) (λ j. test j
-        || (eqb (get_or labels.now j 0) (get_or labels.now m 0) && edges (length labels.now) table.now.keys.now m j)) result }
+        || (eqb (get_or labels.now j 0) (get_or labels.now m 0) && edges (length labels.now) graph.now.keys.now m j)) result }
 {
-    let at = lower_bound_in(table.keys, m as u64 * SPAN, table.rows, m);
+    let at = graph.first_key(m);
     let mut found = seen;
-    for key in &table.keys[at..] {
+    for key in &graph.keys[at..] {
         if key / SPAN != m as u64 {
             return found;
         }

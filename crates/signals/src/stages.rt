@@ -5,7 +5,7 @@ ghost use Rattle.tables.specs.Order.{Ascending};
 ghost use Rattle.lists.specs.Limits.{component_limit};
 ghost use Rattle.lists.specs.Records.{component_count, port_count};
 ghost use Rattle.lists.specs.Ids.{IdTable, IsIdTable, member_of, first_repeated};
-ghost use Rattle.lists.specs.Ends.{Settled, SettledEnds};
+ghost use Rattle.lists.specs.Ends.{Settled, SettledEnds, sources_of, sinks_of};
 ghost use Rattle.lists.specs.Within.{PortConnections};
 ghost use Rattle.lists.specs.First.{some};
 ghost use Rattle.regions.specs.Keys.{edges, Reversed};
@@ -17,61 +17,58 @@ ghost use Rattle.signals.specs.Stages.{Tables, FedTable, self_key, cyclic_at};
 
 use super::edges::{PORTS, flag_sinks, list_keys, settle_slots, signal_keys, turned_keys};
 use super::flags::count_into;
+use lists::ends::Ends;
 use lists::ids::place_at;
 use lists::{COMPONENTS, CONNECTIONS};
-use regions::HINTED;
+use regions::{Graph, HINTED};
 use tables::SPAN;
 
 // Sorts the signal edges into a table, forward, given their settled ends; backward are the same edges turned round. Leaves hints of where
 // the rows of each end.
 pub fn build_tables(
     ports: &[i64],
-    sources: &[usize],
-    sinks: &[usize],
+    ends: &[Ends],
     forward: &mut [u64],
     backward: &mut [u64],
     forward_ends: &mut [usize; HINTED],
     backward_ends: &mut [usize; HINTED],
 )
     requires port_connections { PortConnections ports.now
-        × ((cs : List ℤ) × ((component_count cs ≤ component_limit) × SettledEnds cs ports.now sources.now sinks.now)) }
+        × ((cs : List ℤ) × ((component_count cs ≤ component_limit) × SettledEnds cs ports.now (sources_of ends.now) (sinks_of ends.now))) }
     requires forward_len { (length forward.old ≡ port_count ports.now) × (length backward.old ≡ port_count ports.now) }
-    ensures { (cs : List ℤ) → SettledEnds cs ports.now sources.now sinks.now →
-        Tables cs ports.now sources.now sinks.now forward.new backward.new }
+    ensures { (cs : List ℤ) → SettledEnds cs ports.now (sources_of ends.now) (sinks_of ends.now) →
+        Tables cs ports.now (sources_of ends.now) (sinks_of ends.now) forward.new backward.new }
 {
     let mut spare = [0u64; CONNECTIONS];
-    list_keys(ports, sources, sinks, COMPONENTS, forward);
+    list_keys(ports, ends, COMPONENTS, forward);
     tables::sort_edges(forward, &mut spare, forward_ends);
     turned_keys(forward, backward, &mut spare, backward_ends);
 }
 
 // Sorts the signal edges by the port that they feed, given their settled ends.
-pub fn build_fed(ports: &[i64], sources: &[usize], sinks: &[usize], fed: &mut [u64])
+pub fn build_fed(ports: &[i64], ends: &[Ends], fed: &mut [u64])
     requires port_connections { PortConnections ports.now
         × ((cs : List ℤ) × ((component_count cs ≤ component_limit)
-        × (Settled cs ports.now 0 sources.now × Settled cs ports.now 2 sinks.now))) }
-    requires ports_in_bounds { (port_count ports.now ≤ length sources.now)
-        × ((port_count ports.now ≤ length sinks.now) × (length fed.old ≡ port_count ports.now)) }
-    ensures { FedTable ports.now sources.now sinks.now fed.new }
+        × (Settled cs ports.now 0 (sources_of ends.now) × Settled cs ports.now 2 (sinks_of ends.now)))) }
+    requires ports_in_bounds { (port_count ports.now ≤ length ends.now) × (length fed.old ≡ port_count ports.now) }
+    ensures { FedTable ports.now (sources_of ends.now) (sinks_of ends.now) fed.new }
 {
-    let mut slots = [0usize; CONNECTIONS];
+    let mut feeds = [Ends { source: 0, sink: 0 }; CONNECTIONS];
     let mut spare = [0u64; CONNECTIONS];
-    settle_slots(ports, sinks, &mut slots);
-    signal_keys(ports, &slots, sources, COMPONENTS * PORTS, fed, &mut spare);
+    settle_slots(ports, ends, &mut feeds);
+    signal_keys(ports, &feeds, COMPONENTS * PORTS, fed, &mut spare);
 }
 
-// The regions of the nodes below labels.len(); answers how many there are. The rows are hints.
+// The regions of the nodes below labels.len(); answers how many there are.
 pub fn find_regions(
-    forward: &[u64],
-    backward: &[u64],
+    forward: Graph,
+    backward: Graph,
     labels: &mut [usize],
     stack: &mut [usize],
-    forward_rows: &[usize; HINTED],
-    backward_rows: &[usize; HINTED],
 ) -> usize
-    requires ascending { Ascending forward.now × (Ascending backward.now × Reversed (length labels.old) forward.now backward.now) }
+    requires ascending { Ascending forward.keys.now × (Ascending backward.keys.now × Reversed (length labels.old) forward.keys.now backward.keys.now) }
     requires labels_len_bound { (length labels.old ≤ component_limit) × ((2 * length labels.old ≤ length stack.old) × Zeros stack.old) }
-    ensures { Regions (length labels.old) (edges (length labels.old) forward.now) labels.new result stack.new }
+    ensures { Regions (length labels.old) (edges (length labels.old) forward.entry.keys.now) labels.new result stack.new }
 {
     let n = labels.len();
     let mut visited = [false; COMPONENTS];
@@ -85,8 +82,6 @@ pub fn find_regions(
         &mut order,
         &mut members,
         stack,
-        forward_rows,
-        backward_rows,
     )
 }
 

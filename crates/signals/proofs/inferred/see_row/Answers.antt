@@ -16,25 +16,25 @@ tail_long : (keys : List ℕ) (at : ℕ) → length (take (length keys - at) (dr
 tail_long keys at = grind (arith, common_steps)
 
 pub loop-key-init : goal.loop-key-init
-loop-key-init c test = rw add-zero (row_none c.args.table.now.keys.now c.args.labels.now c.args.m c.requires.0 c.requires.1 c.lower_bound_in-at.ensures test c.args.seen)
+loop-key-init c test = rw add-zero (row_none c.args.graph.now.keys.now c.args.labels.now c.args.m c.requires.0 c.requires.1 c.first_key-at.ensures test c.args.seen)
 
 pub returns-then-key-m : goal.returns-then-key-m
 returns-then-key-m c test seen =
-    let at = c.lower_bound_in-at.result in
-    let (inside, is) = key_at c.args.table.now.keys.now at c.loop-key.key-index c.loop-key-test.true in
-    row_all c.args.table.now.keys.now c.args.labels.now c.args.m c.requires.0 c.requires.1
-    c.lower_bound_in-at.ensures (at + c.loop-key.key-index) (omega arith) (λ h. rw is at c.if-key-m.true) test c.loop-key.found (c.loop-key.invariant test seen)
+    let at = c.first_key-at.result in
+    let (inside, is) = key_at c.args.graph.now.keys.now at c.loop-key.key-index c.loop-key-test.true in
+    row_all c.args.graph.now.keys.now c.args.labels.now c.args.m c.requires.0 c.requires.1
+    c.first_key-at.ensures (at + c.loop-key.key-index) (omega arith) (λ h. rw is at c.if-key-m.true) test c.loop-key.found (c.loop-key.invariant test seen)
 
 pub loop-key-preserved : goal.loop-key-preserved
 loop-key-preserved c test seen =
     let l = c.loop-key in
-    let keys = c.args.table.now.keys.now in
+    let keys = c.args.graph.now.keys.now in
     let labels = c.args.labels.now in
-    let at = c.lower_bound_in-at.result + l.key-index in
-    let (inside, is) = key_at keys c.lower_bound_in-at.result l.key-index c.loop-key-test.true in
+    let at = c.first_key-at.result + l.key-index in
+    let (inside, is) = key_at keys c.first_key-at.result l.key-index c.loop-key-test.true in
     let here : get_or keys at 0 / span ≡ c.args.m = rw is at c.if-key-m.false in
     let below = row_below keys labels c.args.m c.requires.0 c.requires.1 at inside here in
-    let next : c.lower_bound_in-at.result + (l.key-index + 1) ≡ at + 1 = omega arith in
+    let next : c.first_key-at.result + (l.key-index + 1) ≡ at + 1 = omega arith in
     elim c.if-labels-j.branch [
       | then-labels-j w ↦ rw (next, w.found-is)
           (row_key keys labels c.args.m c.requires.0 c.requires.1 at inside here (eq-eqb _ _ (rw is at w.if-labels-j.true)) test w.see-found.result
@@ -46,6 +46,6 @@ loop-key-preserved c test seen =
 pub returns : goal.returns
 returns c test seen =
     let l = c.loop-key in
-    let at = c.lower_bound_in-at.result in
-    row_all c.args.table.now.keys.now c.args.labels.now c.args.m c.requires.0 c.requires.1
-    c.lower_bound_in-at.ensures (at + l.key-index) (omega arith) (λ h. absurd (omega (arith, tail_long c.args.table.now.keys.now at))) test l.found (l.invariant test seen)
+    let at = c.first_key-at.result in
+    row_all c.args.graph.now.keys.now c.args.labels.now c.args.m c.requires.0 c.requires.1
+    c.first_key-at.ensures (at + l.key-index) (omega arith) (λ h. absurd (omega (arith, tail_long c.args.graph.now.keys.now at))) test l.found (l.invariant test seen)

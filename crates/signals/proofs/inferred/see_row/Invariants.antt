@@ -7,4 +7,4 @@ use Rattle.signals.proofs.inferred.see_row.Given as goal
 
 abbrev pub invariant-loop-key : goal.invariant-loop-key
 invariant-loop-key l =
-    (test : ℕ → Bool) → SeenOf (length l.labels) test l.initial.found → SeenOf (length l.labels) (passed l.table.keys.now l.labels l.m (l.at + l.key-index) test) l.found
+    (test : ℕ → Bool) → SeenOf (length l.labels) test l.initial.found → SeenOf (length l.labels) (passed l.graph.keys.now l.labels l.m (l.at + l.key-index) test) l.found

@@ -9,7 +9,7 @@ use lib.ListN.{get_or}
 use Rattle.tables.specs.Pairs.{KeysBelow, below_rearranged}
 use Rattle.lists.specs.Limits.{component_limit}
 use Rattle.lists.specs.Records.{component_count, port_count}
-use Rattle.lists.specs.Ends.{SettledEnds}
+use Rattle.lists.specs.Ends.{SettledEnds, sources_of, sinks_of}
 use Rattle.signals.specs.Keys.{signal_keys, KeysOf}
 use Rattle.signals.proofs.Graph.{settled_small, sortable_members}
 use Rattle.signals.proofs.Turned.{keys_below, turned_keys_of}
@@ -37,7 +37,7 @@ sort_edges-requires-clause-counts_len_bound c =
     let a = c.args in
     let (cs, small) = c.requires.port_connections.1 in (
       omega (arith, c.told-forward_ends),
-      rw c.list_keys.ensures (below a.ports.now a.sources.now a.sinks.now cs small.0 small.1 _ c.told-forward_ends),
+      rw c.list_keys.ensures (below a.ports.now (sources_of a.ends.now) (sinks_of a.ends.now) cs small.0 small.1 _ c.told-forward_ends),
     )
 
 pub turned_keys-requires-clause-ascending : goal.turned_keys-requires-clause-ascending
@@ -45,15 +45,15 @@ turned_keys-requires-clause-ascending c =
     let a = c.args in
     let (cs, small) = c.requires.port_connections.1 in
     let sorted = rw c.list_keys.ensures at c.sort_edges.ensures in
-    (sorted.ascending, (omega (arith, c.told-backward_ends), below_rearranged sorted.rearranged (below a.ports.now a.sources.now a.sinks.now cs small.0 small.1 _ c.told-backward_ends)))
+    (sorted.ascending, (omega (arith, c.told-backward_ends), below_rearranged sorted.rearranged (below a.ports.now (sources_of a.ends.now) (sinks_of a.ends.now) cs small.0 small.1 _ c.told-backward_ends)))
 
 pub returns : goal.returns
 returns c cs ends =
     let a = c.args in
     let (settled, known) = c.requires.port_connections.1 in
-    let small = low a.ports.now a.sources.now a.sinks.now settled known.0 known.1 in
+    let small = low a.ports.now (sources_of a.ends.now) (sinks_of a.ends.now) settled known.0 known.1 in
     -- the table forward
-    let forward : KeysOf a.ports.now a.sources.now a.sinks.now component_limit c.sort_edges.new.keys =
+    let forward : KeysOf a.ports.now (sources_of a.ends.now) (sinks_of a.ends.now) component_limit c.sort_edges.new.keys =
     record { sorted = rw c.list_keys.ensures at c.sort_edges.ensures } in
     record {
       source_members = ends.source_members;
