@@ -3,7 +3,7 @@
 --     fed_same                   `slot_fed` by the connections
 --     slot_feeds, status_is      a port connection feeds a slot exactly where it feeds its port; so `status_at` is `status_of`
 -- Assumes nothing.
-use Rattle.std.specs.Prelude.{None}
+use Rattle.std.specs.Prelude.{Some, None}
 use mathlib.Core.Path.{◌≡◌, refl, sym, ap, ◌∙◌}
 use mathlib.Core.Bool.{Bool, true, false, cond, ◌&&◌}
 use mathlib.Core.List.{List}
@@ -31,7 +31,7 @@ use Rattle.signals.specs.Keys.{Slots, KeysOf, slot, ports}
 use Rattle.signals.specs.Flags.{GatheredBy}
 use Rattle.assessment.specs.Verdicts.{feeds_port, fed_by, status_of}
 use Rattle.assessment.specs.Rows.{slot_fed, FedWithin}
-use Rattle.assessment.specs.Places.{places, slot_of, nobody, slot_count, slot_at, SlotRoom, SlotFlags, LiveMarks, status_at}
+use Rattle.assessment.specs.Places.{places, slot_of, slot_count, slot_at, slot_number, SlotRoom, SlotFlags, LiveMarks, status_at}
 use Rattle.signals.proofs.Tabulated.{first_cong}
 use Rattle.signals.proofs.Ends.{ends_below, sink_is}
 use Rattle.signals.proofs.Tested.{same_truth}
@@ -112,11 +112,11 @@ module _ {cs ps : List ℤ} {sources sinks : List ℕ} (few : component_count cs
   abbrev j : ℕ
   j = slot_of (member_of cs p) port
 
-  slot_below : j < nobody
+  slot_below : j < slot_count
   slot_below = omega (arith, member_below cs p h)
 
-  other : eqb nobody j ≡ false
-  other = ne_eqb nobody j (λ e. omega (arith, slot_below))
+  other : eqb slot_count j ≡ false
+  other = ne_eqb slot_count j (λ e. omega (arith, slot_below))
 
   module _ (k : ℕ) (q : k < port_count ps) where
     abbrev fed_port : ℕ
@@ -126,7 +126,7 @@ module _ {cs ps : List ℤ} {sources sinks : List ℕ} (few : component_count cs
     sinks_here = eqb (port_connection ps k).sink (component cs p).id
 
     by_signal : (signal : Bool) → is_signal ps k ≡ signal
-        → eqb (cond (signal && ltb fed_port places) (slot_of (get_or sinks k 0) fed_port) nobody) j ≡ (signal && (sinks_here && eqb fed_port port))
+        → eqb (slot_number (cond (signal && ltb fed_port places) (Some (slot_of (get_or sinks k 0) fed_port)) None)) j ≡ (signal && (sinks_here && eqb fed_port port))
     by_signal false e = other
     by_signal true e =
         ⊎_elim
@@ -136,16 +136,16 @@ module _ {cs ps : List ℤ} {sources sinks : List ℕ} (few : component_count cs
         (parts_same places (sink_member cs ps k) fed_port (member_of cs p) port (λ x. (omega arith, omega arith)) ∙ ap (λ (b : Bool). b && eqb fed_port port) (sink_is cs ps ends k q e p h)))
         (order? places fed_port)
 
-    slot_feeds : eqb (slot_at ps k (get_or sinks k 0)) j ≡ feeds_port cs ps p port k
+    slot_feeds : eqb (slot_number (slot_at ps k (get_or sinks k 0))) j ≡ feeds_port cs ps p port k
     unfolding slot_at
     slot_feeds = by_signal (is_signal ps k) refl
 
-  flag_is : (marks : List Bool) {flags : List Bool} → GatheredBy (port_count ps) (λ k. slot_at ps k (get_or sinks k 0)) (λ k. marked marks (get_or sources k 0)) flags
+  flag_is : (marks : List Bool) {flags : List Bool} → GatheredBy (port_count ps) (λ k. slot_number (slot_at ps k (get_or sinks k 0))) (λ k. marked marks (get_or sources k 0)) flags
       → length flags ≡ slot_count → marked flags j ≡ fed_by cs ps p port marks
   unfolding fed_by
   flag_is marks {flags} g long =
       g.at j (omega (arith, slot_below))
-      ∙ ap is_found (first_cong (λ k. marked marks (get_or sources k 0) && eqb (slot_at ps k (get_or sinks k 0)) j) (λ k. feeds_port cs ps p port k && marked marks (source_member cs ps k)) 0 (port_count ps) (λ k a b.
+      ∙ ap is_found (first_cong (λ k. marked marks (get_or sources k 0) && eqb (slot_number (slot_at ps k (get_or sinks k 0))) j) (λ k. feeds_port cs ps p port k && marked marks (source_member cs ps k)) 0 (port_count ps) (λ k a b.
       let here : k < port_count ps = omega arith in
       rw (slot_feeds k here, source_at few s t k here) (and_turn true (marked marks (source_member cs ps k)) (feeds_port cs ps p port k))))
 
@@ -154,7 +154,7 @@ module _ {cs ps : List ℤ} {sources sinks : List ℕ} (few : component_count cs
     fed_is : marked fed j ≡ some (feeds_port cs ps p port) (port_count ps)
     fed_is =
         f.fed_flags.at j (omega (arith, slot_below, room.fed_room))
-        ∙ ap is_found (first_cong (λ k. eqb (slot_at ps k (get_or sinks k 0)) j) (feeds_port cs ps p port) 0 (port_count ps) (λ k a b. slot_feeds k (omega arith)))
+        ∙ ap is_found (first_cong (λ k. eqb (slot_number (slot_at ps k (get_or sinks k 0))) j) (feeds_port cs ps p port) 0 (port_count ps) (λ k a b. slot_feeds k (omega arith)))
 
     pub status_is : (fs : List ℤ) → LiveMarks cs ps fs drive potential → status_at fed driven possible j ≡ status_of cs ps fs p port
     unfolding status_at status_of

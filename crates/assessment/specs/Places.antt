@@ -4,6 +4,7 @@
 --     LiveMarks                  the marks of members by which slots are flagged
 --     status_at                   the status of a slot by its flags
 -- Assumes nothing: these are definitions.
+use Rattle.std.specs.Prelude.{Option, Some, None}
 use Rattle.std.specs.Prelude.{ℕ, ◌+◌, ◌*◌, ◌≡◌, Bool, true, false, not, cond, ◌&&◌, List, ltb, length, get_or, replicate, ℤ}
 use Rattle.lists.specs.Limits.{component_limit}
 use Rattle.lists.specs.Records.{port_connection}
@@ -22,17 +23,18 @@ places = 8
 abbrev pub slot_of : ℕ → ℕ → ℕ
 slot_of member port = member * places + port
 
--- the last slot, which no member has
-abbrev pub nobody : ℕ
-nobody = places * component_limit
-
 abbrev pub slot_count : ℕ
-slot_count = nobody + 1
+slot_count = places * component_limit
 
--- the slot that port connection k feeds, given its sink's member: nobody's, where it is a support or feeds a port past the places
-unfoldable pub slot_at : List ℤ → ℕ → ℕ → ℕ
+-- the slot that port connection k feeds, given its sink's member: none, where it is a support or feeds a port past the places
+unfoldable pub slot_at : List ℤ → ℕ → ℕ → Option ℕ
 slot_at ps k sink =
-    cond (is_signal ps k && ltb (port_connection ps k).sink_port_of places) (slot_of sink (port_connection ps k).sink_port_of) nobody
+    cond (is_signal ps k && ltb (port_connection ps k).sink_port_of places) (Some (slot_of sink (port_connection ps k).sink_port_of)) None
+
+-- as a number: none is past the slots
+abbrev pub slot_number : Option ℕ → ℕ
+slot_number (Some j) = j
+slot_number None = slot_count
 
 -- ---- flags of slots
 
@@ -49,9 +51,9 @@ pub record Unmarked (fed driven possible : List Bool) : Type 0 where
 
 -- those that the first n port connections feed, and those that they feed from a marked source
 pub record SlotFlags (n : ℕ) (ps : List ℤ) (sources sinks : List ℕ) (drive potential fed driven possible : List Bool) : Type 0 where
-  pub fed_flags : GatheredBy n (λ k. slot_at ps k (get_or sinks k 0)) (λ k. true) fed
-  pub driven_flags : GatheredBy n (λ k. slot_at ps k (get_or sinks k 0)) (λ k. marked drive (get_or sources k 0)) driven
-  pub possible_flags : GatheredBy n (λ k. slot_at ps k (get_or sinks k 0)) (λ k. marked potential (get_or sources k 0)) possible
+  pub fed_flags : GatheredBy n (λ k. slot_number (slot_at ps k (get_or sinks k 0))) (λ k. true) fed
+  pub driven_flags : GatheredBy n (λ k. slot_number (slot_at ps k (get_or sinks k 0))) (λ k. marked drive (get_or sources k 0)) driven
+  pub possible_flags : GatheredBy n (λ k. slot_number (slot_at ps k (get_or sinks k 0))) (λ k. marked potential (get_or sources k 0)) possible
 
 -- the marks are those of `Drive`
 pub record LiveMarks (cs ps fs : List ℤ) (driven possible : List Bool) : Type 0 where

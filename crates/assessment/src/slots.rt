@@ -1,10 +1,10 @@
 // Verdict rows by flags of slots: one pass over the port connections marks which ports are fed, and by what, so no table is sorted.
-ghost use Rattle.std.specs.Prelude.{None};
-ghost use Rattle.std.specs.Prelude.{◌≡◌, true, false, List, [], ◌∷◌, ◌+◌, ◌*◌, ◌≤◌, ◌<◌, length, get_or, ℤ};
+ghost use Rattle.std.specs.Prelude.{Some, None};
+ghost use Rattle.std.specs.Prelude.{◌≡◌, true, false, ℕ, List, [], ◌∷◌, ◌+◌, ◌*◌, ◌≤◌, ◌<◌, length, get_or, ℤ};
 ghost use Rattle.lists.specs.Limits.{component_limit};
 ghost use Rattle.lists.specs.Records.{component_count, port_count};
 ghost use Rattle.lists.specs.Ids.{member_of, first_end_missing};
-ghost use Rattle.lists.specs.Ends.{Settled};
+ghost use Rattle.lists.specs.Ends.{Settled, sources_of, sinks_of};
 ghost use Rattle.lists.specs.Within.{Components, PortConnections};
 ghost use Rattle.regions.specs.Graph.{marked};
 ghost use Rattle.signals.specs.Signals.{is_signal};
@@ -15,6 +15,7 @@ ghost use Rattle.assessment.specs.Rows.{Put, Scanned, NoneRequired, rows_of, row
 ghost use Rattle.assessment.specs.Places.{slot_of, slot_count, slot_at, SlotRoom, SlotFlags, Unmarked, LiveMarks, status_at, status_number};
 
 use super::verdicts::required_ports;
+use lists::ends::Ends;
 use lists::ids::SUPPORT;
 use lists::numbers::natural_at;
 use lists::{COMPONENT, COMPONENTS, PORT};
@@ -22,10 +23,7 @@ use lists::{COMPONENT, COMPONENTS, PORT};
 // A member has a slot for each port below this: no port past them has a verdict row.
 const PLACES: usize = 8;
 
-// The last slot, which no member has. No Option in its place: it takes what feeds no slot, so that marking has no branch.
-const NOBODY: usize = PLACES * COMPONENTS;
-
-const SLOTS: usize = NOBODY + 1;
+const SLOTS: usize = PLACES * COMPONENTS;
 
 // ---- flags
 
@@ -54,20 +52,21 @@ impl From<Status> for u64 {
     }
 }
 
-// The slot of the port that port connection k feeds: nobody's, where it is a support or feeds a port past the places.
-fn slot_at(ports: &[i64], k: usize, sink: usize) -> usize
+// The slot of the port that port connection k feeds: none, where it is a support or feeds a port past the places.
+fn slot_at(ports: &[i64], k: usize, sink: usize) -> Option<usize>
     requires port_connections { PortConnections ports.now × (k < port_count ports.now) }
     requires sink_lt_component_limit { is_signal ports.now k ≡ true → sink < component_limit }
-    ensures { (result ≡ slot_at ports.now k sink) × (result < slot_count) }
+    ensures slot { result ≡ slot_at ports.now k sink }
+    ensures below { (j : ℕ) → result ≡ Some j → j < slot_count }
 {
     let port = natural_at(ports, k * PORT + 3) as usize;
     if natural_at(ports, k * PORT + 4) == SUPPORT {
-        return NOBODY;
+        return None;
     }
     if PLACES <= port {
-        return NOBODY;
+        return None;
     }
-    sink * PLACES + port
+    Some(sink * PLACES + port)
 }
 
 // The mark of a member, or false past the end.
@@ -79,27 +78,21 @@ fn mark_at(flags: &[bool], i: usize) -> bool
 
 impl Slots {
     // Marks the slots that are fed, and those fed from a marked source; none is marked before.
-    fn mark(
-        &mut self,
-        ports: &[i64],
-        sources: &[usize],
-        sinks: &[usize],
-        drive: &[bool],
-        potential: &[bool],
-    )
-        requires port_connections { PortConnections ports.now × SignalEnds component_limit ports.now sinks.now }
-        requires sources_in_bounds { port_count ports.now ≤ length sources.now }
+    fn mark(&mut self, ports: &[i64], ends: &[Ends], drive: &[bool], potential: &[bool])
+        requires port_connections { PortConnections ports.now × SignalEnds component_limit ports.now (sinks_of ends.now) }
+        requires ends_in_bounds { port_count ports.now ≤ length ends.now }
         requires none_marked { Unmarked self.old.fed self.old.driven self.old.possible }
         ensures room { SlotRoom self.new.fed self.new.driven self.new.possible }
-        ensures marked { SlotFlags (port_count ports.now) ports.now sources.now sinks.now drive.now potential.now
+        ensures marked { SlotFlags (port_count ports.now) ports.now (sources_of ends.now) (sinks_of ends.now) drive.now potential.now
             self.new.fed self.new.driven self.new.possible }
     {
         for k in 0..ports.len() / PORT {
-            let j = slot_at(ports, k, sinks[k]);
-            let source = sources[k];
-            self.fed[j] = true;
-            self.driven[j] |= mark_at(drive, source);
-            self.possible[j] |= mark_at(potential, source);
+            let Ends { source, sink } = ends[k];
+            if let Some(j) = slot_at(ports, k, sink) {
+                self.fed[j] = true;
+                self.driven[j] |= mark_at(drive, source);
+                self.possible[j] |= mark_at(potential, source);
+            }
         }
     }
 
@@ -188,15 +181,14 @@ pub fn write_verdicts(
     components: &[i64],
     members: &[usize],
     ports: &[i64],
-    sources: &[usize],
-    sinks: &[usize],
+    ends: &[Ends],
     drive: &[bool],
     potential: &[bool],
     out: &mut [u64],
 ) -> usize
     requires components { Components components.now × (PortConnections ports.now × (first_end_missing components.now ports.now ≡ None)) }
-    requires settled { Settled components.now ports.now 0 sources.now × Settled components.now ports.now 2 sinks.now }
-    requires ports_in_bounds { (port_count ports.now ≤ length sources.now) × (port_count ports.now ≤ length sinks.now) }
+    requires settled { Settled components.now ports.now 0 (sources_of ends.now) × Settled components.now ports.now 2 (sinks_of ends.now) }
+    requires ports_in_bounds { port_count ports.now ≤ length ends.now }
     requires numbers { Numbers (component_count components.now) (member_of components.now) members.now × (12 * component_count components.now ≤ length out.old) }
     ensures { (fs : List ℤ) → LiveMarks components.now ports.now fs drive.now potential.now →
         Scanned (input_rows components.now ports.now fs) 3 out.old out.new result }
@@ -210,6 +202,6 @@ pub fn write_verdicts(
         driven: [false; SLOTS],
         possible: [false; SLOTS],
     };
-    slots.mark(ports, sources, sinks, drive, potential);
+    slots.mark(ports, ends, drive, potential);
     put_rows(components, members, &slots, out)
 }

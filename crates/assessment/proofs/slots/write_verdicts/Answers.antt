@@ -5,6 +5,7 @@ use mathlib.Core.List.{List}
 use Prim.Native.Nat.{ℕ}
 use native.Mathlib.Omega.{arith}
 use Rattle.assessment.specs.Rows.{Scanned}
+use Rattle.lists.proofs.EndLaws.{sinks_length}
 use Rattle.signals.proofs.Ends.{ends_within}
 use Rattle.signals.proofs.Staged.{sink_ends}
 use Rattle.assessment.proofs.RowLaws.{members_within, no_rows, verdicts_are}
@@ -21,7 +22,7 @@ returns-then-not-any_required c fs live =
 pub mark-requires-clause-port_connections : goal.mark-requires-clause-port_connections
 mark-requires-clause-port_connections c =
     let few = c.requires.components.0.few in
-    let ends = sink_ends few c.requires.settled.0 c.requires.settled.1 (ends_within _ _ c.requires.components.1.1) c.requires.ports_in_bounds.1 in
+    let ends = sink_ends few c.requires.settled.0 c.requires.settled.1 (ends_within _ _ c.requires.components.1.1) (omega (arith, c.requires.ports_in_bounds, sinks_length c.args.ends.now)) in
     (c.requires.components.1.0, record { long = ends.long; below = λ k h signal. omega (arith, ends.below k h signal, few) })
 
 pub put_rows-requires-clause-components : goal.put_rows-requires-clause-components
