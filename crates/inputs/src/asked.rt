@@ -65,7 +65,7 @@ pub fn make_ready(
         stack,
     );
     let crossings = find_crossings(fed, labels, &mut pairs);
-    build_fed(plot.ports, plot.source_at, plot.sink_at, fed);
+    build_fed(plot.ports, plot.ends, fed);
     upstream_rows(crossings, labels, &inferred[..n], upstream);
 }
 

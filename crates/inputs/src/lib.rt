@@ -8,6 +8,7 @@ mod row;
 ghost use Rattle.inputs.specs.Query.{Answered};
 
 use checks::refusals::{liveness_lists, room_for};
+use lists::ends::Ends;
 use lists::{COMPONENT, COMPONENTS, CONNECTIONS, Refusal};
 use liveness::plot::Plot;
 use query::query_plot;
@@ -33,8 +34,7 @@ pub fn required_input(
     ensures { Answered components.now ports.now frontiers.now id port stack.old stack.new result }
 {
     let mut keys = [0u64; COMPONENTS];
-    let mut source_at = [0usize; CONNECTIONS];
-    let mut sink_at = [0usize; CONNECTIONS];
+    let mut ends = [Ends { source: 0, sink: 0 }; CONNECTIONS];
     let count = components.len() / COMPONENT;
     let enough = room_for(count, 2, stack.len());
     liveness_lists(
@@ -43,16 +43,14 @@ pub fn required_input(
         frontiers,
         enough,
         &mut keys,
-        &mut source_at,
-        &mut sink_at,
+        &mut ends,
     )?;
     let plot = Plot {
         keys: &keys[..count],
         components,
         ports,
         frontiers,
-        source_at: &source_at,
-        sink_at: &sink_at,
+        ends: &ends,
     };
     query_plot(&plot, id, port, stack)
 }

@@ -6,6 +6,7 @@ ghost use Rattle.tables.specs.Order.{Ascending, member};
 ghost use Rattle.tables.specs.Pairs.{pair, span};
 ghost use Rattle.lists.specs.Records.{component_count, port_count};
 ghost use Rattle.lists.specs.First.{is_found};
+ghost use Rattle.lists.specs.Ends.{sources_of, sinks_of};
 ghost use Rattle.checks.specs.Refusals.{refuse, too_short};
 ghost use Rattle.regions.specs.Search.{Zeros};
 ghost use Rattle.regions.specs.Graph.{marked};
@@ -23,9 +24,8 @@ use assessment::verdicts::slot_fed;
 use lists::ids::member_of;
 use lists::numbers::natural_at;
 use lists::{COMPONENT, COMPONENTS, CONNECTIONS, Fault, PORT, Refusal};
-use liveness::plot::{Plot, PreparedPlot};
+use liveness::plot::{Plot, PreparedPlot, Workspace};
 use liveness::steps::{flag_drive, flag_inferred};
-use regions::HINTED;
 use sets::ComponentSet;
 use signals::edges::PORTS;
 use signals::flags::{combine_flags, gather};
@@ -151,8 +151,6 @@ pub(crate) fn inferred_members(plot: &PreparedPlot, inferred: &mut [bool])
         plot.region_at,
         &has_drive,
         &mut inferred_at,
-        plot.forward_rows,
-        plot.backward_rows,
     );
     let count = lists.components.len() / COMPONENT;
     gather(&plot.members[..count], &inferred_at, inferred);
@@ -169,32 +167,12 @@ pub(crate) fn find_inputs(
 )
     requires { InputsRoom plot.now.components.now plot.now.ports.now forward.old backward.old labels.old inferred.old stack.old }
     ensures { let p = plot.now in
-        Inputs p.components.now p.ports.now p.frontiers.now p.source_at.now p.sink_at.now forward.new backward.new labels.new inferred.new stack.new }
+        Inputs p.components.now p.ports.now p.frontiers.now (sources_of p.ends.now) (sinks_of p.ends.now)
+            forward.new backward.new labels.new inferred.new stack.new }
 {
-    let mut members = [0usize; COMPONENTS];
-    let mut region_at = [0usize; COMPONENTS];
-    let mut forward_rows = [0usize; HINTED];
-    let mut backward_rows = [0usize; HINTED];
-    plot.prepare(
-        forward,
-        backward,
-        labels,
-        &mut members,
-        &mut region_at,
-        stack,
-        &mut forward_rows,
-        &mut backward_rows,
-    );
-    let prepared = PreparedPlot {
-        plot: *plot,
-        forward,
-        backward,
-        labels,
-        members: &members,
-        region_at: &region_at,
-        forward_rows: &forward_rows,
-        backward_rows: &backward_rows,
-    };
+    let mut work = Workspace::new();
+    let count = plot.prepare(forward, backward, labels, &mut work, stack);
+    let prepared = plot.prepared(forward, backward, labels, &work, count);
     inferred_members(&prepared, inferred);
 }
 
@@ -214,7 +192,7 @@ fn walk_tables(
     let n = plot.keys.len();
     let mut labels = [0usize; COMPONENTS];
     find_inputs(plot, fed, backward, &mut labels[..n], inferred, stack);
-    build_fed(plot.ports, plot.source_at, plot.sink_at, fed);
+    build_fed(plot.ports, plot.ends, fed);
 }
 
 // The sets of a port of the component at p.

@@ -47,7 +47,7 @@ pub(crate) fn flag_alive(
     let mut keys = [0u64; CONNECTIONS];
     let mut driven = [false; COMPONENTS];
     let mut possible = [false; COMPONENTS];
-    let crossings = find_crossings(plot.forward, plot.labels, &mut keys);
+    let crossings = find_crossings(plot.forward.keys, plot.labels, &mut keys);
     driven.copy_from_slice(has_drive);
     possible_regions(n, plot.region_at, inferred, has_drive, &mut possible);
     carry_marks(

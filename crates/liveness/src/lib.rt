@@ -10,6 +10,7 @@ pub mod steps;
 ghost use Rattle.liveness.specs.Entry.{Analyzed};
 
 use checks::refusals::{liveness_lists, room_for};
+use lists::ends::Ends;
 use lists::{COMPONENT, COMPONENTS, CONNECTIONS, Refusal};
 use plot::Plot;
 use sets::ComponentSet;
@@ -41,28 +42,18 @@ pub fn analyze_signal_liveness(
     ensures { Analyzed components.now ports.now frontiers.now regions.old regions.new sources.old sources.new inputs.old inputs.new stack.old stack.new result }
 {
     let mut keys = [0u64; COMPONENTS];
-    let mut source_at = [0usize; CONNECTIONS];
-    let mut sink_at = [0usize; CONNECTIONS];
+    let mut ends = [Ends { source: 0, sink: 0 }; CONNECTIONS];
     let count = components.len() / COMPONENT;
     let enough = room_for(count, 1, regions.len())
         & (room_for(count * 2, 2, sources.len())
             & (room_for(count * 4, 3, inputs.len()) & room_for(count, 2, stack.len())));
-    liveness_lists(
-        components,
-        ports,
-        frontiers,
-        enough,
-        &mut keys,
-        &mut source_at,
-        &mut sink_at,
-    )?;
+    liveness_lists(components, ports, frontiers, enough, &mut keys, &mut ends)?;
     let plot = Plot {
         keys: &keys[..count],
         components,
         ports,
         frontiers,
-        source_at: &source_at,
-        sink_at: &sink_at,
+        ends: &ends,
     };
     Ok(analyze(&plot, regions, sources, inputs, stack))
 }

@@ -1,8 +1,13 @@
 // A plot that the checks accepted, and the same prepared: what the stages of an analysis read.
 ghost use Rattle.std.proofs.Props.{props};
-ghost use Rattle.liveness.specs.Scene.{Accepted, Prepared, PreparedRoom, Prepares};
+ghost use Rattle.std.specs.Prelude.{◌≡◌, List, ℕ};
+ghost use Rattle.lists.specs.Ends.{sources_of, sinks_of};
+ghost use Rattle.signals.specs.Regions.{region_count};
+ghost use Rattle.liveness.specs.Scene.{Accepted, Prepared, Prepares, PreparedRoom};
 
-use regions::HINTED;
+use lists::COMPONENTS;
+use lists::ends::Ends;
+use regions::{Graph, HINTED};
 use signals::flags::spread;
 use signals::stages::{build_tables, find_regions, place_members};
 
@@ -13,63 +18,111 @@ pub struct Plot<'a> {
     pub components: &'a [i64],
     pub ports: &'a [i64],
     pub frontiers: &'a [i64],
-    pub source_at: &'a [usize],
-    pub sink_at: &'a [usize],
-    pub ghost accepted: { Accepted components.now ports.now keys.now source_at.now sink_at.now } by { Prim.hlevel props },
+    pub ends: &'a [Ends],
+    pub ghost accepted: { Accepted components.now ports.now keys.now (sources_of ends.now) (sinks_of ends.now) } by { Prim.hlevel props },
 }
 
-// The tables of its signal edges with hints of their rows, each member's region, and each component's member and region.
+// The graph of its signal edges, forward and backward, each member's region and how many regions there are, and each component's member and
+// region.
 #[derive(Clone, Copy)]
 pub struct PreparedPlot<'a> {
     pub plot: Plot<'a>,
-    pub forward: &'a [u64],
-    pub backward: &'a [u64],
+    pub forward: Graph<'a>,
+    pub backward: Graph<'a>,
     pub labels: &'a [usize],
+    pub count: usize,
     pub members: &'a [usize],
     pub region_at: &'a [usize],
-    pub forward_rows: &'a [usize],
-    pub backward_rows: &'a [usize],
-    pub ghost prepared: { Prepared plot.components.now plot.ports.now plot.source_at.now plot.sink_at.now
-        forward.now backward.now labels.now members.now region_at.now } by { Prim.hlevel props },
+    pub ghost prepared: { Prepared plot.components.now plot.ports.now (sources_of plot.ends.now) (sinks_of plot.ends.now)
+        forward.keys.now backward.keys.now labels.now members.now region_at.now } by { Prim.hlevel props },
+    pub ghost counted: { count ≡ region_count plot.components.now plot.ports.now } by { Prim.hlevel props },
+}
+
+// Arrays that a plot is prepared in, beside those that are lent.
+#[derive(Drop)]
+pub struct Workspace {
+    members: [usize; COMPONENTS],
+    region_at: [usize; COMPONENTS],
+    forward_rows: [usize; HINTED],
+    backward_rows: [usize; HINTED],
+}
+
+impl Workspace {
+    pub fn new() -> Workspace {
+        Workspace {
+            members: [0; COMPONENTS],
+            region_at: [0; COMPONENTS],
+            forward_rows: [0; HINTED],
+            backward_rows: [0; HINTED],
+        }
+    }
 }
 
 impl<'a> Plot<'a> {
-    // Builds the tables, with hints of their rows, and finds the regions; answers how many there are. Leaves the stack zero.
+    // Builds the graph, with hints of its rows, and finds the regions; answers how many there are. Leaves the stack zero.
     pub fn prepare(
         &self,
         forward: &mut [u64],
         backward: &mut [u64],
         labels: &mut [usize],
-        members: &mut [usize],
-        region_at: &mut [usize],
+        work: &mut Workspace,
         stack: &mut [usize],
-        forward_rows: &mut [usize; HINTED],
-        backward_rows: &mut [usize; HINTED],
     ) -> usize
-        requires { PreparedRoom self.now.components.now self.now.ports.now forward.old backward.old labels.old members.old region_at.old stack.old }
-        ensures { Prepares self.now.components.now self.now.ports.now self.now.source_at.now self.now.sink_at.now
-            forward.new backward.new labels.new members.new region_at.new stack.new result }
+        requires { PreparedRoom self.now.components.now self.now.ports.now forward.old backward.old labels.old stack.old }
+        ensures { let p = self.now in Prepares p.components.now p.ports.now (sources_of p.ends.now) (sinks_of p.ends.now)
+            forward.new backward.new labels.new work.new.members work.new.region_at stack.new result }
     {
         stack.fill(0);
         build_tables(
             self.ports,
-            self.source_at,
-            self.sink_at,
+            self.ends,
             forward,
             backward,
-            forward_rows,
-            backward_rows,
+            &mut work.forward_rows,
+            &mut work.backward_rows,
         );
-        let count = find_regions(
-            forward,
-            backward,
-            labels,
-            stack,
-            forward_rows,
-            backward_rows,
-        );
-        place_members(self.keys, members);
-        spread(&members[..labels.len()], labels, region_at);
+        let onward = Graph {
+            keys: forward,
+            rows: &work.forward_rows,
+        };
+        let back = Graph {
+            keys: backward,
+            rows: &work.backward_rows,
+        };
+        let count = find_regions(onward, back, labels, stack);
+        place_members(self.keys, &mut work.members);
+        spread(&work.members[..labels.len()], labels, &mut work.region_at);
         count
+    }
+
+    // What `prepare` made of the plot, to be read.
+    pub fn prepared(
+        self,
+        forward: &'a [u64],
+        backward: &'a [u64],
+        labels: &'a [usize],
+        work: &'a Workspace,
+        count: usize,
+    ) -> PreparedPlot<'a>
+        requires { let p = self in (stack : List ℕ) × Prepares p.components.now p.ports.now (sources_of p.ends.now) (sinks_of p.ends.now)
+            forward.now backward.now labels.now work.now.members work.now.region_at stack count }
+        ensures plot { result.plot ≡ self.entry }
+        ensures lent { (result.forward.keys.now ≡ forward.now) × (result.backward.keys.now ≡ backward.now) × (result.labels.now ≡ labels.now) }
+    {
+        PreparedPlot {
+            plot: self,
+            forward: Graph {
+                keys: forward,
+                rows: &work.forward_rows,
+            },
+            backward: Graph {
+                keys: backward,
+                rows: &work.backward_rows,
+            },
+            labels,
+            count,
+            members: &work.members,
+            region_at: &work.region_at,
+        }
     }
 }

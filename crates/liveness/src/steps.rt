@@ -6,7 +6,7 @@ ghost use Rattle.lists.specs.Records.{component_count, port_count};
 ghost use Rattle.lists.specs.First.{tabulate};
 ghost use Rattle.lists.specs.Slices.{laid};
 ghost use Rattle.regions.specs.Search.{Zeros};
-ghost use Rattle.signals.specs.Regions.{region_count, region_of_place, holds_drive, is_inferred};
+ghost use Rattle.signals.specs.Regions.{region_of_place, holds_drive, is_inferred};
 ghost use Rattle.signals.specs.Flags.{Flags, Numbers};
 ghost use Rattle.liveness.specs.Entry.{AnalyzedBy};
 ghost use Rattle.signals.specs.Stages.{cyclic_at};
@@ -15,15 +15,15 @@ ghost use Rattle.liveness.specs.Scene.{Scene, PreparedScene, Driven, Marked, Mar
 use super::Analysis;
 use super::alive::flag_alive;
 use super::infer::{infer, outside_regions};
-use super::plot::{Plot, PreparedPlot};
+use super::plot::{Plot, PreparedPlot, Workspace};
 use assessment::slots::write_verdicts;
 use assessment::sources::{drive_flags, frontier_flags};
 use assessment::verdicts::put_sources;
 use lists::{COMPONENT, COMPONENTS, CONNECTIONS, PORT};
-use regions::HINTED;
+use regions::Graph;
 use sets::ComponentSet;
 use signals::flags::gather;
-use signals::network::{Network, Table};
+use signals::network::Network;
 use signals::stages::find_cyclic;
 
 // How many source rows and verdict rows were written.
@@ -56,37 +56,30 @@ pub fn flag_drive(
     );
 }
 
-// Flags the inferred inputs, by list place. The rows are hints. Its slices stay: a prepared plot would ask more.
+// Flags the inferred inputs, by list place. Its slices stay: a prepared plot would ask more.
 pub fn flag_inferred(
     components: &[i64],
-    forward: &[u64],
-    backward: &[u64],
+    forward: Graph,
+    backward: Graph,
     labels: &[usize],
     members: &[usize],
     region_at: &[usize],
     has_drive: &[bool],
     inferred: &mut [bool],
-    forward_rows: &[usize],
-    backward_rows: &[usize],
 )
     requires prepared_scene { (ps : List ℤ) ×
-        PreparedScene components.now ps forward.now backward.now labels.now members.now region_at.now }
+        PreparedScene components.now ps forward.keys.now backward.keys.now labels.now members.now region_at.now }
     requires has_drive_len { (length has_drive.now ≡ component_limit) × (component_count components.now ≤ length inferred.old) }
-    ensures { (ps fs : List ℤ) → PreparedScene components.now ps forward.now backward.now labels.now members.now region_at.now →
+    ensures { (ps fs : List ℤ) →
+        PreparedScene components.now ps forward.entry.keys.now backward.entry.keys.now labels.now members.now region_at.now →
         Flags component_limit (holds_drive components.now ps fs) has_drive.now →
         Flags (component_count components.now) (is_inferred components.now ps fs) inferred.new }
 {
     let mut fed = [false; COMPONENTS];
-    outside_regions(components, forward, labels, members, &mut fed);
+    outside_regions(components, forward.keys, labels, members, &mut fed);
     let network = Network {
-        forward: Table {
-            keys: forward,
-            rows: forward_rows,
-        },
-        backward: Table {
-            keys: backward,
-            rows: backward_rows,
-        },
+        forward,
+        backward,
         labels,
     };
     infer(
@@ -125,8 +118,6 @@ fn mark(
         plot.region_at,
         has_drive,
         inferred,
-        plot.forward_rows,
-        plot.backward_rows,
     );
     flag_alive(plot, has_drive, inferred, drive, potential);
 }
@@ -148,16 +139,16 @@ fn answer(
     potential: &[bool],
     has_drive: &[bool],
     counts: RowCounts,
-    count: usize,
 ) -> Analysis
-    requires count { (count ≤ component_limit) × (count ≤ length has_drive.now) }
+    requires count { let p = plot.now in (p.count ≤ component_limit) × (p.count ≤ length has_drive.now) }
     requires labels_in_bounds { (length plot.now.labels.now ≤ length drive.now) × (length plot.now.labels.now ≤ length potential.now) }
-    ensures { let p = plot.now in AnswerBy (length p.labels.now) count counts.sources counts.inputs drive.now potential.now has_drive.now
-        (cyclic_at p.forward.now p.labels.now) result }
+    ensures { let p = plot.now in AnswerBy (length p.labels.now) p.count counts.sources counts.inputs drive.now potential.now has_drive.now
+        (cyclic_at p.forward.keys.now p.labels.now) result }
 {
     let n = plot.labels.len();
+    let count = plot.count;
     let mut cyclic = [false; COMPONENTS];
-    find_cyclic(plot.forward, plot.labels, &mut cyclic);
+    find_cyclic(plot.forward.keys, plot.labels, &mut cyclic);
     Analysis {
         regions: count,
         sources: counts.sources,
@@ -172,13 +163,11 @@ fn answer(
 // Marks a prepared plot, writes its rows and answers. The stack is zero already, as it is to be left.
 fn report(
     plot: &PreparedPlot,
-    count: usize,
     regions: &mut [u64],
     sources: &mut [u64],
     inputs: &mut [u64],
     stack: &mut [usize],
 ) -> Analysis
-    requires count_value { count ≡ region_count plot.now.plot.components.now plot.now.plot.ports.now }
     requires rows_room { RowsRoom plot.now.plot.components.now regions.old sources.old inputs.old stack.old }
     requires stack_zeros { Zeros stack.old }
     ensures { let p = plot.now.plot in
@@ -207,21 +196,13 @@ fn report(
             lists.components,
             plot.members,
             lists.ports,
-            lists.source_at,
-            lists.sink_at,
+            lists.ends,
             &drive[..n],
             &potential[..n],
             inputs,
         ),
     };
-    answer(
-        plot,
-        &drive[..n],
-        &potential[..n],
-        &has_drive,
-        counts,
-        count,
-    )
+    answer(plot, &drive[..n], &potential[..n], &has_drive, counts)
 }
 
 // Prepares a plot in arrays that are lent, and reports it.
@@ -242,31 +223,10 @@ fn analyze_in(
         AnalyzedBy (Ok tt) p.components.now p.ports.now p.frontiers.now
         regions.old regions.new sources.old sources.new inputs.old inputs.new stack.old stack.new (Ok result) }
 {
-    let mut members = [0usize; COMPONENTS];
-    let mut region_at = [0usize; COMPONENTS];
-    let mut forward_rows = [0usize; HINTED];
-    let mut backward_rows = [0usize; HINTED];
-    let count = plot.prepare(
-        forward,
-        backward,
-        labels,
-        &mut members,
-        &mut region_at,
-        stack,
-        &mut forward_rows,
-        &mut backward_rows,
-    );
-    let prepared = PreparedPlot {
-        plot: *plot,
-        forward,
-        backward,
-        labels,
-        members: &members,
-        region_at: &region_at,
-        forward_rows: &forward_rows,
-        backward_rows: &backward_rows,
-    };
-    report(&prepared, count, regions, sources, inputs, stack)
+    let mut work = Workspace::new();
+    let count = plot.prepare(forward, backward, labels, &mut work, stack);
+    let prepared = plot.prepared(forward, backward, labels, &work, count);
+    report(&prepared, regions, sources, inputs, stack)
 }
 
 // Analyzes a plot: the counts and the sets; the rows at the front of the lent slices. Leaves the stack zero.

@@ -6,28 +6,25 @@ use Rattle.liveness.proofs.steps.analyze_in.Goals as goal
 
 pub prepare-count-requires : goal.prepare-count-requires
 prepare-count-requires c =
-    let few = c.args.plot.now.accepted.scene.components.few in record {
+    record {
       forward_room = c.requires.forward_room.0;
       backward_room = c.requires.forward_room.1;
       labels_room = c.requires.labels_room;
-      members_room = few;
-      regions_room = few;
       stack_room = c.requires.rows_room.stack_room;
     }
 
 pub report-requires : goal.report-requires
 report-requires c =
     let room = c.requires.rows_room in
-    let e = c.prepare-count.ensures in record {
-      count_value = e.count;
-      rows_room = record {
+    record {
+      rows_room = rw c.prepared-prepared.ensures.plot record {
         regions_room = room.regions_room;
         sources_room = room.sources_room;
         inputs_room = room.inputs_room;
         stack_room = omega (arith, room.stack_room, c.prepare-count.auto.stack);
       };
-      stack_zeros = e.stack_zeros;
+      stack_zeros = c.prepare-count.ensures.stack_zeros;
     }
 
 pub returns : goal.returns
-returns c = analyzed_stack c.prepare-count.auto.stack c.report.ensures
+returns c = analyzed_stack c.prepare-count.auto.stack (rw c.prepared-prepared.ensures.plot at c.report.ensures)

@@ -28,7 +28,7 @@ infer-requires-clause-regions_below c =
 pub infer-requires-clause-fed_room : goal.infer-requires-clause-fed_room
 infer-requires-clause-fed_room c =
     let (ps, r) = c.requires.prepared_scene in
-    let flags = c.outside_regions.ensures ps c.args.backward.now c.args.region_at.now r in
+    let flags = c.outside_regions.ensures ps c.args.backward.keys.now c.args.region_at.now r in
     (omega (arith, c.requires.has_drive_len.0, flags.long), c.requires.has_drive_len.1)
 
 pub returns : goal.returns
@@ -38,5 +38,5 @@ returns c ps fs r driven =
       long = c.infer.ensures.long;
       at = λ q h.
           c.infer.ensures.at q h
-          ∙ inferred_is r.scene r.prepared fs driven (c.outside_regions.ensures ps a.backward.now a.region_at.now r) q h;
+          ∙ inferred_is r.scene r.prepared fs driven (c.outside_regions.ensures ps a.backward.keys.now a.region_at.now r) q h;
     }

@@ -8,6 +8,7 @@ use native.Mathlib.Omega.{arith}
 use lib.ListN.{length, get_or, take, drop, replicate}
 use lib.Seq.{length-take-le}
 use lib.IntN.{ℤ}
+use Rattle.lists.proofs.EndLaws.{sources_length}
 use Rattle.lists.specs.Limits.{component_limit}
 use Rattle.lists.specs.Records.{component_count}
 use Rattle.lists.specs.First.{tabulate}
@@ -53,10 +54,10 @@ all s = labels_long (scene s) s.args.plot.now.prepared
 small : (s : Start) → nodes s ≤ component_limit
 small s = omega (arith, all s, few s)
 
-count_small : (s : Start) → s.args.count ≤ component_limit
+count_small : (s : Start) → s.args.plot.now.count ≤ component_limit
 count_small s =
     let p = s.args.plot.now in
-    omega (arith, s.requires.count_value, regions_few (cs s) (ps s) p.forward.now (graph (scene s) p.prepared), few s)
+    omega (arith, p.counted, regions_few (cs s) (ps s) p.forward.keys.now (graph (scene s) p.prepared), few s)
 
 lent : (s : Start) → length (take (nodes s) (replicate component_limit false)) ≡ nodes s
 lent s = length-take-le _ _ (small s)
@@ -111,7 +112,7 @@ write_verdicts-requires c =
     let t = p.tables in record {
       components = ((scene s).components, ((scene s).connections, (scene s).ends));
       settled = (t.source_members, t.sink_members);
-      ports_in_bounds = (p.sources_long, p.sinks_long);
+      ports_in_bounds = omega (arith, p.sources_long, sources_length c.args.plot.now.plot.ends.now);
       numbers = (p.members_are, c.requires.rows_room.inputs_room);
     }
 
@@ -149,16 +150,16 @@ returns c =
     record {
       answer = refl;
       analysis = record {
-        region_count_lem = a.regions_is ∙ c.requires.count_value;
+        region_count_lem = a.regions_is ∙ c.args.plot.now.counted;
         source_count = ap (λ (k : ℕ). k * 2) a.sources_is ∙ c.put_sources.ensures.count ∙ ap length source-rows;
         input_count = ap (λ (k : ℕ). k * 3) a.inputs_is ∙ verdict-rows.count;
         drive_set = set_all (all s) live a.drive_set;
         potential_set = set_all (all s) may a.potential_set;
-        cyclic_set = set_same c.requires.count_value
-            (λ r. ap (λ (l : List ℕ). cyclic_at c.args.plot.now.forward.now l r) p.labels_are
-            ∙ cyclic_is (cs s) (ps s) c.args.plot.now.forward.now (graph (scene s) p) (few s) t.source_members t.sink_members
+        cyclic_set = set_same c.args.plot.now.counted
+            (λ r. ap (λ (l : List ℕ). cyclic_at c.args.plot.now.forward.keys.now l r) p.labels_are
+            ∙ cyclic_is (cs s) (ps s) c.args.plot.now.forward.keys.now (graph (scene s) p) (few s) t.source_members t.sink_members
             (ends_within (cs s) (ps s) (scene s).ends) t.forward_keys r) a.cyclic_set;
-        has_drive_set = set_same c.requires.count_value (λ r. refl) (set_where (count_small s) a.has_drive_set e.region_flags);
+        has_drive_set = set_same c.args.plot.now.counted (λ r. refl) (set_where (count_small s) a.has_drive_set e.region_flags);
       };
       regions_left = c.put_regions.ensures ∙ ap (λ (l : List ℕ). laid l c.args.regions.now) region_rows_lem;
       sources_left = c.put_sources.ensures.is ∙ ap (λ (l : List ℕ). laid l c.args.sources.now) source-rows;

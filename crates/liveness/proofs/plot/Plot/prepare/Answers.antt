@@ -12,6 +12,7 @@ use lib.IntN.{ℤ}
 use Rattle.lists.specs.Limits.{component_limit}
 use Rattle.lists.specs.Records.{component_count}
 use Rattle.lists.proofs.Table.{table_long}
+use Rattle.lists.specs.Ends.{sources_of, sinks_of}
 use Rattle.regions.specs.Keys.{edges}
 use Rattle.regions.proofs.Fill.{cleared_zeros}
 use Rattle.signals.specs.Signals.{signals}
@@ -44,7 +45,7 @@ few s = s.args.self.now.accepted.scene.components.few
 
 -- ---- after the tables are built
 abbrev SceneTables : Start → List ℕ → List ℕ → Type 0
-SceneTables s forward backward = Tables (cs s) (ps s) s.args.self.now.source_at.now s.args.self.now.sink_at.now forward backward
+SceneTables s forward backward = Tables (cs s) (ps s) (sources_of s.args.self.now.ends.now) (sinks_of s.args.self.now.ends.now) forward backward
 
 graph : (s : Start) (forward backward : List ℕ) → SceneTables s forward backward
     → edges (component_count (cs s)) forward ≡ signals (cs s) (ps s)
@@ -77,7 +78,7 @@ find_regions-count-requires c =
 
 pub place_members-requires : goal.place_members-requires
 place_members-requires c =
-    ((c.args.self.now.components.now, c.args.self.now.accepted.table), omega (arith, table_long c.args.self.now.accepted.table, c.requires.members_room))
+    ((c.args.self.now.components.now, c.args.self.now.accepted.table), omega (arith, table_long c.args.self.now.accepted.table, few (goal.at.place_members-requires c).Start))
 
 -- the members of all components are nodes
 indices_at : {n m k : ℕ} {index : List ℕ} → n ≡ k → m ≡ k → Indices k k index → Indices n m index
@@ -94,9 +95,9 @@ spread-requires c =
       omega (
         arith,
         long,
-        s.requires.regions_room,
+        few s,
         members.long,
-        length-take-le (length c.find_regions-count.new.labels) c.place_members.new.members (omega (arith, long, s.requires.members_room, c.place_members.auto.members)),
+        length-take-le (length c.find_regions-count.new.labels) c.place_members.new.members (omega (arith, long, few s, c.place_members.auto.members)),
       ),
     )
 
@@ -129,7 +130,7 @@ returns c =
         labels_are = regions.0;
         members_are = numbers;
         regions_are = labels_placed (cs s) numbers (ps s) (numbers_at c.place_members.new.members long regions.0 numbers.long
-            (omega (arith, room.regions_room, c.spread.auto.out)) c.spread.ensures.values);
+            (omega (arith, few s, c.spread.auto.out)) c.spread.ensures.values);
       };
       count = regions.1;
       stack_zeros = c.find_regions-count.ensures.stack_zeros;
