@@ -12,6 +12,7 @@ ghost use Rattle.capi.specs.Written.{Written, WrittenRoom, RowRoom, LivenessByPl
 
 use checks::refusals::{liveness_lists, pack, room_for};
 use encoding::bytes::{NUMBER, decode, encode, encode_at, places, wipe};
+use lists::ends::Ends;
 use lists::{COMPONENT, COMPONENTS, CONNECTIONS, FRONTIER, FRONTIERS, PORT};
 use liveness::{Analysis, analyze_signal_liveness};
 use sets::{ComponentSet, WORDS};
@@ -181,16 +182,14 @@ fn refuse_short(lists: &Lists) -> u64
     ensures { result ≡ packed (liveness_lists lists.now.components.now lists.now.ports.now lists.now.frontiers.now false) }
 {
     let mut keys = [0u64; COMPONENTS];
-    let mut source_at = [0usize; CONNECTIONS];
-    let mut sink_at = [0usize; CONNECTIONS];
+    let mut ends = [Ends { source: 0, sink: 0 }; CONNECTIONS];
     pack(liveness_lists(
         lists.components,
         lists.ports,
         lists.frontiers,
         false,
         &mut keys,
-        &mut source_at,
-        &mut sink_at,
+        &mut ends,
     ))
 }
 

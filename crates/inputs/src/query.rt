@@ -78,7 +78,8 @@ fn upstream_inputs(
     ComponentSet::of_flags(&upstream[..n])
 }
 
-// The sources where the port asked for has no verdict row, or none feeds it.
+// The sources where the port asked for has no verdict row, or none feeds it: two empty sets, which a report writes as empty lists, so that
+// an Option would be turned into them at once.
 pub(crate) fn no_sources() -> InputSources
     ensures { (cs ps fs : List ℤ) (port : ℕ) → PortSets cs ps fs None port result }
 {

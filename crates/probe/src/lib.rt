@@ -12,6 +12,7 @@ ghost use Rattle.checks.specs.Refusals.{grouping_lists, liveness_lists, grouping
 ghost use Rattle.probe.specs.Places.{IsPlace, answer_of, count_among, place_among, MemberAnswer};
 
 use checks::refusals::{grouping_lists, liveness_lists, pack, room_for};
+use lists::ends::Ends;
 use lists::ids::{place_at, place_of};
 use lists::{COMPONENT, COMPONENTS, CONNECTION, CONNECTIONS, PORT};
 
@@ -28,16 +29,14 @@ fn pack_liveness(components: &[i64], ports: &[i64], frontiers: &[i64], enough: b
     ensures { result ≡ packed (liveness_lists components.now ports.now frontiers.now enough) }
 {
     let mut keys = [0u64; COMPONENTS];
-    let mut source_at = [0usize; CONNECTIONS];
-    let mut sink_at = [0usize; CONNECTIONS];
+    let mut ends = [Ends { source: 0, sink: 0 }; CONNECTIONS];
     pack(liveness_lists(
         components,
         ports,
         frontiers,
         enough,
         &mut keys,
-        &mut source_at,
-        &mut sink_at,
+        &mut ends,
     ))
 }
 

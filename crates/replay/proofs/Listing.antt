@@ -3,7 +3,6 @@
 --     front_none, -more            none at first, one more
 --     flags_none, -more, -all      the flags below a number
 --     names_none, -first, -last    the names below a number
---     next_rises                   the next member is past the last one
 -- Assumes nothing.
 use Prim.Native.Nat.{ℕ, zero, suc, ◌+◌, ◌≤◌, ◌<◌}
 use native.Mathlib.Numerals.{add-one}
@@ -18,8 +17,7 @@ use Rattle.std.specs.Int.{from_bool}
 use Rattle.lists.specs.Slices.{laid}
 use Rattle.lines.proofs.Writing.{laid_snoc}
 use Rattle.sets.specs.Members.{as_nat, member_of, NoneIn, FirstFrom}
-use Rattle.std.specs.Prelude.{Option, Some, None}
-use Rattle.std.specs.Option.{unwrap_or}
+use Rattle.std.specs.Prelude.{Some, None}
 use native.Mathlib.Nat.{add-zero}
 use mathlib.Core.Path.{subst}
 use Prim.Native.Nat.{◌-◌}
@@ -64,11 +62,6 @@ pub flags_all : (words ys : List ℕ) (n k : ℕ) → length ys ≡ n → k ≡ 
 flags_all words ys n k long last e =
     let all : take k ys ≡ ys = ap (λ m. take m ys) (last ∙ sym long) ∙ take-length ys in
     sym all ∙ e ∙ ap (flags_below words) last
-
--- the next member is past the last one
-pub next_rises : (words : List ℕ) (m : ℕ) (r : Option ℕ) → m < 1024 → FirstFrom words (m + 1) r → 1024 - unwrap_or r 1024 < 1024 - m
-next_rises words m None h f = omega arith
-next_rises words m (Some k) h f = omega (arith, f.0)
 
 module _ (keys words : List ℕ) where
   pub names_none : names_below keys words 0 ≡ []

@@ -3,6 +3,7 @@ use super::compare::Replay;
 use checks::refusals::liveness_lists;
 use circuit::{fragment_nets, from_parts};
 use inputs::{InputSources, required_input};
+use lists::ends::Ends;
 use lists::{COMPONENT, COMPONENTS, CONNECTION, CONNECTIONS, FRONTIER, FRONTIERS, PORT, Refusal};
 use liveness::{Analysis, analyze_signal_liveness};
 use scene::connections::port_connections;
@@ -38,7 +39,7 @@ struct Rows {
     inputs: [u64; INPUTS * 3],
 }
 
-// What a refused scene has. A literal: a public function in `inputs` for two empty sets would be longer.
+// What a refused scene has.
 fn no_sources() -> InputSources {
     InputSources {
         immediate: ComponentSet::empty(),
@@ -59,7 +60,8 @@ fn no_analysis() -> Analysis {
 }
 
 impl Replay {
-    // What an entry answered, or what a refused scene has.
+    // What an entry answered, or what a refused scene has. No Option goes on in its place: what is recorded of a scene is read either way,
+    // so that what is recorded behind it is found.
     fn accepted<T: Copy>(&mut self, answer: Result<T, Refusal>, refused: T) -> T {
         match answer {
             Ok(found) => found,
@@ -133,8 +135,7 @@ impl Replay {
     // Regions, sources, drive and verdicts.
     fn replay_liveness(&mut self, scene: Scene, ports: &[i64]) {
         let mut keys = [0u64; COMPONENTS];
-        let mut source_at = [0usize; CONNECTIONS];
-        let mut sink_at = [0usize; CONNECTIONS];
+        let mut ends = [Ends { source: 0, sink: 0 }; CONNECTIONS];
         let mut rows = Rows {
             regions: [0; COMPONENTS],
             sources: [0; SOURCES * 2],
@@ -147,8 +148,7 @@ impl Replay {
             scene.frontiers,
             true,
             &mut keys,
-            &mut source_at,
-            &mut sink_at,
+            &mut ends,
         );
         let answer = analyze_signal_liveness(
             scene.components,

@@ -100,12 +100,9 @@ fn list_names(keys: &[u64], set: ComponentSet, out: &mut [u64]) -> usize
     ensures { Written (names_below keys.now set.words member_limit) out.old out.new result }
 {
     let mut n: usize = 0;
-    let mut next = set.next_member(0);
-    // By hand: to test each number of 0..MEMBERS takes longer, where most sets have few members.
-    while let Some(m) = next {
+    for m in set.members() {
         out[n] = name_of(keys, m);
         n += 1;
-        next = set.next_member(m + 1);
     }
     n
 }

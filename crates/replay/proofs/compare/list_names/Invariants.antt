@@ -1,14 +1,11 @@
--- The loop's invariant: the names of the members below a number stand at the front, and `next` is the first from there on. It rises. Assumes nothing.
-use Rattle.std.proofs.Common.{ℕ, ◌-◌, ◌≤◌}
-use Rattle.std.specs.Option.{unwrap_or}
-use Rattle.sets.specs.Members.{FirstFrom}
+-- The loop's invariant: the names of the members before the next one of the walk stand at the front. Assumes nothing.
+use Rattle.std.proofs.Common.{◌≡◌, ◌≤◌}
 use Rattle.replay.specs.Names.{names_below}
 use Rattle.replay.proofs.Listing.{Front}
 use Rattle.replay.proofs.compare.list_names.Given as goal
 
-abbrev pub invariant-loop-next : goal.invariant-loop-next
-invariant-loop-next l =
-    (start : ℕ) × (start ≤ 1024) × FirstFrom l.set.words start l.next × Front (names_below l.keys l.set.words start) l.n l.initial.out l.out
-
-abbrev pub decreases-loop-next : goal.decreases-loop-next
-decreases-loop-next l = 1024 - unwrap_or l.next 1024
+abbrev pub invariant-loop-m : goal.invariant-loop-m
+invariant-loop-m l =
+    (l.m-iterator.set.words ≡ l.fn.set.words)
+    × (l.m-iterator.start ≤ 1024)
+    × Front (names_below l.keys l.fn.set.words l.m-iterator.start) l.n l.fn.out l.out
