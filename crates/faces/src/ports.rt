@@ -208,30 +208,15 @@ pub fn ports_for(kind: u64, facing: u64, support: u64, conducts: u64) -> [Option
     }
 }
 
-// How many there are. A repeater that faces Up or Down has a Control on each of the four.
+// How many there are: no port stands past a place without one.
 pub fn port_count(kind: u64, facing: u64, support: u64, conducts: u64) -> usize
     ensures { result ≡ length (ports_for kind facing support conducts) }
 {
-    let Ok(block) = BlockKind::try_from(kind) else {
-        return 0;
-    };
-    match block {
-        BlockKind::RedstoneWire => 7,
-        BlockKind::Repeater | BlockKind::Comparator => match Face::North.unless(facing) {
-            Face::Up | Face::Down => 7,
-            Face::North | Face::East | Face::South | Face::West => 5,
-        },
-        BlockKind::RedstoneTorch => 5,
-        BlockKind::Lever
-        | BlockKind::Button
-        | BlockKind::PressurePlate
-        | BlockKind::RedstoneBlock => 4,
-        BlockKind::Piston => 5,
-        BlockKind::Solid | BlockKind::Transparent | BlockKind::RedstoneLamp => if conducts == 1 {
-            6
-        } else {
-            0
-        },
-        BlockKind::Air => 0,
+    let ports = ports_for(kind, facing, support, conducts);
+    for i in 0..PORTS {
+        let Some(_) = ports[i] else {
+            return i;
+        };
     }
+    PORTS
 }

@@ -1,45 +1,44 @@
 // The sheet entry for the tests from Rust, its answer as one number.
 ghost use Rattle.std.specs.Prelude.{◌≡◌};
+ghost use Rattle.std.specs.Option.{unwrap_or};
 ghost use Rattle.sheet.specs.Sheet.{parse};
-ghost use Rattle.probe.specs.Sheets.{packed_refusal, packed_report, ReportedAs};
+ghost use Rattle.probe.specs.Sheets.{no_room, packed_refusal, packed_report, ReportedAs};
 
 use lists::{Refusal, list_number};
 use report::report;
 use sheet::Counts;
 
-// A part that has no room in its digits makes the whole this.
-const NO_ROOM: u64 = 18446744073709551615;
-
 const ITEMS: usize = 1 << 48;
 
-// Number, list and item in their digits.
-fn pack_refusal(number: u64, list: u64, item: usize) -> u64
-    ensures { result ≡ packed_refusal number list item }
+// Number, list and item in their digits, where each has room there.
+fn in_digits(number: u64, list: u64, item: usize) -> Option<u64>
+    ensures { unwrap_or result no_room ≡ packed_refusal number list item }
 {
     if 256 <= number {
-        return NO_ROOM;
+        return None;
     }
     if 256 <= list {
-        return NO_ROOM;
+        return None;
     }
     if ITEMS <= item {
-        return NO_ROOM;
+        return None;
     }
-    number + 256 * list + 65536 * item as u64
+    Some(number + 256 * list + 65536 * item as u64)
 }
 
-// The answer as one number.
+// The answer as one number, for C: the greatest, where it has no room.
 fn pack_printed(printed: Result<usize, Refusal>) -> u64
     ensures { result ≡ packed_report printed }
 {
-    match printed {
-        Ok(n) => pack_refusal(0, 0, n),
-        Err(refusal) => pack_refusal(
+    let digits = match printed {
+        Ok(n) => in_digits(0, 0, n),
+        Err(refusal) => in_digits(
             u64::from(refusal.fault),
             list_number(refusal.list),
             refusal.item,
         ),
-    }
+    };
+    digits.unwrap_or(u64::MAX)
 }
 
 // The report of a sheet, given the most records of each list.

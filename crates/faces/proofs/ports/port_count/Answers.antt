@@ -1,53 +1,27 @@
--- `faces::ports::port_count` meets its contract: each arm's count is that of the ports of its blocks.
--- Assumes nothing.
-use mathlib.Core.Path.{refl, sym}
+-- Answers for the goals that the search leaves.
+use mathlib.Core.Path.{◌≡◌, ap}
 use native.Mathlib.Omega.{arith}
-use borrow.Author.Tests.{ne_eqb}
+use lib.ListN.{length}
+use Rattle.std.proofs.Common.{rules}
+use Rattle.faces.specs.Codes.{ports_in}
 use Rattle.faces.specs.Ports.{ports_for}
-use Rattle.faces.proofs.Runs.{no_kind}
-use Rattle.faces.proofs.Blocks.{repeater_block, lever_block, solid_block, upright_seven, level_five}
+use Rattle.faces.proofs.Places.{at_place, past_ports, ports_long, ports_back}
 use Rattle.faces.proofs.ports.port_count.Goals as goal
+use Rattle.faces.proofs.ports.port_count.Goals.{After-ports_for-ports}
 
-pub returns-in-RedstoneWire : goal.returns-in-RedstoneWire
-unfolding ports_for
-returns-in-RedstoneWire c = rw (← c.in-Ok.ensures, c.in-RedstoneWire.is) refl
-
-pub returns-in-RedstoneTorch : goal.returns-in-RedstoneTorch
-unfolding ports_for
-returns-in-RedstoneTorch c = rw (← c.in-Ok.ensures, c.in-RedstoneTorch.is) refl
-
-pub returns-in-Piston : goal.returns-in-Piston
-unfolding ports_for
-returns-in-Piston c = rw (← c.in-Ok.ensures, c.in-Piston.is) refl
-
-pub returns-in-Air : goal.returns-in-Air
-unfolding ports_for
-returns-in-Air c = rw (← c.in-Ok.ensures, c.in-Air.is) refl
-
-pub returns-in-Lever : goal.returns-in-Lever
-returns-in-Lever c =
-    let a = c.args in
-    rw (← c.in-Ok.ensures, lever_block a.facing a.support a.conducts c.in-Ok.block c.in-Lever.is) refl
-
-pub returns-then-conducts-eq1 : goal.returns-then-conducts-eq1
-returns-then-conducts-eq1 c =
-    let a = c.args in
-    rw (← c.in-Ok.ensures, solid_block a.facing a.support a.conducts c.in-Ok.block c.in-Solid.is, c.if-conducts-eq1.true) refl
-
-pub returns-else-conducts-eq1 : goal.returns-else-conducts-eq1
-returns-else-conducts-eq1 c =
-    let a = c.args in
-    rw (← c.in-Ok.ensures, solid_block a.facing a.support a.conducts c.in-Ok.block c.in-Solid.is, ne_eqb _ 1 c.if-conducts-eq1.false) refl
+-- the places have the ports of the definition
+all : (c : After-ports_for-ports) → length (ports_in c.ports_for-ports.result) ≡ length (ports_for c.args.kind c.args.facing c.args.support c.args.conducts)
+all c = ap length (ports_back c.ports_for-ports.result (ports_for c.args.kind c.args.facing c.args.support c.args.conducts) c.ports_for-ports.ensures)
 
 pub returns-in_default : goal.returns-in_default
-returns-in_default c = let a = c.args in rw (no_kind a.kind a.facing a.support a.conducts (omega (arith, c.in_default.ensures.1))) refl
+returns-in_default c =
+    let past = past_ports c.ports_for-ports.result c.loop-i.i c.loop-i.invariant c.in_default.not-Some in
+    omega (arith, past, c.loop-i.invariant, all (goal.at.returns-in_default c).After-ports_for-ports)
 
-pub returns-in-Up : goal.returns-in-Up
-returns-in-Up c =
-    let a = c.args in
-    rw (← c.in-Ok.ensures, repeater_block a.facing a.support a.conducts c.in-Ok.block c.in-Repeater.is, ← c.unless.ensures) (sym (upright_seven c.unless.result c.in-Up.is))
+pub loop-i-preserved : goal.loop-i-preserved
+loop-i-preserved c = omega (arith, (at_place c.ports_for-ports.result c.loop-i.i _ c.loop-i.invariant c.in-Some.is).0)
 
-pub returns-in-North : goal.returns-in-North
-returns-in-North c =
-    let a = c.args in
-    rw (← c.in-Ok.ensures, repeater_block a.facing a.support a.conducts c.in-Ok.block c.in-Repeater.is, ← c.unless.ensures) (sym (level_five c.unless.result c.in-North.is))
+pub returns : goal.returns
+returns c =
+    let long : length c.ports_for-ports.result ≡ 7 = search rules in
+    omega (arith, long, ports_long c.ports_for-ports.result, c.loop-i.invariant, c.loop-i-test.false, all (goal.at.returns c).After-ports_for-ports)

@@ -1,8 +1,8 @@
--- `probe::sheets::pack_refusal` meets its contract, test by test.
+-- `probe::sheets::in_digits` meets its contract, test by test.
 -- Assumes nothing.
 use borrow.Author.Tests.{le-leb, lt-leb}
 use Prim.Native.Nat.{◌^◌}
-use Rattle.probe.proofs.sheets.pack_refusal.Goals as goal
+use Rattle.probe.proofs.sheets.in_digits.Goals as goal
 
 pub returns-then-number-ge256 : goal.returns-then-number-ge256
 returns-then-number-ge256 c = let a = c.args in rw (le-leb 256 a.number c.if-number-ge256.true)
