@@ -1,7 +1,7 @@
 -- Writers at a position, whatever room there is.
 --     printed_then, printed_none      what two wrote, one behind the other; nothing
 --     printed_put                     where there is room
---     printed_within, printed_out     whether there was
+--     measured_fits, measured_short   whether there is
 -- Assumes nothing.
 use mathlib.Core.Path.{◌≡◌, refl, sym, ap, ◌∙◌}
 use mathlib.Core.Logic.{⊎_elim}
@@ -21,8 +21,7 @@ use Rattle.blocks.specs.Printed.{greatest, Printed}
 -- ---- whether there was room
 
 module _ {at : ℕ} {s a b : List ℕ} {n : ℕ} (p : Printed at s a b n) where
-  -- it ends within the buffer just where the sum does
-  pub printed_end : at + length s ≤ greatest → n ≡ at + length s
+  printed_end : at + length s ≤ greatest → n ≡ at + length s
   printed_end h = p.count ∙ min-eq_left h
 
   printed_last : greatest ≤ at + length s → n ≡ greatest
@@ -31,18 +30,19 @@ module _ {at : ℕ} {s a b : List ℕ} {n : ℕ} (p : Printed at s a b n) where
   pub printed_put : at + length s ≤ length a → Put at s a b n
   printed_put h = record { room = h; bytes = p.bytes h; count = printed_end (omega (arith, h, p.short)) }
 
-  pub printed_within : n ≤ length a → at + length s ≤ length a
-  printed_within h =
+  -- measured anywhere, it fits a buffer of so many bytes, or it does not
+  pub measured_fits : (room : ℕ) → room < greatest → n ≤ room → at + length s ≤ room
+  measured_fits room h l =
       ⊎_elim
-      (λ (l : at + length s ≤ greatest). omega (arith, h, printed_end l))
-      (λ (l : greatest < at + length s). absurd (omega (arith, h, p.short, printed_last (omega (arith, l)))))
+      (λ (e : at + length s ≤ greatest). omega (arith, l, printed_end e))
+      (λ (e : greatest < at + length s). absurd (omega (arith, h, l, printed_last (omega (arith, e)))))
       (order? (at + length s) greatest)
 
-  pub printed_out : length a < n → length a < at + length s
-  printed_out h =
+  pub measured_short : (room : ℕ) → room < n → room < at + length s
+  measured_short room h =
       ⊎_elim
-      (λ (l : at + length s ≤ greatest). omega (arith, h, printed_end l))
-      (λ (l : greatest < at + length s). omega (arith, l, p.short))
+      (λ (e : at + length s ≤ greatest). omega (arith, h, printed_end e))
+      (λ (e : greatest < at + length s). omega (arith, h, e, printed_last (omega (arith, e))))
       (order? (at + length s) greatest)
 
 -- ---- one behind the other
