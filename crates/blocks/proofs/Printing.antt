@@ -1,6 +1,6 @@
 -- Writers at a position, whatever room there is.
 --     printed_then, printed_none      what two wrote, one behind the other; nothing
---     printed_put                     where there is room
+--     printed_put, printed_inside     where there is room
 --     measured_fits, measured_short   whether there is
 -- Assumes nothing.
 use mathlib.Core.Path.{◌≡◌, refl, sym, ap, ◌∙◌}
@@ -29,6 +29,9 @@ module _ {at : ℕ} {s a b : List ℕ} {n : ℕ} (p : Printed at s a b n) where
 
   pub printed_put : at + length s ≤ length a → Put at s a b n
   printed_put h = record { room = h; bytes = p.bytes h; count = printed_end (omega (arith, h, p.short)) }
+
+  pub printed_inside : at + length s ≤ length a → n ≤ length b
+  printed_inside h = omega (arith, (printed_put h).count, h, p.long)
 
   -- measured anywhere, it fits a buffer of so many bytes, or it does not
   pub measured_fits : (room : ℕ) → room < greatest → n ≤ room → at + length s ≤ room
