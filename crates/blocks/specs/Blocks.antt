@@ -1,16 +1,12 @@
--- What the functions that measure and write lines and blocks hand on to each other. No line of a report rests on these.
+-- What the functions that write lines and blocks hand on to each other. No line of a report rests on these.
 --     block_numbered                        a block by its number
 --     block_keys, count_name, block_text    the blocks
---     left_after                          how much room is left
---     FirstBelow                          the least member of a set that the table of ids has, from a place on
 --     ids_in                              the ids of a set's members, by the table of ids
---     blank_if                            a blank between two ids
 -- Assumes nothing: these are definitions.
-use Rattle.std.specs.Prelude.{Option, Some, None}
-use Rattle.std.specs.Prelude.{ℕ, zero, suc, ◌-◌, ◌/◌, ◌<◌, Bool, true, false, cond, List, [], ◌∷◌, leb, length, get_or}
+use Rattle.std.specs.Prelude.{ℕ, zero, suc, ◌/◌, cond, List, [], ◌∷◌, length, get_or}
 use Rattle.blocks.specs.declared.Block.{Block}
 use Rattle.tables.specs.Pairs.{span}
-use Rattle.sets.specs.Members.{member_of, NoneIn, FirstFrom}
+use Rattle.sets.specs.Members.{member_of}
 use Rattle.lines.specs.Text.{ascii}
 use Rattle.blocks.specs.Lines.{component_keys, connection_keys, region_keys, source_keys, input_keys, block}
 
@@ -43,19 +39,7 @@ count_name Block.Inputs = ascii "inputs"
 abbrev pub block_text : Block → List ℕ → List ℕ
 block_text b rows = block (count_name b) (block_keys b) rows
 
--- ---- room
-
--- how many bytes are left after n of them, where there are so many
-abbrev pub left_after : Option ℕ → ℕ → Option ℕ
-left_after (Some left) n = cond (leb n left) (Some (left - n)) None
-left_after None n = None
-
 -- ---- sets
-
--- the answer is the least member at or above start that is below n, or there is none
-abbrev pub FirstBelow : ℕ → List ℕ → ℕ → Option ℕ → Type 0
-FirstBelow n words start None = NoneIn words start n
-FirstBelow n words start (Some m) = FirstFrom words start (Some m) × (m < n)
 
 -- the ids of those of the k members from m on that the words keep. Key m of the table has the id of member m
 unfoldable pub ids_from : List ℕ → List ℕ → ℕ → ℕ → List ℕ
@@ -65,8 +49,3 @@ ids_from keys words m (suc k) =
 
 abbrev pub ids_in : List ℕ → List ℕ → List ℕ
 ids_in keys words = ids_from keys words 0 (length keys)
-
--- a blank where more follow
-abbrev pub blank_if : Bool → List ℕ
-blank_if true = 32 ∷ []
-blank_if false = []

@@ -1,55 +1,34 @@
 // Lines that list a set's members by their ids, which rise with the members.
-ghost use Rattle.std.specs.Prelude.{◌≡◌, ◌+◌, ◌≤◌, length};
-ghost use Rattle.sets.specs.Members.{member_limit};
-ghost use Rattle.lines.specs.Wrote.{Put};
-ghost use Rattle.blocks.specs.Lines.{set_line};
-ghost use Rattle.blocks.specs.Blocks.{ids_in, left_after, FirstBelow};
+ghost use Rattle.blocks.specs.Lines.{set_line, spaced};
+ghost use Rattle.blocks.specs.Blocks.{ids_in};
+ghost use Rattle.blocks.specs.Printed.{Printed};
 
-use super::left_after;
-use super::writers::{id_length, put_id, put_key, put_sign};
+use super::writers::{put_decimal, put_key, put_sign, put_text};
 use sets::ComponentSet;
 use tables::SPAN;
 
-// The least member that is start or more, where the table of ids has it.
-fn next_listed(set: ComponentSet, start: usize, keys: &[u64]) -> Option<usize>
-    ensures { FirstBelow (length keys.now) set.words start result }
+// The ids of those members that the table of ids has, with a blank between two.
+fn put_members(out: &mut [u8], at: usize, set: ComponentSet, keys: &[u64]) -> usize
+    ensures { Printed at (spaced (ids_in keys.now set.words)) out.old out.new result }
 {
-    let next = set.next_member(start)?;
-    (next < keys.len()).then_some(next)
+    let mut p = at;
+    let mut blank: &[u8] = b"";
+    for m in set.members() {
+        if keys.len() <= m {
+            break;
+        }
+        p = put_text(out, p, blank);
+        p = put_decimal(out, p, keys[m] / SPAN);
+        blank = b" ";
+    }
+    p
 }
 
-// Writes the line of a key and a set, given the table of ids.
+// Writes the line of a key and a set where it fits, given the table of ids, and answers where it ends.
 pub fn put_ids(out: &mut [u8], at: usize, key: &[u8], set: ComponentSet, keys: &[u64]) -> usize
-    requires keys_len_bound { length keys.now ≤ member_limit }
-    requires words_in_bounds { at + length (set_line key.now (ids_in keys.now set.words)) ≤ length out.old }
-    ensures { Put at (set_line key.now (ids_in keys.now set.words)) out.old out.new result }
+    ensures { Printed at (set_line key.now (ids_in keys.now set.words)) out.old out.new result }
 {
-    let mut p = put_key(out, at, key);
-    let mut next = next_listed(set, 0, keys);
-    // No range: the walk goes from member to member.
-    while let Some(m) = next {
-        next = next_listed(set, m + 1, keys);
-        p = put_id(out, p, keys[m] / SPAN, next.is_some());
-    }
-    put_sign(out, p, b'\n')
-}
-
-// How many bytes are left after that line.
-pub fn left_after_ids(
-    left: Option<usize>,
-    key: &[u8],
-    set: ComponentSet,
-    keys: &[u64],
-) -> Option<usize>
-    requires { length keys.now ≤ member_limit }
-    ensures { result ≡ left_after left (length (set_line key.now (ids_in keys.now set.words))) }
-{
-    let mut rest = left_after(left, key.len() + 2);
-    let mut next = next_listed(set, 0, keys);
-    // No range: the walk goes from member to member.
-    while let Some(m) = next {
-        next = next_listed(set, m + 1, keys);
-        rest = left_after(rest, id_length(keys[m] / SPAN, next.is_some()));
-    }
-    rest
+    let a = put_key(out, at, key);
+    let b = put_members(out, a, set, keys);
+    put_sign(out, b, b'\n')
 }

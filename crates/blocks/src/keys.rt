@@ -1,9 +1,9 @@
 // The keys of a report, and the lines that have them.
-ghost use Rattle.std.specs.Prelude.{◌≡◌, [], ◌+◌, ◌≤◌, ◌<◌, length, get_or, pos};
+ghost use Rattle.std.specs.Prelude.{◌≡◌, [], ◌<◌, length, get_or, pos};
 ghost use Rattle.lines.specs.Decimal.{line_of};
-ghost use Rattle.lines.specs.Wrote.{Put};
 ghost use Rattle.sheet.specs.Keys.{field_key};
 ghost use Rattle.blocks.specs.Blocks.{block_keys, count_name};
+ghost use Rattle.blocks.specs.Printed.{Printed};
 
 use super::Block;
 use super::writers::put_natural;
@@ -73,34 +73,14 @@ fn count_key(block: Block) -> &'static [u8]
 
 // Line k of a block's rows.
 pub fn put_field(out: &mut [u8], at: usize, block: Block, k: usize, value: u64) -> usize
-    requires { at + length (line_of (field_key (block_keys block) k) (pos value)) ≤ length out.old }
-    ensures { Put at (line_of (field_key (block_keys block) k) (pos value)) out.old out.new result }
+    ensures { Printed at (line_of (field_key (block_keys block) k) (pos value)) out.old out.new result }
 {
     put_natural(out, at, field_key(block, k), value)
 }
 
 // The line of a block's count.
 pub fn put_count(out: &mut [u8], at: usize, block: Block, count: u64) -> usize
-    requires { at + length (line_of (count_name block) (pos count)) ≤ length out.old }
-    ensures { Put at (line_of (count_name block) (pos count)) out.old out.new result }
+    ensures { Printed at (line_of (count_name block) (pos count)) out.old out.new result }
 {
     put_natural(out, at, count_key(block), count)
-}
-
-// How many bytes line k of a block's rows takes.
-#[tactic(auto, using(crate::proofs::FieldText::field_short))]
-pub(crate) fn field_length(block: Block, k: usize, value: u64) -> usize
-    ensures { result ≡ length (line_of (field_key (block_keys block) k) (pos value)) }
-{
-    let mut line = [0u8; 40];
-    put_field(&mut line, 0, block, k, value)
-}
-
-// How many bytes the line of a block's count takes.
-#[tactic(auto, using(crate::proofs::FieldText::count_short))]
-pub fn count_length(block: Block, count: u64) -> usize
-    ensures { result ≡ length (line_of (count_name block) (pos count)) }
-{
-    let mut line = [0u8; 40];
-    put_count(&mut line, 0, block, count)
 }

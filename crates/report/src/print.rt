@@ -2,18 +2,17 @@
 // first byte is written. Each stage has its arrays only while it runs.
 ghost use Rattle.std.specs.Prelude.{◌≡◌, List, ◌*◌, ◌≤◌, length, ℤ};
 ghost use Rattle.lists.specs.Records.{component_count};
-ghost use Rattle.lines.specs.Wrote.{Put};
 ghost use Rattle.inputs.specs.Inputs.{Ready};
-ghost use Rattle.blocks.specs.Blocks.{left_after};
+ghost use Rattle.blocks.specs.Printed.{Printed};
 ghost use Rattle.report.specs.Report.{report_of};
 ghost use Rattle.report.specs.Entry.{fits, lists_checked, PrintedBy};
-ghost use Rattle.report.specs.Printing.{blocks_text, whole_text, Accepts, Gathered, Analyzed};
+ghost use Rattle.report.specs.Printing.{whole_text, Accepts, Gathered, Analyzed};
 
 use super::fill::{fill_components, fill_connections, fill_regions};
-use super::rows::{left_after_rows, put_rows};
+use super::rows::put_rows;
 use assessment::upstream::TABLE;
 use blocks::answer::put_accepted;
-use blocks::{Block, left_after, left_after_block, put_block};
+use blocks::{Block, put_block};
 use checks::refusals::grouping_lists;
 use circuit::settle::group;
 use inputs::asked::{Asked, make_ready};
@@ -23,9 +22,6 @@ use liveness::Analysis;
 use liveness::plot::Plot;
 use liveness::steps::analyze;
 use scene::connections::keep_all;
-
-// How long the first line is.
-const ANSWER: usize = 9;
 
 // How many numbers the rows of a full scene have: of components, of kept connections, of regions, of sources, of inputs, and of the stack.
 const COMPONENT_ROWS: usize = 6 * COMPONENTS;
@@ -42,42 +38,30 @@ const STACK: usize = 2 * COMPONENTS;
 
 // ---- the text by its rows
 
-// How many bytes are left after the blocks before the verdict rows.
-fn left_after_blocks(
-    left: Option<usize>,
-    components: &[u64],
-    kept: &[u64],
-    regions: &[u64],
-    sources: &[u64],
-) -> Option<usize>
-    ensures { result ≡ left_after left (length (blocks_text components.now kept.now regions.now sources.now)) }
-{
-    let a = left_after(left, ANSWER);
-    let b = left_after_block(a, Block::Components, components);
-    let c = left_after_block(b, Block::Connections, kept);
-    let d = left_after_block(c, Block::Regions, regions);
-    left_after_block(d, Block::Sources, sources)
-}
-
-// Writes these blocks at the front of `out`, and answers where they end.
-fn put_blocks(
+// Writes the report at the front of `out` where it fits, and answers how long it is.
+fn put_whole(
     out: &mut [u8],
+    asked: &Asked,
     components: &[u64],
     kept: &[u64],
     regions: &[u64],
     sources: &[u64],
+    inputs: &[u64],
 ) -> usize
-    requires { length (blocks_text components.now kept.now regions.now sources.now) ≤ length out.old }
-    ensures { Put 0 (blocks_text components.now kept.now regions.now sources.now) out.old out.new result }
+    ensures { let a = asked.now in
+        (ps fs : List ℤ) → Ready a.components.now ps fs a.fed.now a.labels.now a.upstream.now →
+        let text = whole_text a.components.now ps fs components.now kept.now regions.now sources.now inputs.now in
+        Printed 0 text out.old out.new result }
 {
     let a = put_accepted(out, 0);
     let b = put_block(out, a, Block::Components, components);
     let c = put_block(out, b, Block::Connections, kept);
     let d = put_block(out, c, Block::Regions, regions);
-    put_block(out, d, Block::Sources, sources)
+    let e = put_block(out, d, Block::Sources, sources);
+    put_rows(out, e, asked, inputs)
 }
 
-// Prints a report given its rows, where it fits.
+// Prints a report given its rows, where it fits: it is measured by a buffer with no room.
 fn print_rows(
     asked: &Asked,
     components: &[u64],
@@ -87,24 +71,20 @@ fn print_rows(
     inputs: &[u64],
     out: &mut [u8],
 ) -> Result<usize, Refusal>
-    requires { let a = asked.now in (ps fs : List ℤ) × Ready a.components.now ps fs a.fed.now a.labels.now a.upstream.now }
     ensures { let a = asked.now in
         (ps fs : List ℤ) → Ready a.components.now ps fs a.fed.now a.labels.now a.upstream.now →
         let text = whole_text a.components.now ps fs components.now kept.now regions.now sources.now inputs.now in
         PrintedBy (fits text (length out.old)) text out.old out.new result }
 {
-    let blocks = left_after_blocks(Some(out.len()), components, kept, regions, sources);
-    match left_after_rows(blocks, asked, inputs) {
-        None => Err(Refusal {
+    let length = put_whole(&mut [], asked, components, kept, regions, sources, inputs);
+    if out.len() < length {
+        return Err(Refusal {
             fault: Fault::ShortSlice,
             list: None,
             item: 0,
-        }),
-        Some(_) => {
-            let at = put_blocks(out, components, kept, regions, sources);
-            Ok(put_rows(out, at, asked, inputs))
-        }
+        });
     }
+    Ok(put_whole(out, asked, components, kept, regions, sources, inputs))
 }
 
 // ---- the rows of a scene

@@ -3,7 +3,7 @@
 use mathlib.Core.Path.{sym}
 use native.Mathlib.Omega.{arith}
 use lib.Seq.{length-take-le}
-use Rattle.lines.proofs.Writing.{put_length}
+use Rattle.blocks.proofs.Printing.{printed_inside}
 use Rattle.plotreport.proofs.Spoken.{printed_within, refusal_room}
 use Rattle.plotreport.proofs.main.Goals as goal
 
@@ -16,8 +16,8 @@ slice_bounds-write_all-end c =
     let within = printed_within c.report_sheet-printed.ensures c.in-Ok.is in
     sym (length-take-le _ _ (omega (arith, within, c.report_sheet-printed.auto.out)))
 
-pub put_refusal-count-requires : goal.put_refusal-count-requires
-put_refusal-count-requires c = refusal_room _
+pub slice_bounds-lines-end : goal.slice_bounds-lines-end
+slice_bounds-lines-end c = printed_inside c.put_refusal-count.ensures (refusal_room _)
 
 pub slice_bounds-write_all-end-in-Err : goal.slice_bounds-write_all-end-in-Err
-slice_bounds-write_all-end-in-Err c = sym (length-take-le _ _ (omega (arith, c.put_refusal-count.ensures.count, c.put_refusal-count.ensures.room, put_length c.put_refusal-count.ensures)))
+slice_bounds-write_all-end-in-Err c = sym (length-take-le _ _ (printed_inside c.put_refusal-count.ensures (refusal_room _)))

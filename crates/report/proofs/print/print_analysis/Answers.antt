@@ -83,9 +83,6 @@ regions_are : (cyclic drive : List ℕ) (n : ℕ) (old : List ℕ) {rows : List 
     → take (2 * n) rows ≡ all_rows (region_row_by cyclic drive) n
 regions_are cyclic drive n old e = front_is (all_rows (region_row_by cyclic drive) n) old e (2 * n) (sym (region_pairs cyclic drive n))
 
-pub print_rows-requires : goal.print_rows-requires
-print_rows-requires c = let known = c.requires.analyzed in (c.args.ports.now, known.0, known.1.0)
-
 pub returns : goal.returns
 returns c ps fs groups ready found =
     let called = c.print_rows in
