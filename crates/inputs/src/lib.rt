@@ -37,14 +37,7 @@ pub fn required_input(
     let mut ends = [Ends { source: 0, sink: 0 }; CONNECTIONS];
     let count = components.len() / COMPONENT;
     let enough = room_for(count, 2, stack.len());
-    liveness_lists(
-        components,
-        ports,
-        frontiers,
-        enough,
-        &mut keys,
-        &mut ends,
-    )?;
+    liveness_lists(components, ports, frontiers, enough, &mut keys, &mut ends)?;
     let plot = Plot {
         keys: &keys[..count],
         components,

@@ -169,7 +169,7 @@ pub(crate) fn find_inputs(
     requires { InputsRoom plot.now.components.now plot.now.ports.now forward.old backward.old labels.old inferred.old stack.old }
     ensures { let p = plot.now in
         Inputs p.components.now p.ports.now p.frontiers.now (sources_of p.ends.now) (sinks_of p.ends.now)
-            forward.new backward.new labels.new inferred.new stack.new }
+        forward.new backward.new labels.new inferred.new stack.new }
 {
     let mut work = Workspace::new();
     let count = plot.prepare(forward, backward, labels, &mut work, stack);

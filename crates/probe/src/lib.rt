@@ -30,14 +30,7 @@ fn pack_liveness(components: &[i64], ports: &[i64], frontiers: &[i64], enough: b
 {
     let mut keys = [0u64; COMPONENTS];
     let mut ends = [Ends { source: 0, sink: 0 }; CONNECTIONS];
-    pack(liveness_lists(
-        components,
-        ports,
-        frontiers,
-        enough,
-        &mut keys,
-        &mut ends,
-    ))
+    pack(liveness_lists(components, ports, frontiers, enough, &mut keys, &mut ends))
 }
 
 #[unsafe(no_mangle)]

@@ -16,7 +16,7 @@ use blocks::{Block, put_block};
 use checks::refusals::grouping_lists;
 use circuit::settle::group;
 use inputs::asked::{Asked, make_ready};
-use lists::ends::settle_ends;
+use lists::ends::{Ends, settle_ends};
 use lists::{COMPONENT, COMPONENTS, CONNECTIONS, Fault, PORT, Refusal};
 use liveness::Analysis;
 use liveness::plot::Plot;
@@ -195,20 +195,18 @@ fn print_kept(
         PrintedBy (fits (report_of scene.now ps frontiers.now) (length out.old)) (report_of scene.now ps frontiers.now)
         out.old out.new result }
 {
-    let mut source_at = [0usize; CONNECTIONS];
-    let mut sink_at = [0usize; CONNECTIONS];
+    let mut ends = [Ends { source: 0, sink: 0 }; CONNECTIONS];
     let mut regions = [0u64; COMPONENTS];
     let mut sources = [0u64; SOURCE_ROWS];
     let mut inputs = [0u64; INPUT_ROWS];
     let mut stack = [0usize; STACK];
-    settle_ends(keys, ports, &mut source_at, &mut sink_at);
+    settle_ends(keys, ports, &mut ends);
     let plot = Plot {
         keys,
         components: scene,
         ports,
         frontiers,
-        source_at: &source_at,
-        sink_at: &sink_at,
+        ends: &ends,
     };
     let found = analyze(&plot, &mut regions, &mut sources, &mut inputs, &mut stack);
     print_ready(

@@ -26,7 +26,7 @@ settle_ends-requires c =
     let connections = (scene_of c.requires.1.0 c.requires.1.1).connections in
     record {
       port_connections = connections;
-      ports_in_bounds = (connections.few, connections.few);
+      ports_in_bounds = connections.few;
     }
 
 pub invariant_of-plot : goal.invariant_of-plot
