@@ -27,7 +27,8 @@ const SLOTS: usize = PLACES * COMPONENTS;
 
 // ---- flags
 
-// The slots whose port is fed, those fed by a driven member, and those fed by one that may be. Three arrays, as `SlotFlags` has three lists.
+// The slots whose port is fed, those fed by a driven member, and those fed by one that may be. Three arrays, as `SlotFlags` has three
+// lists.
 #[derive(Drop)]
 struct Slots {
     fed: [bool; SLOTS],
@@ -189,7 +190,8 @@ pub fn write_verdicts(
     requires components { Components components.now × (PortConnections ports.now × (first_end_missing components.now ports.now ≡ None)) }
     requires settled { Settled components.now ports.now 0 (sources_of ends.now) × Settled components.now ports.now 2 (sinks_of ends.now) }
     requires ports_in_bounds { port_count ports.now ≤ length ends.now }
-    requires numbers { Numbers (component_count components.now) (member_of components.now) members.now × (12 * component_count components.now ≤ length out.old) }
+    requires numbers { Numbers (component_count components.now) (member_of components.now) members.now
+        × (12 * component_count components.now ≤ length out.old) }
     ensures { (fs : List ℤ) → LiveMarks components.now ports.now fs drive.now potential.now →
         Scanned (input_rows components.now ports.now fs) 3 out.old out.new result }
 {

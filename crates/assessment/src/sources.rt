@@ -129,8 +129,10 @@ fn is_drive(components: &[i64], p: usize, on_frontier: bool) -> bool
 // Flags the drive sources, given those on frontiers.
 pub fn drive_flags(components: &[i64], on_frontier: &[bool], flags: &mut [bool])
     requires components { Components components.now }
-    requires components_in_bounds { (component_count components.now ≤ length on_frontier.now) × (component_count components.now ≤ length flags.old) }
-    ensures { Flags (component_count components.now) (λ p. is_found (source_kind (component components.now p).kind) || marked on_frontier.now p) flags.new }
+    requires components_in_bounds { (component_count components.now ≤ length on_frontier.now)
+        × (component_count components.now ≤ length flags.old) }
+    ensures { Flags (component_count components.now)
+        (λ p. is_found (source_kind (component components.now p).kind) || marked on_frontier.now p) flags.new }
 {
     for p in 0..components.len() / COMPONENT {
         flags[p] = is_drive(components, p, on_frontier[p]);

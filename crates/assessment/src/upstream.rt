@@ -34,7 +34,8 @@ fn put_member(rows: &mut [u64; TABLE], region: usize, member: usize)
 
 // Puts each flagged member into the row of its region; the rows are empty before.
 fn seed_rows(labels: &[usize], flags: &[bool], rows: &mut [u64; TABLE])
-    requires indices { Indices (length labels.now) component_limit labels.now × ((length labels.now ≤ member_limit) × (length labels.now ≤ length flags.now)) }
+    requires indices { Indices (length labels.now) component_limit labels.now
+        × ((length labels.now ≤ member_limit) × (length labels.now ≤ length flags.now)) }
     requires rows_empty { Zeros rows.old }
     ensures { Seeded (length labels.now) labels.now flags.now rows.new }
 {
@@ -57,7 +58,8 @@ fn carry_rows(keys: &[u64], rows: &mut [u64; TABLE])
 
 // Fills the rows, which are empty before, with the flagged members upstream of each region.
 pub fn upstream_rows(keys: &[u64], labels: &[usize], flags: &[bool], rows: &mut [u64; TABLE])
-    requires indices { Indices (length labels.now) component_limit labels.now × ((length labels.now ≤ member_limit) × (length labels.now ≤ length flags.now)) }
+    requires indices { Indices (length labels.now) component_limit labels.now
+        × ((length labels.now ≤ member_limit) × (length labels.now ≤ length flags.now)) }
     requires keys_below { KeysBelow component_limit keys.now × Zeros rows.old }
     ensures { UpstreamRows keys.now labels.now flags.now rows.new }
 {

@@ -7,7 +7,8 @@ ghost use Rattle.lists.specs.Within.{Components};
 ghost use Rattle.std.specs.Option.{option_map};
 ghost use Rattle.signals.specs.Sources.{source_kind};
 ghost use Rattle.assessment.specs.Verdicts.{kind_row};
-ghost use Rattle.assessment.specs.Rows.{Put, first_required, required_count, slot_fed, Scanned, source_number, sources_of, sources_below, InferredAlone};
+ghost use Rattle.assessment.specs.Rows.{Put, first_required, required_count, slot_fed, Scanned};
+ghost use Rattle.assessment.specs.Rows.{source_number, sources_of, sources_below, InferredAlone};
 
 use super::sources::{SourceKind, source_kind};
 use lists::COMPONENT;
@@ -80,8 +81,10 @@ pub fn put_sources(
     out: &mut [u64],
 ) -> usize
     requires components { Components components.now }
-    requires components_in_bounds { (component_count components.now ≤ length on_frontier.now) × (component_count components.now ≤ length inferred.now) }
-    requires inferred_alone { InferredAlone components.now on_frontier.now inferred.now × (4 * component_count components.now ≤ length out.old) }
+    requires components_in_bounds { (component_count components.now ≤ length on_frontier.now)
+        × (component_count components.now ≤ length inferred.now) }
+    requires inferred_alone { InferredAlone components.now on_frontier.now inferred.now
+        × (4 * component_count components.now ≤ length out.old) }
     ensures { Scanned (sources_below components.now on_frontier.now inferred.now (component_count components.now))
         2 out.old out.new result }
 {

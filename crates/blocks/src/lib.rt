@@ -1,5 +1,5 @@
-// The text of a report, measured and written block by block: lines, lines of ids, verdict rows, refusals, and here the blocks of rows, all of
-// one form: the count, and a line for each number. Nothing is known of scenes.
+// The text of a report, measured and written block by block: lines, lines of ids, verdict rows, refusals, and here the blocks of rows,
+// all of one form: the count, and a line for each number. Nothing is known of scenes.
 #![tactic(auto)]
 
 pub mod answer;

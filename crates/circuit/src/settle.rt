@@ -94,7 +94,8 @@ fn groups(connections: &[i64], settled: &[Option<Ends>], top: u64, numbers: &mut
 pub fn group(keys: &[u64], connections: &[i64], nets: &mut [u64], fragments: &mut [u64]) -> Counts
     requires connections { Connections connections.now }
     requires id_table { IsIdTable keys.now }
-    requires keys_len_bound { (length keys.now ≤ component_limit) × ((length keys.now ≤ length nets.old) × (length keys.now ≤ length fragments.old)) }
+    requires keys_len_bound { (length keys.now ≤ component_limit)
+        × ((length keys.now ≤ length nets.old) × (length keys.now ≤ length fragments.old)) }
     ensures { (cs : List ℤ) → IdTable cs keys.now → GroupedBy cs connections.now nets.old nets.new fragments.old fragments.new result }
 {
     let n = keys.len();

@@ -47,7 +47,8 @@ fn by_rows(
 // The groups of a scene as bytes. There are no more rows than a scene has components, so longer slices give no further places.
 fn of_numbers(components: &[i64], connections: &[i64], nets: &mut [u8], fragments: &mut [u8]) -> u64
     requires { component_count components.now ≤ component_limit }
-    ensures { GroupsLaid (grouping_refusal components.now connections.now (length nets.old / number_bytes) (length fragments.old / number_bytes))
+    ensures { GroupsLaid (grouping_refusal components.now connections.now (length nets.old / number_bytes)
+        (length fragments.old / number_bytes))
         components.now connections.now nets.old nets.new fragments.old fragments.new result }
 {
     let mut net_rows = [0u64; COMPONENTS];

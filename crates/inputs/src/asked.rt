@@ -1,4 +1,5 @@
-// The sets of many ports of one accepted scene, which is prepared once: for each region, the inferred inputs upstream of it stand in a table.
+// The sets of many ports of one accepted scene, which is prepared once: for each region, the inferred inputs upstream of it stand in a
+// table.
 ghost use Rattle.std.proofs.Props.{props};
 ghost use Rattle.std.specs.Prelude.{◌≡◌, List, ℕ, ◌*◌, ◌^◌, ◌≤◌, ◌<◌, length, ℤ};
 ghost use Rattle.tables.specs.Order.{Ascending};

@@ -51,8 +51,8 @@ fn immediate_flags(keys: &[u64], slot: usize, flags: &mut [bool])
     }
 }
 
-// Keeps the flags of inferred inputs alone. A function of its own: in one that has more lent slices the check says of the closure's call "a bug in
-// rattle keeps any answer from counting".
+// Keeps the flags of inferred inputs alone. A function of its own: in one that has more lent slices the check says of the closure's call
+// "a bug in rattle keeps any answer from counting".
 fn keep_inputs(flags: &mut [bool], inferred: &[bool])
     requires { length flags.old ≤ length inferred.now }
     ensures { Flags (length flags.old) (λ m. marked flags.old m && marked inferred.now m) flags.new }
@@ -68,7 +68,8 @@ fn upstream_inputs(
     stack: &mut [usize],
 ) -> ComponentSet
     requires { UpstreamRoom backward.now immediate.now inferred.now stack.old }
-    ensures { UpstreamSet (length inferred.now) (edges (length inferred.now) backward.now) immediate.now inferred.now stack.new result.words }
+    ensures { let n = length inferred.now in
+        UpstreamSet n (edges n backward.now) immediate.now inferred.now stack.new result.words }
 {
     let n = inferred.len();
     let mut upstream = [false; COMPONENTS];
@@ -106,7 +107,8 @@ pub(crate) fn row_sources(
     inferred: &[bool],
     stack: &mut [usize],
 ) -> InputSources
-    requires by_index { (cs ps fs : List ℤ) × (p port : ℕ) × (Walkable cs ps fs fed.now backward.now inferred.now × SlotOf cs ps p port fed.now slot) }
+    requires by_index { (cs ps fs : List ℤ) × (p port : ℕ)
+        × (Walkable cs ps fs fed.now backward.now inferred.now × SlotOf cs ps p port fed.now slot) }
     requires inferred_in_bounds { (2 * length inferred.now ≤ length stack.old) × Zeros stack.old }
     ensures { (cs ps fs : List ℤ) (p port : ℕ) → Walkable cs ps fs fed.now backward.now inferred.now → SlotOf cs ps p port fed.now slot →
         PortSets cs ps fs (Some p) port result × Zeros stack.new }
@@ -128,7 +130,8 @@ pub(crate) fn row_sources(
 // Flags the inferred inputs of a prepared plot, by member.
 pub(crate) fn inferred_members(plot: &PreparedPlot, inferred: &mut [bool])
     requires { length inferred.old ≡ component_count plot.now.plot.components.now }
-    ensures { let p = plot.now.plot in inferred.new ≡ members_where p.components.now (is_inferred p.components.now p.ports.now p.frontiers.now) }
+    ensures { let p = plot.now.plot in
+        inferred.new ≡ members_where p.components.now (is_inferred p.components.now p.ports.now p.frontiers.now) }
 {
     let lists = plot.plot;
     let mut on_frontier = [false; COMPONENTS];
@@ -188,7 +191,8 @@ fn walk_tables(
 )
     requires fed_len { (length fed.old ≡ port_count plot.now.ports.now) × (length backward.old ≡ port_count plot.now.ports.now) }
     requires inferred_len { let n = component_count plot.now.components.now in (length inferred.old ≡ n) × (2 * n ≤ length stack.old) }
-    ensures { let p = plot.now in Walkable p.components.now p.ports.now p.frontiers.now fed.new backward.new inferred.new × Zeros stack.new }
+    ensures { let p = plot.now in Walkable p.components.now p.ports.now p.frontiers.now fed.new backward.new inferred.new
+        × Zeros stack.new }
 {
     let n = plot.keys.len();
     let mut labels = [0usize; COMPONENTS];
@@ -228,7 +232,8 @@ pub(crate) fn query_plot(
 ) -> Result<InputSources, Refusal>
     requires { 2 * component_count plot.now.components.now ≤ length stack.old }
     ensures { let p = plot.now in let place = row_place p.components.now id port in
-        InputsBy (refuse Fault.NoVerdictRow None (too_short (is_found place))) p.components.now p.ports.now p.frontiers.now place port stack.old stack.new result }
+        InputsBy (refuse Fault.NoVerdictRow None (too_short (is_found place)))
+        p.components.now p.ports.now p.frontiers.now place port stack.old stack.new result }
 {
     match row_place(plot.keys, plot.components, id, port) {
         Some(p) => Ok(input_sources(plot, p, port as usize, stack)),

@@ -2,7 +2,8 @@
 ghost use Rattle.std.specs.Prelude.{◌≡◌, true, ◌+◌, ◌*◌, ◌≤◌, ◌<◌, length, take, ℤ, List};
 ghost use Rattle.tables.specs.Pairs.{pair};
 ghost use Rattle.lists.specs.Records.{component, component_count};
-ghost use Rattle.lists.specs.Ids.{place_of, has_component, used_earlier, first_repeated, IdTable, Unrepeated, smaller_ids, MemberPlace, MemberId};
+ghost use Rattle.lists.specs.Ids.{place_of, has_component, used_earlier, first_repeated, IdTable};
+ghost use Rattle.lists.specs.Ids.{Unrepeated, smaller_ids, MemberPlace, MemberId};
 ghost use Rattle.lists.specs.Within.{Components};
 
 use super::COMPONENT;

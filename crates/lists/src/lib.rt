@@ -1,6 +1,6 @@
 // The lists of a scene: what they may hold, where an id stands, the ends of port connections. Their refusals are crate checks.
-// `Components`, `PortConnections` and `id < 2 ^ 32` stand at each function that is lent such a list or id: they come as plain slices and numbers from
-// entries that owe nothing, and a struct around one slice says no less.
+// `Components`, `PortConnections` and `id < 2 ^ 32` stand at each function that is lent such a list or id: they come as plain slices and
+// numbers from entries that owe nothing, and a struct around one slice says no less.
 #![tactic(auto)]
 
 pub mod ends;

@@ -4,7 +4,8 @@ ghost use Rattle.std.specs.Int.Signed.{lt_z, non_neg};
 ghost use Rattle.lists.specs.Signed.{at};
 ghost use Rattle.lists.specs.Records.{natural_at};
 
-// Whether a[i] < b[j]. A function of its own: its contract has the definition's test of the two places, which the laws of the order speak of.
+// Whether a[i] < b[j]. A function of its own: its contract has the definition's test of the two places, which the laws of the order speak
+// of.
 pub fn number_less(a: &[i64], i: usize, b: &[i64], j: usize) -> bool
     requires { (i < length a.now) × (j < length b.now) }
     ensures { result ≡ lt_z (at a.now i) (at b.now j) }

@@ -23,7 +23,8 @@ fn possible_regions(
 )
     requires indices { Indices n component_limit region_at.now × (n ≤ length inferred.now) }
     requires regions_len { (length has_drive.now ≡ component_limit) × (length possible.old ≡ component_limit) }
-    ensures { Flags component_limit (λ r. marked has_drive.now r || some (λ p. marked inferred.now p && eqb (get_or region_at.now p 0) r) n) possible.new }
+    ensures { Flags component_limit
+        (λ r. marked has_drive.now r || some (λ p. marked inferred.now p && eqb (get_or region_at.now p 0) r) n) possible.new }
 {
     gather(&region_at[..n], inferred, possible);
     combine_flags(possible, has_drive, |waits, drives| drives | waits);

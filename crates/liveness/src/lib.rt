@@ -39,7 +39,8 @@ pub fn analyze_signal_liveness(
     inputs: &mut [u64],
     stack: &mut [usize],
 ) -> Result<Analysis, Refusal>
-    ensures { Analyzed components.now ports.now frontiers.now regions.old regions.new sources.old sources.new inputs.old inputs.new stack.old stack.new result }
+    ensures { Analyzed components.now ports.now frontiers.now
+        regions.old regions.new sources.old sources.new inputs.old inputs.new stack.old stack.new result }
 {
     let mut keys = [0u64; COMPONENTS];
     let mut ends = [Ends { source: 0, sink: 0 }; CONNECTIONS];

@@ -107,7 +107,8 @@ impl<'a> Plot<'a> {
         requires { let p = self in (stack : List ℕ) × Prepares p.components.now p.ports.now (sources_of p.ends.now) (sinks_of p.ends.now)
             forward.now backward.now labels.now work.now.members work.now.region_at stack count }
         ensures plot { result.plot ≡ self.entry }
-        ensures lent { (result.forward.keys.now ≡ forward.now) × (result.backward.keys.now ≡ backward.now) × (result.labels.now ≡ labels.now) }
+        ensures lent { (result.forward.keys.now ≡ forward.now) × (result.backward.keys.now ≡ backward.now)
+            × (result.labels.now ≡ labels.now) }
     {
         PreparedPlot {
             plot: self,

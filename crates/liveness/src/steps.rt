@@ -42,8 +42,10 @@ pub fn flag_drive(
     drive_at: &mut [bool],
     has_drive: &mut [bool],
 )
-    requires scene { (ps : List ℤ) × (Scene components.now ps × Numbers (component_count components.now) (region_of_place components.now ps) region_at.now) }
-    requires components_in_bounds { (component_count components.now ≤ length on_frontier.old) × ((component_count components.now ≤ length drive_at.old) × (length has_drive.old ≡ component_limit)) }
+    requires scene { (ps : List ℤ) × (Scene components.now ps
+        × Numbers (component_count components.now) (region_of_place components.now ps) region_at.now) }
+    requires components_in_bounds { (component_count components.now ≤ length on_frontier.old)
+        × ((component_count components.now ≤ length drive_at.old) × (length has_drive.old ≡ component_limit)) }
     ensures { (ps : List ℤ) → Numbers (component_count components.now) (region_of_place components.now ps) region_at.now →
         Driven components.now ps frontiers.now on_frontier.new drive_at.new has_drive.new }
 {

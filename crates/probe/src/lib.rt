@@ -8,7 +8,8 @@ mod sheets;
 
 ghost use Rattle.std.specs.Prelude.{◌≡◌, ℕ, Some, true, [], take};
 ghost use Rattle.lists.specs.Ids.{IdTable};
-ghost use Rattle.checks.specs.Refusals.{grouping_lists, liveness_lists, grouping_refusal, ports_refusal, liveness_refusal, query_refusal, sheet_refusal, packed};
+ghost use Rattle.checks.specs.Refusals.{grouping_lists, liveness_lists, grouping_refusal, ports_refusal, liveness_refusal};
+ghost use Rattle.checks.specs.Refusals.{query_refusal, sheet_refusal, packed};
 ghost use Rattle.probe.specs.Places.{IsPlace, answer_of, count_among, place_among, MemberAnswer};
 
 use checks::refusals::{grouping_lists, liveness_lists, pack, room_for};

@@ -51,7 +51,8 @@ fn source_words(
     ensures inferred { k < word_count → WordOf components.now ports.now frontiers.now id port (length stack.old)
         (λ p a. is_inferred_for components.now ports.now frontiers.now p port a) k result.inferred }
     ensures past { word_count ≤ k → (result.immediate ≡ 0) × (result.inferred ≡ 0) }
-    ensures stack_after { (k < word_count → stack.new ≡ work_of (input_refusal components.now ports.now frontiers.now id port (length stack.old)) stack.old)
+    ensures stack_after { (k < word_count → stack.new ≡ work_of
+        (input_refusal components.now ports.now frontiers.now id port (length stack.old)) stack.old)
         × (word_count ≤ k → stack.new ≡ stack.old) }
 {
     if WORDS <= k {
@@ -89,7 +90,8 @@ pub extern "C" fn probe_immediate_word(
     ensures word_of { k < word_count → WordOf components.now ports.now frontiers.now id port (length stack.old)
         (λ p a. is_immediate components.now ports.now p port a) k result }
     ensures value { word_count ≤ k → result ≡ 0 }
-    ensures stack_after { (k < word_count → stack.new ≡ work_of (input_refusal components.now ports.now frontiers.now id port (length stack.old)) stack.old)
+    ensures stack_after { (k < word_count → stack.new ≡ work_of
+        (input_refusal components.now ports.now frontiers.now id port (length stack.old)) stack.old)
         × (word_count ≤ k → stack.new ≡ stack.old) }
 {
     source_words(components, ports, frontiers, id, port, k, stack).immediate
@@ -109,7 +111,8 @@ pub extern "C" fn probe_inferred_word(
     ensures word_of { k < word_count → WordOf components.now ports.now frontiers.now id port (length stack.old)
         (λ p a. is_inferred_for components.now ports.now frontiers.now p port a) k result }
     ensures value { word_count ≤ k → result ≡ 0 }
-    ensures stack_after { (k < word_count → stack.new ≡ work_of (input_refusal components.now ports.now frontiers.now id port (length stack.old)) stack.old)
+    ensures stack_after { (k < word_count → stack.new ≡ work_of
+        (input_refusal components.now ports.now frontiers.now id port (length stack.old)) stack.old)
         × (word_count ≤ k → stack.new ≡ stack.old) }
 {
     source_words(components, ports, frontiers, id, port, k, stack).inferred

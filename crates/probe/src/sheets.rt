@@ -53,7 +53,8 @@ pub extern "C" fn probe_report(
     frontiers: &mut [i64],
     out: &mut [u8],
 ) -> u64
-    ensures { ReportedAs (parse component_limit connection_limit frontier_limit text.now) components.old components.new connections.old connections.new frontiers.old frontiers.new out.old out.new result }
+    ensures { ReportedAs (parse component_limit connection_limit frontier_limit text.now)
+        components.old components.new connections.old connections.new frontiers.old frontiers.new out.old out.new result }
 {
     let limits = Counts {
         components: component_limit,

@@ -75,8 +75,9 @@ impl Graph<'_> {
         stack[at + 1] = self.first_key(node);
     }
 
-    // Visits the nodes that `start` reaches over nodes that are not visited, and adds them to the order as they finish.
-    // Answers the new length of the order, which is filled from the front. The stack holds, for each open call, its node and the place of the key to look at next.
+    // Visits the nodes that `start` reaches over nodes that are not visited, and adds them to the order as they finish. Answers the new
+    // length of the order, which is filled from the front. The stack holds, for each open call, its node and the place of the key to look
+    // at next.
     fn visit_from(
         self,
         start: usize,
@@ -132,8 +133,8 @@ impl Graph<'_> {
         }
     }
 
-    // The region of `node`, if it has none yet: the nodes without a region that reach it get the number `count`, which is that of the regions
-    // so far and no length. Answers the new number of regions.
+    // The region of `node`, if it has none yet: the nodes without a region that reach it get the number `count`, which is that of the
+    // regions so far and no length. Answers the new number of regions.
     fn label_from(
         self,
         node: usize,
@@ -201,7 +202,8 @@ pub fn regions(
     members: &mut [usize],
     stack: &mut [usize],
 ) -> usize
-    requires { let n = length labels.old in Reversed n forward.keys.now backward.keys.now × Ascending backward.keys.now × (n ≤ length members.old)
+    requires { let n = length labels.old in Reversed n forward.keys.now backward.keys.now × Ascending backward.keys.now
+        × (n ≤ length members.old)
         × Room n forward.keys.now visited.old order.old stack.old }
     ensures { let n = length labels.old in Regions n (edges n forward.entry.keys.now) labels.new result stack.new }
 {

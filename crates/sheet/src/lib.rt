@@ -46,7 +46,8 @@ pub fn read_sheet(
     connections: &mut [i64],
     frontiers: &mut [i64],
 ) -> Result<Counts, Refusal>
-    ensures { SheetRead (parse limits.components limits.connections limits.frontiers text.now) components.old components.new connections.old connections.new frontiers.old frontiers.new result }
+    ensures { SheetRead (parse limits.components limits.connections limits.frontiers text.now)
+        components.old components.new connections.old connections.new frontiers.old frontiers.new result }
 {
     let places = check_sheet(text, limits)?;
     let c = places.components;

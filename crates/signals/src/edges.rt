@@ -37,8 +37,8 @@ pub fn settle_slots(ports: &[i64], ends: &[Ends], fed: &mut [Ends])
     }
 }
 
-// The key of port connection k: the pair of two numbers, or of `nowhere` and COMPONENTS where it is a support. Where `nowhere` is COMPONENTS
-// too, the key of a support turned round is itself.
+// The key of port connection k: the pair of two numbers, or of `nowhere` and COMPONENTS where it is a support. Where `nowhere` is
+// COMPONENTS too, the key of a support turned round is itself.
 fn signal_key(ports: &[i64], k: usize, first: usize, second: usize, nowhere: usize) -> u64
     requires port_connections { PortConnections ports.now × (k < port_count ports.now) }
     requires first_bound { (first < 2 ^ 32) × ((second < span) × (nowhere < 2 ^ 32)) }
@@ -53,7 +53,8 @@ fn signal_key(ports: &[i64], k: usize, first: usize, second: usize, nowhere: usi
 // Lists the keys of the port connections: pairs of their ends.
 pub(crate) fn list_keys(ports: &[i64], ends: &[Ends], nowhere: usize, keys: &mut [u64])
     requires port_connections { PortConnections ports.now }
-    requires sortable { Sortable (port_count ports.now) (sources_of ends.now) (sinks_of ends.now) nowhere × (length keys.old ≡ port_count ports.now) }
+    requires sortable { Sortable (port_count ports.now) (sources_of ends.now) (sinks_of ends.now) nowhere
+        × (length keys.old ≡ port_count ports.now) }
     ensures { keys.new ≡ signal_keys ports.now (sources_of ends.now) (sinks_of ends.now) nowhere }
 {
     for (k, key) in keys.iter_mut().enumerate() {

@@ -66,7 +66,8 @@ pub fn find_regions(
     labels: &mut [usize],
     stack: &mut [usize],
 ) -> usize
-    requires ascending { Ascending forward.keys.now × (Ascending backward.keys.now × Reversed (length labels.old) forward.keys.now backward.keys.now) }
+    requires ascending { Ascending forward.keys.now × (Ascending backward.keys.now
+        × Reversed (length labels.old) forward.keys.now backward.keys.now) }
     requires labels_len_bound { (length labels.old ≤ component_limit) × ((2 * length labels.old ≤ length stack.old) × Zeros stack.old) }
     ensures { Regions (length labels.old) (edges (length labels.old) forward.entry.keys.now) labels.new result stack.new }
 {
