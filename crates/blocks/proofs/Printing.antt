@@ -1,52 +1,46 @@
 -- Writers at a position, whatever room there is.
+--     sum_fits, sum_past            whether there is room
+--     printed_put, printed_inside     where there was
 --     printed_then, printed_none      what two wrote, one behind the other; nothing
---     printed_put, printed_inside     where there is room
---     measured_fits, measured_short   whether there is
+--     printed_fits, printed_past      a line that is written, and one that is only counted
+--     natural_line, natural_end       the line of a number with no sign, and where it ends
+--     Going, goes_on, goes_done       a text written a piece at a time
 -- Assumes nothing.
 use mathlib.Core.Path.{◌≡◌, refl, sym, ap, ◌∙◌}
 use mathlib.Core.Logic.{⊎_elim}
 use mathlib.Core.List.{List, [], ◌∷◌, ◌++◌, append_assoc, append-nil}
-use Prim.Native.Nat.{ℕ, ◌+◌, ◌≤◌, ◌<◌}
+use Prim.Native.Nat.{ℕ, ◌+◌, ◌^◌, ◌≤◌, ◌<◌}
 use native.Mathlib.Omega.{arith}
 use Rattle.std.specs.Prelude.{min}
-use Rattle.std.proofs.Math.Nat.{min-eq_left, min-eq_right}
+use Rattle.std.proofs.Math.Nat.{min-eq_left, min-eq_right, min-le_left}
 use lib.ListN.{length, length-append, take-append-drop}
 use Rattle.tables.specs.Laws.{order?}
 use lib.IntN.{pos}
 use Rattle.lines.specs.Decimal.{digits, line_of}
 use Rattle.lines.specs.Wrote.{Put}
-use Rattle.lines.proofs.Writing.{put_put, line_parts}
+use Rattle.lines.proofs.Digits.{digits_append, count_most, length_of_digits}
+use Rattle.lines.proofs.Writing.{put_length, put_put, line_size}
 use Rattle.blocks.specs.Printed.{greatest, Printed}
 
--- ---- whether there was room
+-- ---- whether there is room
+
+-- a sum that stays at the greatest position is within a buffer, or it is not
+pub sum_fits : {sum n room : ℕ} → n ≡ min sum greatest → room < greatest → n ≤ room → sum ≤ room
+sum_fits {sum} {n} {room} e h l =
+    ⊎_elim
+    (λ (f : sum ≤ greatest). omega (arith, e, l, min-eq_left f))
+    (λ (f : greatest < sum). let last : min sum greatest ≡ greatest = min-eq_right (omega (arith, f)) in absurd (omega (arith, e, h, l, last)))
+    (order? sum greatest)
+
+pub sum_past : {sum n room : ℕ} → n ≡ min sum greatest → room < n → room < sum
+sum_past {sum} e h = omega (arith, e, h, min-le_left sum greatest)
 
 module _ {at : ℕ} {s a b : List ℕ} {n : ℕ} (p : Printed at s a b n) where
-  printed_end : at + length s ≤ greatest → n ≡ at + length s
-  printed_end h = p.count ∙ min-eq_left h
-
-  printed_last : greatest ≤ at + length s → n ≡ greatest
-  printed_last h = p.count ∙ min-eq_right h
-
   pub printed_put : at + length s ≤ length a → Put at s a b n
-  printed_put h = record { room = h; bytes = p.bytes h; count = printed_end (omega (arith, h, p.short)) }
+  printed_put h = record { room = h; bytes = p.bytes h; count = p.count ∙ min-eq_left (omega (arith, h, p.short)) }
 
   pub printed_inside : at + length s ≤ length a → n ≤ length b
   printed_inside h = omega (arith, (printed_put h).count, h, p.long)
-
-  -- measured anywhere, it fits a buffer of so many bytes, or it does not
-  pub measured_fits : (room : ℕ) → room < greatest → n ≤ room → at + length s ≤ room
-  measured_fits room h l =
-      ⊎_elim
-      (λ (e : at + length s ≤ greatest). omega (arith, l, printed_end e))
-      (λ (e : greatest < at + length s). absurd (omega (arith, h, l, printed_last (omega (arith, e)))))
-      (order? (at + length s) greatest)
-
-  pub measured_short : (room : ℕ) → room < n → room < at + length s
-  measured_short room h =
-      ⊎_elim
-      (λ (e : at + length s ≤ greatest). omega (arith, h, printed_end e))
-      (λ (e : greatest < at + length s). omega (arith, h, e, printed_last (omega (arith, e))))
-      (order? (at + length s) greatest)
 
 -- ---- one behind the other
 
@@ -58,9 +52,10 @@ printed_then {at} {s} {a} {b} {t} {c} {n} {m} p q =
       long = q.long ∙ p.long;
       count =
           ⊎_elim
-          (λ (l : at + length s ≤ greatest). q.count ∙ ap (λ (k : ℕ). min k greatest) (omega (arith, printed_end p l, both)))
+          (λ (l : at + length s ≤ greatest). q.count ∙ ap (λ (k : ℕ). min k greatest) (omega (arith, p.count, min-eq_left l, both)))
           (λ (l : greatest < at + length s).
-          printed_last q (omega (arith, printed_last p (omega (arith, l)))) ∙ sym (min-eq_right (omega (arith, l, both))))
+          let last : min (at + length s) greatest ≡ greatest = min-eq_right (omega (arith, l)) in
+          q.count ∙ min-eq_right (omega (arith, p.count, last)) ∙ sym (min-eq_right (omega (arith, l, both))))
           (order? (at + length s) greatest);
       bytes = λ h.
           let first = printed_put p (omega (arith, h, both)) in
@@ -74,9 +69,27 @@ printed_none at a h l =
 
 -- ---- a line
 
--- a key and its sign, digits and the line feed
-pub natural_line : (key : List ℕ) (value : ℕ) → (key ++ (61 ∷ [])) ++ (digits value [] ++ (10 ∷ [])) ≡ line_of key (pos value)
-natural_line key value = sym (append_assoc (key ++ (61 ∷ [])) (digits value []) (10 ∷ [])) ∙ line_parts key (pos value)
+-- a line that is written, and one that is only counted
+pub printed_fits : {at n m : ℕ} {s a b : List ℕ} → length a < greatest → n ≡ min (at + length s) greatest → Put at s a b m → Printed at s a b n
+printed_fits h e p = record { short = h; long = put_length p; count = e; bytes = λ _. p.bytes }
+
+pub printed_past : {at n : ℕ} {s a : List ℕ} → length a < greatest → n ≡ min (at + length s) greatest → length a < n → Printed at s a a n
+printed_past h e l = record { short = h; long = refl; count = e; bytes = λ r. let past = sum_past e l in absurd (omega (arith, r, past)) }
+
+pub put_inside : {at n : ℕ} {s a b : List ℕ} → Put at s a b n → n ≤ length b
+put_inside p = omega (arith, p.count, p.room, put_length p)
+
+module _ (key : List ℕ) (value : ℕ) where
+  -- a key, its sign, digits and the line feed
+  pub natural_line : key ++ ((61 ∷ []) ++ (digits value [] ++ (10 ∷ []))) ≡ line_of key (pos value)
+  natural_line = ap (λ (t : List ℕ). key ++ 61 ∷ t) (digits_append 19 value [] (10 ∷ []))
+
+  module _ (k : ℕ) (e : k ≡ length (digits value [])) where
+    pub natural_few : value < 2 ^ 64 → k < 21
+    natural_few f = omega (arith, e, length_of_digits value f [], count_most value f)
+
+    pub natural_end : (at : ℕ) {n : ℕ} → n ≡ min (at + (length key + k + 2)) greatest → n ≡ min (at + length (line_of key (pos value))) greatest
+    natural_end at h = let size : length (line_of key (pos value)) ≡ length key + k + 2 = omega (arith, e, line_size key (pos value)) in rw size h
 
 -- ---- a text written a piece at a time
 

@@ -71,7 +71,8 @@ fn count_key(block: Block) -> &'static [u8]
     }
 }
 
-// Line k of a block's rows.
+// Line k of a block's rows. Inlined, since nearly all of a report is such lines.
+#[inline(always)]
 pub fn put_field(out: &mut [u8], at: usize, block: Block, k: usize, value: u64) -> usize
     ensures { Printed at (line_of (field_key (block_keys block) k) (pos value)) out.old out.new result }
 {

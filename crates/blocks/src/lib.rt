@@ -1,5 +1,6 @@
-// The text of a report, measured and written block by block: lines, lines of ids, verdict rows, refusals, and here the blocks of rows,
-// all of one form: the count, and a line for each number. Nothing is known of scenes.
+// The text of a report, block by block: lines, lines of ids, verdict rows, refusals, and here the blocks of rows, all of one form: the
+// count, and a line for each number. Nothing is known of scenes. Each writer takes a position in a buffer of any length, writes where its
+// text fits, and answers where the text ends, so that the same call on an empty buffer measures it.
 #![tactic(auto)]
 
 pub mod answer;

@@ -3,7 +3,7 @@ ghost use Rattle.std.specs.Prelude.{◌≡◌, [], ◌∷◌, ◌++◌, pos};
 ghost use Rattle.lines.specs.Decimal.{digits, line_of};
 ghost use Rattle.blocks.specs.Printed.{Printed};
 
-use lines::write::{digit_count, put_bytes, put_digits};
+use lines::write::{digit_count, put_byte, put_bytes, put_digits};
 
 pub(crate) fn put_text(out: &mut [u8], at: usize, bytes: &[u8]) -> usize
     ensures { Printed at bytes.now out.old out.new result }
@@ -42,11 +42,17 @@ pub(crate) fn put_key(out: &mut [u8], at: usize, key: &[u8]) -> usize
     put_sign(out, p, b'=')
 }
 
-// The line of a key and a number with no sign.
+// The line of a key and a number with no sign. Nearly all of a report is such lines, so one test of the room serves the whole line.
+#[tactic(auto, using(crate::proofs::Printing::natural_few))]
 pub(crate) fn put_natural(out: &mut [u8], at: usize, key: &[u8], value: u64) -> usize
     ensures { Printed at (line_of key.now (pos value)) out.old out.new result }
 {
-    let a = put_key(out, at, key);
-    let b = put_decimal(out, a, value);
-    put_sign(out, b, b'\n')
+    let end = at.saturating_add(key.len() + digit_count(value) + 2);
+    if end <= out.len() {
+        let a = at + put_bytes(&mut out[at..], key);
+        let b = a + put_byte(&mut out[a..], b'=');
+        let c = b + put_digits(&mut out[b..], value);
+        put_byte(&mut out[c..], b'\n');
+    }
+    end
 }
