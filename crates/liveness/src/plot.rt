@@ -2,6 +2,7 @@
 ghost use Rattle.std.proofs.Props.{props};
 ghost use Rattle.std.specs.Prelude.{◌≡◌, List, ℕ};
 ghost use Rattle.lists.specs.Ends.{sources_of, sinks_of};
+ghost use Rattle.regions.specs.Search.{Zeros};
 ghost use Rattle.signals.specs.Regions.{region_count};
 ghost use Rattle.liveness.specs.Scene.{Accepted, Prepared, Prepares, PreparedRoom};
 
@@ -48,7 +49,11 @@ pub struct Workspace {
 }
 
 impl Workspace {
-    pub fn new() -> Workspace {
+    // All zero.
+    pub fn new() -> Workspace
+        ensures plots { Zeros result.members × Zeros result.region_at }
+        ensures rows { Zeros result.forward_rows × Zeros result.backward_rows }
+    {
         Workspace {
             members: [0; COMPONENTS],
             region_at: [0; COMPONENTS],
