@@ -32,7 +32,7 @@ use Rattle.lists.specs.Order.{record_before, first_not_ascending, component_orde
 use Rattle.lists.specs.Records.{Component, Position, component, component_count}
 use Rattle.lists.proofs.Search.{never, both, or_false, first_is, first_nothing}
 use Rattle.lists.proofs.Signed.{eq_z_same, eq_z_self}
-use Rattle.lists.proofs.Ordering.{then_cases, then_less, then_rest, then_step, ascending_at}
+use Rattle.lists.proofs.Ordering.{less_three, then_cases, then_less, then_rest, then_step, ascending_at}
 use Rattle.signals.proofs.Tested.{same_truth}
 use Rattle.signals.specs.Sources.{same_position, before_position, first_at, Parted}
 
@@ -90,16 +90,10 @@ equal_tuples a b c x y z = rw (equal_is a x, equal_is b y, equal_is c z) (and_th
     and_three : (s t u : Bool) → ((s && t) && u) ≡ (s && (t && u))
     and_three s t u = grind (arith, common_steps)
 
-less_by : (p q r s t u : Bool)
-    → is_some_and is_lt (partial_ordering_then (partial_ordering_then (Some (cond p Less (cond q Greater Equal))) (Some (cond r Less (cond s Greater Equal))))
-    (Some (cond t Less (cond u Greater Equal))))
-    ≡ (p || (not q && (r || (not s && t))))
-less_by p q r s t u = grind (arith, common_steps)
-
 pub less_tuples : (a b c x y z : ℤ)
     → is_some_and is_lt (partial_ordering_then (partial_ordering_then (Some (int_cmp a x)) (Some (int_cmp b y))) (Some (int_cmp c z)))
     ≡ less_then a x (less_then b y (lt_z c z))
-less_tuples a b c x y z = less_by (lt_z a x) (lt_z x a) (lt_z b y) (lt_z y b) (lt_z c z) (lt_z z c)
+less_tuples a b c x y z = less_three a b c x y z ∙ ap (λ (t : Bool). less_then a x (less_then b y t)) (sym (then_false c z))
 
 -- ---- a record as an array
 

@@ -20,7 +20,7 @@ use Rattle.checks.specs.Refusals.{Small, packed}
 use Rattle.lists.specs.declared.Refusal.{Refusal}
 use Rattle.lists.specs.declared.Fault.{Fault}
 use Rattle.lists.specs.Refusal.{fault_number, list_number}
-use Rattle.checks.proofs.Small.{fault_few, list_few}
+use Rattle.checks.proofs.Small.{fault_within, list_few}
 use Rattle.encoding.specs.Bytes.{number_bytes, little_endian, signed, first_numbers, numbers, low_bytes, bytes_of}
 use Rattle.encoding.specs.Entry.{groups_refusal, groups_number, GroupsByBytes}
 use Rattle.capi.specs.Liveness.{liveness_bytes_refusal, liveness_number, LivenessByBytes}
@@ -77,7 +77,7 @@ pub record RefusedParts (r : ℕ) (refusal : Refusal) : Type 0 where
 
 pub refused_parts : (refusal : Refusal) (nets fragments : ℕ) → Small (Err refusal) → RefusedParts (groups_number (Err refusal) nets fragments) refusal
 refused_parts refusal nets fragments small =
-    let f = fault_few refusal.fault in
+    let f = fault_within refusal.fault in
     let l = list_few refusal.list in
     record { number_is = omega (arith, f, l); list_is = omega (arith, f, l); item_is = omega (arith, f, l) }
 
@@ -95,19 +95,8 @@ liveness_accepted_parts regions sources inputs h l =
 -- ---- acceptance and refusal, told apart
 
 -- a refusal has a number above 0
-numbered : (fault : Fault) → 0 < fault_number fault
-numbered Fault.ListLength = lit< tt
-numbered Fault.ShortSlice = lit< tt
-numbered Fault.OutOfRange = lit< tt
-numbered Fault.UnsortedComponents = lit< tt
-numbered Fault.RepeatedId = lit< tt
-numbered Fault.UnsortedConnections = lit< tt
-numbered Fault.MissingEnd = lit< tt
-numbered Fault.NoVerdictRow = lit< tt
-numbered Fault.BadLine = lit< tt
-
 refused_odd : (refusal : Refusal) → packed (Err refusal) % 65536 ≡ 0 → ⊥
-refused_odd refusal e = omega (arith, numbered refusal.fault, fault_few refusal.fault, list_few refusal.list)
+refused_odd refusal e = omega (arith, fault_within refusal.fault, list_few refusal.list)
 
 told : (checked : Result ⊤ Refusal) (nets fragments : ℕ) → (groups_number checked nets fragments % 65536 ≡ 0) ↔ (checked ≡ Ok tt)
 told (Ok tt) nets fragments = (λ _. refl, λ _. omega arith)

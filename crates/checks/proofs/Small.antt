@@ -54,16 +54,16 @@ fit_refuse fault list {f} {n} m h = record { small = go f m.item }
 
 -- ---- numbers of faults and lists have room in their digits
 
-pub fault_few : (fault : Fault) → fault_number fault < 256
-fault_few Fault.ListLength = lit< tt
-fault_few Fault.ShortSlice = lit< tt
-fault_few Fault.OutOfRange = lit< tt
-fault_few Fault.UnsortedComponents = lit< tt
-fault_few Fault.RepeatedId = lit< tt
-fault_few Fault.UnsortedConnections = lit< tt
-fault_few Fault.MissingEnd = lit< tt
-fault_few Fault.NoVerdictRow = lit< tt
-fault_few Fault.BadLine = lit< tt
+pub fault_within : (fault : Fault) → (0 < fault_number fault) × (fault_number fault < 256)
+fault_within Fault.ListLength = (lit< tt, lit< tt)
+fault_within Fault.ShortSlice = (lit< tt, lit< tt)
+fault_within Fault.OutOfRange = (lit< tt, lit< tt)
+fault_within Fault.UnsortedComponents = (lit< tt, lit< tt)
+fault_within Fault.RepeatedId = (lit< tt, lit< tt)
+fault_within Fault.UnsortedConnections = (lit< tt, lit< tt)
+fault_within Fault.MissingEnd = (lit< tt, lit< tt)
+fault_within Fault.NoVerdictRow = (lit< tt, lit< tt)
+fault_within Fault.BadLine = (lit< tt, lit< tt)
 
 pub list_few : (list : Option Section) → list_number list < 256
 list_few (Some Section.Components) = lit< tt

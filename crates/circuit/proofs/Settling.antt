@@ -56,10 +56,6 @@ ends_below cs a b = go (place_of cs a) refl (place_of cs b) refl
     go (Some p) e None g = tt
     go None e y g = tt
 
-pub below_more : (n m : ℕ) → n ≤ m → (settled : Option Ends) → EndsBelow n settled → EndsBelow m settled
-below_more n m h (Some ends) b = (omega (arith, b.0), omega (arith, b.1))
-below_more n m h None b = tt
-
 -- one pair
 join_below : (n : ℕ) (counts : Bool) (settled : Option Ends) → EndsBelow n settled → PairsBelow n (settled_join counts settled)
 join_below n true (Some ends) b x y m =

@@ -2,8 +2,13 @@
 --     then_cases, then_less, then_rest                       what `less_then` says
 --     then_step                                              it is transitive where what decides after it is
 --     ascending_at                                           a record comes before the next
+--     less_three, less_four                                  tuples compare so
 -- Assumes nothing.
-use Rattle.std.specs.Prelude.{None}
+use Rattle.std.specs.Prelude.{Some, None}
+use Rattle.std.proofs.Common.{Less, Equal, Greater}
+use Rattle.std.specs.Ordering.{int_cmp, is_lt, is_some_and, partial_ordering_then}
+use Rattle.std.proofs.lemmas.Grind.{common_steps}
+use mathlib.Core.Bool.{cond}
 use mathlib.Core.Path.{◌≡◌, refl, ◌∙◌, subst}
 use mathlib.Core.Bool.{Bool, true, false, not, ◌&&◌, ◌||◌}
 use mathlib.Core.Logic.{◌⊎◌, inl, inr, ⊎_elim}
@@ -55,3 +60,29 @@ ascending_at fields width list e k h =
     let fails = none_found (λ i. not (record_before fields list ((i - 1) * width) (i * width))) 1 (length list / width - 1) e (suc k) (omega arith) (omega arith) in
     let same : suc k - 1 ≡ k = omega arith in
     subst (λ (i : ℕ). record_before fields list (i * width) (suc k * width) ≡ true) same (not-false (record_before fields list ((suc k - 1) * width) (suc k * width)) fails)
+
+-- ---- tuples
+
+by_four : (p q r s t u v w : Bool)
+    → is_some_and is_lt (partial_ordering_then (partial_ordering_then (partial_ordering_then
+    (Some (cond p Less (cond q Greater Equal))) (Some (cond r Less (cond s Greater Equal))))
+    (Some (cond t Less (cond u Greater Equal)))) (Some (cond v Less (cond w Greater Equal))))
+    ≡ (p || (not q && (r || (not s && (t || (not u && (v || (not w && false))))))))
+by_four p q r s t u v w = grind (arith, common_steps)
+
+pub less_four : (a b c d x y z w : ℤ)
+    → is_some_and is_lt (partial_ordering_then (partial_ordering_then (partial_ordering_then
+    (Some (int_cmp a x)) (Some (int_cmp b y))) (Some (int_cmp c z))) (Some (int_cmp d w)))
+    ≡ less_then a x (less_then b y (less_then c z (less_then d w false)))
+less_four a b c d x y z w = by_four (lt_z a x) (lt_z x a) (lt_z b y) (lt_z y b) (lt_z c z) (lt_z z c) (lt_z d w) (lt_z w d)
+
+by_three : (p q r s t u : Bool)
+    → is_some_and is_lt (partial_ordering_then (partial_ordering_then (Some (cond p Less (cond q Greater Equal))) (Some (cond r Less (cond s Greater Equal))))
+    (Some (cond t Less (cond u Greater Equal))))
+    ≡ (p || (not q && (r || (not s && (t || (not u && false))))))
+by_three p q r s t u = grind (arith, common_steps)
+
+pub less_three : (a b c x y z : ℤ)
+    → is_some_and is_lt (partial_ordering_then (partial_ordering_then (Some (int_cmp a x)) (Some (int_cmp b y))) (Some (int_cmp c z)))
+    ≡ less_then a x (less_then b y (less_then c z false))
+less_three a b c x y z = by_three (lt_z a x) (lt_z x a) (lt_z b y) (lt_z y b) (lt_z c z) (lt_z z c)

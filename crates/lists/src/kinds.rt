@@ -1,4 +1,5 @@
-// The kinds of components, of connections and of port connections, and the numbers that stand for them in lists.
+// The kinds of components, of connections and of port connections, and the numbers that stand for them in lists. The conversions are
+// written out, here and of each enum of the product that has numbers: `rt ci` refuses an impl by a macro of the repository's own.
 ghost use Rattle.std.specs.Prelude.{◌≡◌};
 ghost use Rattle.lists.specs.Kinds.{block_number, connection_number, transfer_number, NamesBlock, NamesConnection, NamesTransfer};
 

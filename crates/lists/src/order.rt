@@ -1,10 +1,8 @@
 // The strict orders of components and of connections.
-ghost use Rattle.std.specs.Prelude.{None};
-ghost use Rattle.std.specs.Prelude.{◌≡◌, Bool, true, List, ℕ, ◌+◌, ◌≤◌, ◌<◌, length};
+ghost use Rattle.std.specs.Prelude.{◌≡◌, Bool, List, ℕ, ◌+◌, ◌≤◌, ◌<◌, length};
 ghost use Rattle.lists.specs.Limits.{component_width, connection_width};
 ghost use Rattle.lists.specs.Order.{record_before, first_not_ascending, component_order, connection_order};
 
-use super::numbers::number_less;
 use super::{COMPONENT, CONNECTION};
 
 // The first record that does not come strictly after the one before it, given the test of the records at two places.
@@ -37,29 +35,12 @@ fn component_before(list: &[i64], a: usize, b: usize) -> bool
         < (list[b + 1], list[b + 2], list[b + 3], list[b])
 }
 
-// Whether the connection at `a` comes strictly before the one at `b`. There is no branch: sources and sinks change in no
-// order that a processor could foresee.
+// Whether the connection at `a` comes strictly before the one at `b`: by source, sink, kind.
 fn connection_before(list: &[i64], a: usize, b: usize) -> bool
     requires { (a + 3 ≤ length list.now) × (b + 3 ≤ length list.now) }
     ensures { result ≡ record_before connection_order list.now a b }
 {
-    let source = number_less(list, a, list, b);
-    let source_back = number_less(list, b, list, a);
-    let sink = number_less(list, a + 1, list, b + 1);
-    let sink_back = number_less(list, b + 1, list, a + 1);
-    let kind = number_less(list, a + 2, list, b + 2);
-    source | (!source_back & (sink | (!sink_back & kind)))
-}
-
-// Whether each connection comes strictly after the one before it.
-fn all_ascending(list: &[i64]) -> bool
-    ensures { result ≡ true → first_not_ascending connection_order connection_width list.now ≡ None }
-{
-    let mut all = true;
-    for k in 1..list.len() / CONNECTION {
-        all = all & connection_before(list, (k - 1) * CONNECTION, k * CONNECTION);
-    }
-    all
+    (list[a], list[a + 1], list[a + 2]) < (list[b], list[b + 1], list[b + 2])
 }
 
 pub fn first_component_not_ascending(components: &[i64]) -> Option<usize>
@@ -75,9 +56,6 @@ pub fn first_component_not_ascending(components: &[i64]) -> Option<usize>
 pub fn first_connection_not_ascending(connections: &[i64]) -> Option<usize>
     ensures { result ≡ first_not_ascending connection_order connection_width connections.now }
 {
-    if all_ascending(connections) {
-        return None;
-    }
     first_not_ascending(
         connections,
         CONNECTION,

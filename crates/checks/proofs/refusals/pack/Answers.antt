@@ -3,7 +3,7 @@
 use Rattle.std.specs.Prelude.{Err}
 use native.Mathlib.Omega.{arith}
 use Rattle.checks.specs.Refusals.{Small}
-use Rattle.checks.proofs.Small.{fault_few, list_few}
+use Rattle.checks.proofs.Small.{fault_within, list_few}
 use Rattle.checks.proofs.refusals.pack.Goals as goal
 
 pub overflow_mul-result : goal.overflow_mul-result
@@ -11,7 +11,7 @@ overflow_mul-result c = omega (arith, c.list_number.ensures, list_few c.in-Err.r
 
 pub overflow_add-result : goal.overflow_add-result
 overflow_add-result c =
-    omega (arith, c.list_number.ensures, list_few c.in-Err.refusal.list, c.from.ensures, fault_few c.in-Err.refusal.fault)
+    omega (arith, c.list_number.ensures, list_few c.in-Err.refusal.list, c.from.ensures, fault_within c.in-Err.refusal.fault)
 
 pub overflow_mul-result-in-Err : goal.overflow_mul-result-in-Err
 overflow_mul-result-in-Err c = let known : Small (Err c.in-Err.refusal) = rw c.in-Err.is at c.requires in omega arith
@@ -19,7 +19,7 @@ overflow_mul-result-in-Err c = let known : Small (Err c.in-Err.refusal) = rw c.i
 pub overflow_add-result-in-Err : goal.overflow_add-result-in-Err
 overflow_add-result-in-Err c =
     let known : Small (Err c.in-Err.refusal) = rw c.in-Err.is at c.requires in
-    omega (arith, c.list_number.ensures, list_few c.in-Err.refusal.list, c.from.ensures, fault_few c.in-Err.refusal.fault)
+    omega (arith, c.list_number.ensures, list_few c.in-Err.refusal.list, c.from.ensures, fault_within c.in-Err.refusal.fault)
 
 pub returns-in-Ok : goal.returns-in-Ok
 returns-in-Ok c = rw c.in-Ok.is
