@@ -2,6 +2,7 @@
 --     ids_snoc                  a member more at the end
 --     ids_more, ids_same        the next member of a walk is one more; there is none up to the table's end
 --     between, spaced_snoc      a blank before each id but the first
+--     Listing, listing_none, listing_more, listing_done     the ids written in a walk
 -- Assumes nothing.
 use Rattle.std.specs.Prelude.{Some}
 use mathlib.Core.Path.{◌≡◌, refl, sym, ap, ◌∙◌, subst}
@@ -94,7 +95,8 @@ module _ (keys words : List ℕ) where
   module _ {at : ℕ} {old new blank : List ℕ} {p start : ℕ} (l : Listing at old new p blank start) where
     -- the walk comes to m
     pub listing_more : (m : ℕ) {last : ℕ} {newer newest : List ℕ} {q r : ℕ} → FirstFrom words start (Some m) → m < length keys → last ≡ m + 1
-        → Printed p blank new newer q → Printed q (digits (get_or keys m 0 / span) []) newer newest r → Listing at old newest r (32 ∷ []) last
+        → Printed p blank new newer q → Printed q (digits (get_or keys m 0 / span) []) newer newest r
+        → Listing at old newest r (32 ∷ []) last
     listing_more m f h e b d =
         let more = ids_more start m f in
         let id = get_or keys m 0 / span in

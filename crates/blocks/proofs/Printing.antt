@@ -29,7 +29,8 @@ pub sum_fits : {sum n room : ℕ} → n ≡ min sum greatest → room < greatest
 sum_fits {sum} {n} {room} e h l =
     ⊎_elim
     (λ (f : sum ≤ greatest). omega (arith, e, l, min-eq_left f))
-    (λ (f : greatest < sum). let last : min sum greatest ≡ greatest = min-eq_right (omega (arith, f)) in absurd (omega (arith, e, h, l, last)))
+    (λ (f : greatest < sum).
+    let last : min sum greatest ≡ greatest = min-eq_right (omega (arith, f)) in absurd (omega (arith, e, h, l, last)))
     (order? sum greatest)
 
 pub sum_past : {sum n room : ℕ} → n ≡ min sum greatest → room < n → room < sum
@@ -70,11 +71,12 @@ printed_none at a h l =
 -- ---- a line
 
 -- a line that is written, and one that is only counted
-pub printed_fits : {at n m : ℕ} {s a b : List ℕ} → length a < greatest → n ≡ min (at + length s) greatest → Put at s a b m → Printed at s a b n
+pub printed_fits : {at n m : ℕ} {s a b : List ℕ} → length a < greatest → n ≡ min (at + length s) greatest → Put at s a b m
+    → Printed at s a b n
 printed_fits h e p = record { short = h; long = put_length p; count = e; bytes = λ _. p.bytes }
 
 pub printed_past : {at n : ℕ} {s a : List ℕ} → length a < greatest → n ≡ min (at + length s) greatest → length a < n → Printed at s a a n
-printed_past h e l = record { short = h; long = refl; count = e; bytes = λ r. let past = sum_past e l in absurd (omega (arith, r, past)) }
+printed_past h e l = let past = sum_past e l in record { short = h; long = refl; count = e; bytes = λ r. absurd (omega (arith, r, past)) }
 
 pub put_inside : {at n : ℕ} {s a b : List ℕ} → Put at s a b n → n ≤ length b
 put_inside p = omega (arith, p.count, p.room, put_length p)
@@ -88,8 +90,11 @@ module _ (key : List ℕ) (value : ℕ) where
     pub natural_few : value < 2 ^ 64 → k < 21
     natural_few f = omega (arith, e, length_of_digits value f [], count_most value f)
 
-    pub natural_end : (at : ℕ) {n : ℕ} → n ≡ min (at + (length key + k + 2)) greatest → n ≡ min (at + length (line_of key (pos value))) greatest
-    natural_end at h = let size : length (line_of key (pos value)) ≡ length key + k + 2 = omega (arith, e, line_size key (pos value)) in rw size h
+    pub natural_end : (at : ℕ) {n : ℕ} → n ≡ min (at + (length key + k + 2)) greatest
+        → n ≡ min (at + length (line_of key (pos value))) greatest
+    natural_end at h =
+        let size : length (line_of key (pos value)) ≡ length key + k + 2 = omega (arith, e, line_size key (pos value)) in
+        rw size h
 
 -- ---- a text written a piece at a time
 
@@ -101,7 +106,8 @@ pub record Going (whole : List ℕ) (at : ℕ) (old rest new : List ℕ) (p : �
 
 module _ {whole : List ℕ} {at p : ℕ} {old new : List ℕ} where
   -- t is written, and u is left
-  pub goes_on : (t u : List ℕ) {rest newer : List ℕ} {q : ℕ} → rest ≡ t ++ u → Going whole at old rest new p → Printed p t new newer q → Going whole at old u newer q
+  pub goes_on : (t u : List ℕ) {rest newer : List ℕ} {q : ℕ} → rest ≡ t ++ u → Going whole at old rest new p → Printed p t new newer q
+      → Going whole at old u newer q
   goes_on t u e g w = record {
     done = g.done ++ t;
     printed = printed_then g.printed w;

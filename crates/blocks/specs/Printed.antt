@@ -1,5 +1,5 @@
--- What a writer at a position ensures, whatever room there is: it writes where there is room, and always says where its text ends. So a text
--- is measured by the same call on an empty buffer. No line of a report rests on these.
+-- What a writer at a position ensures, whatever room there is: it writes its text where there is room, and always says where the text ends.
+-- So a text is measured by the same call on an empty buffer. No line of a report rests on these.
 --     greatest     the greatest position
 --     Printed      what each writer ensures
 -- Assumes nothing: these are definitions.

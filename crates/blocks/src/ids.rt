@@ -3,7 +3,7 @@ ghost use Rattle.blocks.specs.Lines.{set_line, spaced};
 ghost use Rattle.blocks.specs.Blocks.{ids_in};
 ghost use Rattle.blocks.specs.Printed.{Printed};
 
-use super::writers::{put_decimal, put_key, put_sign, put_text};
+use super::writers::{put_decimal, put_sign, put_text};
 use sets::ComponentSet;
 use tables::SPAN;
 
@@ -28,7 +28,8 @@ fn put_members(out: &mut [u8], at: usize, set: ComponentSet, keys: &[u64]) -> us
 pub fn put_ids(out: &mut [u8], at: usize, key: &[u8], set: ComponentSet, keys: &[u64]) -> usize
     ensures { Printed at (set_line key.now (ids_in keys.now set.words)) out.old out.new result }
 {
-    let a = put_key(out, at, key);
-    let b = put_members(out, a, set, keys);
-    put_sign(out, b, b'\n')
+    let a = put_text(out, at, key);
+    let b = put_sign(out, a, b'=');
+    let c = put_members(out, b, set, keys);
+    put_sign(out, c, b'\n')
 }

@@ -1,5 +1,5 @@
 // Small writers at a position. Each writes where there is room, and answers where its text ends.
-ghost use Rattle.std.specs.Prelude.{◌≡◌, [], ◌∷◌, ◌++◌, pos};
+ghost use Rattle.std.specs.Prelude.{[], ◌∷◌, pos};
 ghost use Rattle.lines.specs.Decimal.{digits, line_of};
 ghost use Rattle.blocks.specs.Printed.{Printed};
 
@@ -32,14 +32,6 @@ pub(crate) fn put_decimal(out: &mut [u8], at: usize, n: u64) -> usize
         put_digits(&mut out[at..], n);
     }
     end
-}
-
-// A key and the `=` after it.
-pub(crate) fn put_key(out: &mut [u8], at: usize, key: &[u8]) -> usize
-    ensures { Printed at (key.now ++ (61 ∷ [])) out.old out.new result }
-{
-    let p = put_text(out, at, key);
-    put_sign(out, p, b'=')
 }
 
 // The line of a key and a number with no sign. Nearly all of a report is such lines, so one test of the room serves the whole line.

@@ -14,12 +14,14 @@ use Rattle.blocks.proofs.Printing.{sum_fits, sum_past, printed_put}
 use Rattle.report.specs.Entry.{fits, PrintedBy}
 
 module _ {text a b out : List ℕ} {m : ℕ} (measured : Printed 0 text a b m) where
-  pub printed_none : length out < m → PrintedBy (fits text (length out)) text out out (Err (record { fault = Fault.ShortSlice; list = None; item = 0 }))
+  pub printed_none : length out < m
+      → PrintedBy (fits text (length out)) text out out (Err (record { fault = Fault.ShortSlice; list = None; item = 0 }))
   printed_none h =
       let e = lt-leb (length text) (length out) (omega (arith, sum_past measured.count h)) in
       record { answer = rw e; numbers = rw e; left = rw e }
 
-  pub printed_all : {new : List ℕ} {n : ℕ} → m ≤ length out → Printed 0 text out new n → PrintedBy (fits text (length out)) text out new (Ok n)
+  pub printed_all : {new : List ℕ} {n : ℕ} → m ≤ length out → Printed 0 text out new n
+      → PrintedBy (fits text (length out)) text out new (Ok n)
   printed_all h p =
       let put = printed_put p (sum_fits measured.count p.short h) in
       let e = le-leb (length text) (length out) (omega (arith, put.room)) in

@@ -26,8 +26,8 @@ loop-k-preserved c =
     let l = c.loop-k in
     let rows = c.args.rows.now in
     rw (add-one l.k)
-    (goes_on (line_at c.args.block rows l.k) (lines_from c.args.block rows (suc l.k)) (fields_one c.args.block rows l.k c.loop-k-test.true) l.invariant
-    c.put_field-p.ensures)
+    (goes_on (line_at c.args.block rows l.k) (lines_from c.args.block rows (suc l.k))
+    (fields_one c.args.block rows l.k c.loop-k-test.true) l.invariant c.put_field-p.ensures)
 
 pub returns : goal.returns
 returns c = goes_done (fields_none c.args.block c.args.rows.now c.loop-k.k c.loop-k-test.false) c.loop-k.invariant

@@ -12,5 +12,6 @@ returns c ps fs ready =
     let put = c.put_input in
     let a = c.args in
     let row = a.row in
-    let same = asked_text_lem row.device row.port row.status a.asked.now.table ready.fed_scene.scene.distinct (c.sources-found.ensures ps fs ready) in
+    let same =
+    asked_text_lem row.device row.port row.status a.asked.now.table ready.fed_scene.scene.distinct (c.sources-found.ensures ps fs ready) in
     subst (λ (t : List ℕ). Printed a.at t a.out.now put.new.out put.result) same put.ensures

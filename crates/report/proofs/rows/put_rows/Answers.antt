@@ -23,8 +23,8 @@ loop-k-preserved c ps fs ready =
     let text : ℕ → ℕ → ℕ → List ℕ = asked_text c.args.asked.now.components.now ps fs in
     let rows = c.args.rows.now in
     let l = c.loop-k in
-    goes_on (row_text text rows l.k) (lines_from text rows (3 * (l.k + 1))) (lines_at text rows l.k c.loop-k-test.true) (l.invariant ps fs ready)
-    (c.put_asked-p.ensures ps fs ready)
+    goes_on (row_text text rows l.k) (lines_from text rows (3 * (l.k + 1))) (lines_at text rows l.k c.loop-k-test.true)
+    (l.invariant ps fs ready) (c.put_asked-p.ensures ps fs ready)
 
 pub returns : goal.returns
 returns c ps fs ready =

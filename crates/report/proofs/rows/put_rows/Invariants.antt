@@ -14,4 +14,5 @@ abbrev pub invariant-loop-k : goal.invariant-loop-k
 invariant-loop-k l =
     let a = l.asked in
     (ps fs : List ℤ) → Ready a.components.now ps fs a.fed.now a.labels.now a.upstream.now
-    → Going (inputs_text a.components.now ps fs l.rows) l.fn.at l.fn.out (lines_from (asked_text a.components.now ps fs) l.rows (3 * l.k)) l.out l.p
+    → Going (inputs_text a.components.now ps fs l.rows) l.fn.at l.fn.out
+    (lines_from (asked_text a.components.now ps fs) l.rows (3 * l.k)) l.out l.p
