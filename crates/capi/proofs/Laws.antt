@@ -11,14 +11,12 @@ use mathlib.Core.List.{List, [], ◌∷◌, map, map-append}
 use mathlib.Core.Logic.{◌↔◌}
 use Prim.Native.Nat.{ℕ, zero, suc, ◌+◌, ◌*◌, ◌/◌, ◌%◌, ◌^◌, ◌≤◌, ◌<◌}
 use native.Mathlib.Omega.{arith}
-use lib.Dec.{lit<}
 use lib.ListN.{length, get_or, take, drop}
 use lib.Seq.{take-suc, take-length, take_at, drop-append-add}
 use lib.IntN.{pos, negsuc}
 use Rattle.lists.specs.Limits.{component_limit}
 use Rattle.checks.specs.Refusals.{Small, packed}
 use Rattle.lists.specs.declared.Refusal.{Refusal}
-use Rattle.lists.specs.declared.Fault.{Fault}
 use Rattle.lists.specs.Refusal.{fault_number, list_number}
 use Rattle.checks.proofs.Small.{fault_within, list_few}
 use Rattle.encoding.specs.Bytes.{number_bytes, little_endian, signed, first_numbers, numbers, low_bytes, bytes_of}
