@@ -8,12 +8,9 @@ ghost use Rattle.assessment.specs.Rows.{first_required, required_count};
 ghost use Rattle.inputs.specs.Query.{with_row, row_place};
 
 use assessment::verdicts::required_ports;
-use lists::COMPONENT;
+use lists::{COMPONENT, IDS};
 use lists::ids::place_of;
 use lists::numbers::natural_at;
-
-// Ids are below this; the table of ids has no key past it.
-const IDS: u64 = 1 << 32;
 
 // Whether a port of a kind has a verdict row.
 fn has_row(kind: u64, port: u64) -> bool

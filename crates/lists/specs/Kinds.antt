@@ -49,7 +49,3 @@ transfer_number TransferKind.StrongPower = 3
 transfer_number TransferKind.DirectionalDevice = 4
 transfer_number TransferKind.SideControl = 5
 transfer_number TransferKind.StructuralSupport = 6
-
--- the kind with this number, or an error with a number that no kind has
-abbrev pub NamesTransfer : ℕ → Result TransferKind UnknownKind → Type 0
-NamesTransfer number r = MatchResult r (λ kind. transfer_number kind ≡ number) (λ e. (e.0 ≡ number) × (7 ≤ number))

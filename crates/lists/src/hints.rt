@@ -5,14 +5,14 @@ ghost use Rattle.tables.specs.Order.{LowerBound};
 ghost use Rattle.tables.specs.Pairs.{span};
 ghost use Rattle.lists.specs.Ids.{place_of, IdTable, smaller_ids};
 
+use super::IDS;
+use super::ids::found_at;
 use tables::SPAN;
 
 const SLOTS: usize = 1 << 12;
 
 // Four times as many slots as components: one id of a hundred finds its slot taken twice.
 pub const HINTS: usize = 2 * SLOTS;
-
-const IDS: u64 = 1 << 32;
 
 // Spreads ids that are near each other: 2^32 over the golden ratio, by Knuth.
 const SPREAD: u64 = 2654435769;
@@ -51,14 +51,7 @@ pub fn place_near(keys: &[u64], hints: &[u16; HINTS], id: u64) -> Option<usize>
     requires { id < 4294967296 }
     ensures { (cs : List ℤ) → IdTable cs keys.now → result ≡ place_of cs id }
 {
-    let i = position_of(keys, hints, id);
-    if i < keys.len() {
-        let key = keys[i];
-        if key / SPAN == id {
-            return Some((key % SPAN) as usize);
-        }
-    }
-    None
+    found_at(keys, position_of(keys, hints, id), id)
 }
 
 // What `member_of` gives, by the hints.

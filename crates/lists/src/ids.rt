@@ -1,6 +1,7 @@
 // Where an id stands in the list of components: a table of (id, list place), sorted once.
 ghost use Rattle.std.specs.Prelude.{◌≡◌, true, ◌+◌, ◌*◌, ◌≤◌, ◌<◌, length, take, ℤ, List};
-ghost use Rattle.tables.specs.Pairs.{pair};
+ghost use Rattle.tables.specs.Order.{LowerBound};
+ghost use Rattle.tables.specs.Pairs.{pair, span};
 ghost use Rattle.lists.specs.Records.{component, component_count};
 ghost use Rattle.lists.specs.Ids.{place_of, has_component, used_earlier, first_repeated, IdTable};
 ghost use Rattle.lists.specs.Ids.{Unrepeated, smaller_ids, MemberPlace, MemberId};
@@ -33,12 +34,11 @@ pub fn id_table(components: &[i64], keys: &mut [u64], spare: &mut [u64])
     tables::sort_pairs(keys, spare);
 }
 
-// The list place of an id.
-pub fn place_of(keys: &[u64], id: u64) -> Option<usize>
-    requires { id < 4294967296 }
+// The list place of an id, given the first position of its key or of one above it.
+pub(crate) fn found_at(keys: &[u64], i: usize, id: u64) -> Option<usize>
+    requires { (id < 4294967296) × LowerBound keys.now (id * span) i }
     ensures { (cs : List ℤ) → IdTable cs keys.now → result ≡ place_of cs id }
 {
-    let i = tables::lower_bound(keys, id * SPAN);
     if i < keys.len() {
         let key = keys[i];
         if key / SPAN == id {
@@ -46,6 +46,15 @@ pub fn place_of(keys: &[u64], id: u64) -> Option<usize>
         }
     }
     None
+}
+
+// The list place of an id.
+pub fn place_of(keys: &[u64], id: u64) -> Option<usize>
+    requires { id < 4294967296 }
+    ensures { (cs : List ℤ) → IdTable cs keys.now → result ≡ place_of cs id }
+{
+    let i = tables::lower_bound(keys, id * SPAN);
+    found_at(keys, i, id)
 }
 
 // Whether a component has the id.
@@ -63,11 +72,7 @@ fn used_earlier(keys: &[u64], components: &[i64], k: usize) -> bool
     requires id_table { IdTable components.now keys.now }
     ensures { result ≡ used_earlier components.now k }
 {
-    let place = place_of(keys, natural_at(components, k * COMPONENT));
-    match place {
-        Some(p) => p < k,
-        None => false,
-    }
+    place_of(keys, natural_at(components, k * COMPONENT)).is_some_and(|p| p < k)
 }
 
 // Whether no neighbours in the table have one id. No id is used twice then.

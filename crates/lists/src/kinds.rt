@@ -1,7 +1,7 @@
 // The kinds of components, of connections and of port connections, and the numbers that stand for them in lists. The conversions are
 // written out, here and of each enum of the product that has numbers: `rt ci` refuses an impl by a macro of the repository's own.
 ghost use Rattle.std.specs.Prelude.{◌≡◌};
-ghost use Rattle.lists.specs.Kinds.{block_number, connection_number, transfer_number, NamesBlock, NamesConnection, NamesTransfer};
+ghost use Rattle.lists.specs.Kinds.{transfer_number, NamesBlock, NamesConnection};
 
 // A number that names no kind.
 #[derive(Clone, Copy, PartialEq, Eq)]
@@ -23,14 +23,6 @@ pub enum BlockKind {
     Transparent,
     RedstoneLamp,
     Air,
-}
-
-impl From<BlockKind> for u64 {
-    ghost from_gives = { λ kind number. number ≡ block_number kind };
-
-    fn from(kind: BlockKind) -> u64 {
-        kind as u64
-    }
 }
 
 impl TryFrom<u64> for BlockKind {
@@ -73,14 +65,6 @@ pub enum ConnectionKind {
     Support,
 }
 
-impl From<ConnectionKind> for u64 {
-    ghost from_gives = { λ kind number. number ≡ connection_number kind };
-
-    fn from(kind: ConnectionKind) -> u64 {
-        kind as u64
-    }
-}
-
 impl TryFrom<u64> for ConnectionKind {
     type Error = UnknownKind;
 
@@ -120,24 +104,5 @@ impl From<TransferKind> for u64 {
 
     fn from(kind: TransferKind) -> u64 {
         kind as u64
-    }
-}
-
-impl TryFrom<u64> for TransferKind {
-    type Error = UnknownKind;
-
-    ghost try_from_gives = { NamesTransfer };
-
-    fn try_from(number: u64) -> Result<Self, UnknownKind> {
-        match number {
-            0 => Ok(TransferKind::DustPropagation),
-            1 => Ok(TransferKind::DirectSignal),
-            2 => Ok(TransferKind::WeakPower),
-            3 => Ok(TransferKind::StrongPower),
-            4 => Ok(TransferKind::DirectionalDevice),
-            5 => Ok(TransferKind::SideControl),
-            6 => Ok(TransferKind::StructuralSupport),
-            _ => Err(UnknownKind(number)),
-        }
     }
 }

@@ -25,6 +25,9 @@ pub const CONNECTIONS: usize = 4096;
 // The most frontiers of a scene.
 pub const FRONTIERS: usize = 256;
 
+// Ids are below this.
+pub const IDS: u64 = 1 << 32;
+
 // The farthest coordinate.
 pub const FAR: i64 = 30000000;
 

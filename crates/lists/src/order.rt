@@ -43,6 +43,7 @@ fn connection_before(list: &[i64], a: usize, b: usize) -> bool
     (list[a], list[a + 1], list[a + 2]) < (list[b], list[b + 1], list[b + 2])
 }
 
+// One each: a caller of `first_not_ascending` itself would have to name the order as a ghost value.
 pub fn first_component_not_ascending(components: &[i64]) -> Option<usize>
     ensures { result ≡ first_not_ascending component_order component_width components.now }
 {

@@ -15,7 +15,7 @@ ghost use Rattle.probe.specs.Places.{IsPlace, answer_of, count_among, place_amon
 use checks::refusals::{grouping_lists, liveness_lists, pack, room_for};
 use lists::ends::Ends;
 use lists::ids::{place_at, place_of};
-use lists::{COMPONENT, COMPONENTS, CONNECTION, CONNECTIONS, PORT};
+use lists::{COMPONENT, COMPONENTS, CONNECTION, CONNECTIONS, IDS, PORT};
 
 // What the checks of a grouping's lists say, as one number.
 fn pack_grouping(components: &[i64], connections: &[i64], frontiers: &[i64], enough: bool) -> u64
@@ -107,8 +107,6 @@ fn answer(found: Option<usize>) -> u64
     found.map_or(0, |place| place as u64 + 1)
 }
 
-const GREATEST_ID: u64 = 4294967295;
-
 // The table of ids at the front of `keys`, and how many these are, where the checks accept the components.
 fn accepted_ids(components: &[i64], keys: &mut [u64; COMPONENTS]) -> Option<usize>
     ensures count { result ≡ count_among (grouping_lists components.now [] [] true) components.now }
@@ -126,7 +124,7 @@ fn find(components: &[i64], id: u64) -> Option<usize>
 {
     let mut keys = [0u64; COMPONENTS];
     let count = accepted_ids(components, &mut keys)?;
-    if GREATEST_ID < id {
+    if IDS <= id {
         return None;
     }
     place_of(&keys[..count], id)
