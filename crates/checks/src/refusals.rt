@@ -4,13 +4,13 @@ ghost use Rattle.lists.specs.Limits.{component_limit, connection_limit, frontier
 ghost use Rattle.checks.specs.Refusals.{refuse, ◌or_else◌, not_whole, room_for, too_short, grouping_lists, liveness_lists, Small, packed};
 ghost use Rattle.checks.specs.Checks.{lengths_of, ranges_of, scene_of, Ordered, CheckedBy, LivenessChecked};
 ghost use Rattle.lists.specs.Records.{component_count};
-ghost use Rattle.lists.specs.Within.{Components};
 ghost use Rattle.lists.specs.Ends.{sources_of, sinks_of};
 
 use super::ranges::{COMPONENT_RANGES, CONNECTION_RANGES, FRONTIER_RANGES, PORT_RANGES};
 use lists::ends::{Ends, first_end_missing, settle_ends};
 use lists::ids::{first_repeated, id_table};
 use lists::order::{first_component_not_ascending, first_connection_not_ascending};
+use lists::views::{ComponentList, PortList};
 use lists::{
     COMPONENT, COMPONENTS, CONNECTION, CONNECTIONS, FRONTIER, FRONTIERS, Fault, PORT, Refusal,
     Section, list_number,
@@ -87,14 +87,13 @@ fn refuse_lengths(
 }
 
 // 4 and 5: the order and the ids of the components. `keys` is left with their table of ids.
-fn refuse_components(components: &[i64], keys: &mut [u64]) -> Result<(), Refusal>
-    requires components { Components components.now }
-    requires keys_len { length keys.old ≡ component_count components.now }
-    ensures { Ordered components.now keys.new result }
+fn refuse_components(components: ComponentList, keys: &mut [u64]) -> Result<(), Refusal>
+    requires { length keys.old ≡ component_count components.numbers.now }
+    ensures { Ordered components.entry.numbers.now keys.new result }
 {
     let mut spare = [0u64; COMPONENTS];
     id_table(components, keys, &mut spare);
-    let unsorted = first_component_not_ascending(components);
+    let unsorted = first_component_not_ascending(components.numbers);
     refuse_at(
         Fault::UnsortedComponents,
         Some(Section::Components),
@@ -150,8 +149,11 @@ fn refuse_scene(
         enough,
     )?;
     refuse_ranges(components, found, frontiers)?;
+    let accepted = ComponentList {
+        numbers: components,
+    };
     let count = components.len() / COMPONENT;
-    refuse_components(components, &mut keys[..count])
+    refuse_components(accepted, &mut keys[..count])
 }
 
 // The checks of the grouping and of the ports entry, and of the lists of a sheet. Where they accept, `keys` begins with the table of ids.
@@ -208,11 +210,12 @@ pub fn liveness_lists(
         keys,
     )?;
     let count = components.len() / COMPONENT;
-    settle_ends(&keys[..count], ports, ends);
+    let accepted = PortList { numbers: ports };
+    settle_ends(&keys[..count], accepted, ends);
     refuse_at(
         Fault::MissingEnd,
         Some(Section::Connections),
-        first_end_missing(&keys[..count], ports, ends),
+        first_end_missing(&keys[..count], accepted, ends),
     )
 }
 

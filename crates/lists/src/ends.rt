@@ -3,12 +3,10 @@ ghost use Rattle.std.specs.Prelude.{◌≡◌, List, ◌≤◌, ◌<◌, length,
 ghost use Rattle.lists.specs.Records.{port_count};
 ghost use Rattle.lists.specs.Ids.{has_component, end_missing, first_end_missing, IdTable, smaller_ids};
 ghost use Rattle.lists.specs.Ends.{SettledEnds, sources_of, sinks_of};
-ghost use Rattle.lists.specs.Within.{PortConnections};
 
-use super::PORT;
 use super::hints::{HINTS, hint_ids, member_near};
 use super::ids::SUPPORT;
-use super::numbers::natural_at;
+use super::views::PortList;
 use tables::SPAN;
 
 // The numbers of the two ends of a connection.
@@ -19,18 +17,16 @@ pub struct Ends {
 }
 
 // The members at the ends of each port connection.
-pub fn settle_ends(keys: &[u64], ports: &[i64], ends: &mut [Ends])
-    requires port_connections { PortConnections ports.now }
-    requires ports_in_bounds { port_count ports.now ≤ length ends.old }
-    ensures { (cs : List ℤ) → IdTable cs keys.now → SettledEnds cs ports.now (sources_of ends.new) (sinks_of ends.new) }
+pub fn settle_ends(keys: &[u64], ports: PortList, ends: &mut [Ends])
+    requires { port_count ports.numbers.now ≤ length ends.old }
+    ensures { (cs : List ℤ) → IdTable cs keys.now → SettledEnds cs ports.entry.numbers.now (sources_of ends.new) (sinks_of ends.new) }
 {
     let mut hints = [0u16; HINTS];
     hint_ids(keys, &mut hints);
-    for k in 0..ports.len() / PORT {
-        let at = k * PORT;
+    for k in 0..ports.count() {
         ends[k] = Ends {
-            source: member_near(keys, &hints, natural_at(ports, at)),
-            sink: member_near(keys, &hints, natural_at(ports, at + 2)),
+            source: member_near(keys, &hints, ports.source(k)),
+            sink: member_near(keys, &hints, ports.sink(k)),
         };
     }
 }
@@ -46,28 +42,25 @@ fn stands_at(keys: &[u64], m: usize, id: u64) -> bool
 }
 
 // Whether port connection k is no support and has an end that is no component.
-fn end_missing(keys: &[u64], ports: &[i64], ends: &[Ends], k: usize) -> bool
-    requires port_connections { PortConnections ports.now × (k < port_count ports.now) }
-    requires k_in_bounds { k < length ends.now }
+fn end_missing(keys: &[u64], ports: PortList, ends: &[Ends], k: usize) -> bool
+    requires { (k < port_count ports.numbers.now) × (k < length ends.now) }
     ensures { (cs : List ℤ) → IdTable cs keys.now →
-        SettledEnds cs ports.now (sources_of ends.now) (sinks_of ends.now) → result ≡ end_missing cs ports.now k }
+        SettledEnds cs ports.entry.numbers.now (sources_of ends.now) (sinks_of ends.now) → result ≡ end_missing cs ports.entry.numbers.now k }
 {
-    let at = k * PORT;
     let settled = ends[k];
-    let transfer = natural_at(ports, at + 4);
-    let source = stands_at(keys, settled.source, natural_at(ports, at));
-    let sink = stands_at(keys, settled.sink, natural_at(ports, at + 2));
+    let transfer = ports.transfer(k);
+    let source = stands_at(keys, settled.source, ports.source(k));
+    let sink = stands_at(keys, settled.sink, ports.sink(k));
     !(transfer == SUPPORT) & !(source & sink)
 }
 
 // The first port connection with a missing end, given their settled ends.
-pub fn first_end_missing(keys: &[u64], ports: &[i64], ends: &[Ends]) -> Option<usize>
-    requires port_connections { PortConnections ports.now }
-    requires ports_in_bounds { port_count ports.now ≤ length ends.now }
+pub fn first_end_missing(keys: &[u64], ports: PortList, ends: &[Ends]) -> Option<usize>
+    requires { port_count ports.numbers.now ≤ length ends.now }
     ensures { (cs : List ℤ) → IdTable cs keys.now →
-        SettledEnds cs ports.now (sources_of ends.now) (sinks_of ends.now) → result ≡ first_end_missing cs ports.now }
+        SettledEnds cs ports.entry.numbers.now (sources_of ends.now) (sinks_of ends.now) → result ≡ first_end_missing cs ports.entry.numbers.now }
 {
-    for k in 0..ports.len() / PORT {
+    for k in 0..ports.count() {
         if end_missing(keys, ports, ends, k) {
             return Some(k);
         }

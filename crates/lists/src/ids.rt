@@ -5,27 +5,23 @@ ghost use Rattle.tables.specs.Pairs.{pair, span};
 ghost use Rattle.lists.specs.Records.{component, component_count};
 ghost use Rattle.lists.specs.Ids.{place_of, has_component, used_earlier, first_repeated, IdTable};
 ghost use Rattle.lists.specs.Ids.{Unrepeated, smaller_ids, MemberPlace, MemberId};
-ghost use Rattle.lists.specs.Within.{Components};
 
-use super::COMPONENT;
 use super::kinds::TransferKind;
-use super::numbers::natural_at;
+use super::views::ComponentList;
 use tables::SPAN;
 
 // The pair of the id of component k and its place.
-fn id_key(components: &[i64], k: usize) -> u64
-    requires components { Components components.now }
-    requires k_bound { k < component_count components.now }
-    ensures { result ≡ pair (component components.now k).id k }
+fn id_key(components: ComponentList, k: usize) -> u64
+    requires { k < component_count components.numbers.now }
+    ensures { result ≡ pair (component components.entry.numbers.now k).id k }
 {
-    natural_at(components, k * COMPONENT) * SPAN + k as u64
+    components.id(k) * SPAN + k as u64
 }
 
 // Fills `keys` with the table of ids.
-pub fn id_table(components: &[i64], keys: &mut [u64], spare: &mut [u64])
-    requires components { Components components.now }
-    requires keys_len { (length keys.old ≡ component_count components.now) × (length keys.old ≤ length spare.old) }
-    ensures { IdTable components.now keys.new }
+pub fn id_table(components: ComponentList, keys: &mut [u64], spare: &mut [u64])
+    requires { (length keys.old ≡ component_count components.numbers.now) × (length keys.old ≤ length spare.old) }
+    ensures { IdTable components.entry.numbers.now keys.new }
 {
     for k in 0..keys.len() {
         keys[k] = id_key(components, k);
@@ -66,13 +62,11 @@ pub fn has_component(keys: &[u64], id: u64) -> bool
 }
 
 // Whether an earlier component has the id of component k.
-fn used_earlier(keys: &[u64], components: &[i64], k: usize) -> bool
-    requires components { Components components.now }
-    requires k_bound { k < component_count components.now }
-    requires id_table { IdTable components.now keys.now }
-    ensures { result ≡ used_earlier components.now k }
+fn used_earlier(keys: &[u64], components: ComponentList, k: usize) -> bool
+    requires { (k < component_count components.numbers.now) × IdTable components.numbers.now keys.now }
+    ensures { result ≡ used_earlier components.entry.numbers.now k }
 {
-    place_of(keys, natural_at(components, k * COMPONENT)).is_some_and(|p| p < k)
+    place_of(keys, components.id(k)).is_some_and(|p| p < k)
 }
 
 // Whether no neighbours in the table have one id. No id is used twice then.
@@ -88,15 +82,14 @@ fn none_repeated(keys: &[u64]) -> bool
 }
 
 // The first component whose id an earlier one has.
-pub fn first_repeated(keys: &[u64], components: &[i64]) -> Option<usize>
-    requires components { Components components.now }
-    requires id_table { IdTable components.now keys.now }
-    ensures { result ≡ first_repeated components.now }
+pub fn first_repeated(keys: &[u64], components: ComponentList) -> Option<usize>
+    requires { IdTable components.numbers.now keys.now }
+    ensures { result ≡ first_repeated components.entry.numbers.now }
 {
     if none_repeated(keys) {
         return None;
     }
-    for k in 0..components.len() / COMPONENT {
+    for k in 0..components.count() {
         if used_earlier(keys, components, k) {
             return Some(k);
         }

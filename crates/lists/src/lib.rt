@@ -10,6 +10,7 @@ pub mod kinds;
 pub mod numbers;
 pub mod order;
 pub mod ranges;
+pub mod views;
 
 ghost use Rattle.std.specs.Prelude.{◌≡◌};
 ghost use Rattle.lists.specs.Refusal.{fault_number, list_number, section_numbered};

@@ -51,21 +51,18 @@ returns-in_err-refuse_scene c =
       ends = λ e. absurd (refused_not (sym back ∙ e));
     }
 
+pub invariant_of-accepted : goal.invariant_of-accepted
+invariant_of-accepted c = record { within = connections (goal.at.invariant_of-accepted c).In_ok-refuse_scene }
+
 pub settle_ends-requires : goal.settle_ends-requires
 settle_ends-requires c =
     let all = connections (goal.at.settle_ends-requires c).In_ok-refuse_scene in
-    record {
-      port_connections = all;
-      ports_in_bounds = omega (arith, all.few, c.requires.1);
-    }
+    omega (arith, all.few, c.requires.1)
 
 pub first_end_missing-requires : goal.first_end_missing-requires
 first_end_missing-requires c =
     let all = connections (goal.at.first_end_missing-requires c).In_ok-refuse_scene in
-    record {
-      port_connections = all;
-      ports_in_bounds = omega (arith, all.few, c.requires.1, c.settle_ends.auto.ends);
-    }
+    omega (arith, all.few, c.requires.1, c.settle_ends.auto.ends)
 
 pub returns : goal.returns
 returns c =

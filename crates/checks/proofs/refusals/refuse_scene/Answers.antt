@@ -22,13 +22,13 @@ slice_bounds-refuse_components-end-2 c =
     let few = (passed (goal.at.slice_bounds-refuse_components-end-2 c).In_ok-refuse_ranges).few in
     sym (length-take-le _ c.args.keys.now (omega (arith, few, c.requires.1)))
 
+pub invariant_of-accepted : goal.invariant_of-accepted
+invariant_of-accepted c = record { within = passed (goal.at.invariant_of-accepted c).In_ok-refuse_ranges }
+
 pub refuse_components-requires : goal.refuse_components-requires
 refuse_components-requires c =
     let all = passed (goal.at.refuse_components-requires c).In_ok-refuse_ranges in
-    record {
-      components = all;
-      keys_len = length-take-le _ c.args.keys.now (omega (arith, all.few, c.requires.1));
-    }
+    length-take-le _ c.args.keys.now (omega (arith, all.few, c.requires.1))
 
 pub returns : goal.returns
 returns c =

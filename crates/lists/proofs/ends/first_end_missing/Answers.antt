@@ -1,21 +1,13 @@
 -- Answers for the goals that the search leaves.
 use mathlib.Core.Path.{sym, ◌∙◌}
 use native.Mathlib.Nat.{sub-zero}
-use native.Mathlib.Omega.{arith}
 use Rattle.lists.specs.Ids.{first_end_missing}
 use Rattle.lists.proofs.Search.{first_here, first_later, first_none}
 use Rattle.lists.proofs.ends.first_end_missing.Goals as goal
 
 pub loop-k-init : goal.loop-k-init
 unfolding first_end_missing
-loop-k-init c cs t e = rw sub-zero
-
-pub end_missing-requires : goal.end_missing-requires
-end_missing-requires c =
-    record {
-      port_connections = (c.requires.port_connections, c.loop-k-test.true);
-      k_in_bounds = omega (arith, c.requires.ports_in_bounds);
-    }
+loop-k-init c cs t e = rw (sub-zero, c.count-k-end.ensures.0)
 
 pub returns-then-end_missing : goal.returns-then-end_missing
 returns-then-end_missing c cs t e =

@@ -11,6 +11,6 @@ returns c cs t =
     record {
       source_members = record { at = λ k h. rw add-zero (source_of ends k ∙ (c.loop-k.invariant.1 cs t k (omega (arith, c.loop-k-test.false))).0) };
       sink_members = record { at = λ k h. sink_of ends k ∙ (c.loop-k.invariant.1 cs t k (omega (arith, c.loop-k-test.false))).1 };
-      sources_long = omega (arith, sources_length ends, c.loop-k.invariant.0, c.requires.ports_in_bounds);
-      sinks_long = omega (arith, sinks_length ends, c.loop-k.invariant.0, c.requires.ports_in_bounds);
+      sources_long = omega (arith, sources_length ends, c.loop-k.invariant.0, c.requires);
+      sinks_long = omega (arith, sinks_length ends, c.loop-k.invariant.0, c.requires);
     }

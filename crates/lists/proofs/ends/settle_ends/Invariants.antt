@@ -15,5 +15,5 @@ abbrev pub invariant-loop-k : goal.invariant-loop-k
 invariant-loop-k l =
     (length l.ends ≡ length l.initial.ends)
     × ((cs : List ℤ) → IdTable cs l.keys → (j : ℕ) → j < l.k →
-    ((get_or l.ends j none).source ≡ smaller_ids cs (natural_at l.ports (j * port_width)))
-    × ((get_or l.ends j none).sink ≡ smaller_ids cs (natural_at l.ports (j * port_width + 2))))
+    ((get_or l.ends j none).source ≡ smaller_ids cs (natural_at l.ports.numbers.now (j * port_width)))
+    × ((get_or l.ends j none).sink ≡ smaller_ids cs (natural_at l.ports.numbers.now (j * port_width + 2))))

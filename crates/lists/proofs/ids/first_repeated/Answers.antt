@@ -7,19 +7,11 @@ use Rattle.lists.proofs.Table.{unrepeated_none}
 use Rattle.lists.proofs.ids.first_repeated.Goals as goal
 
 pub returns-then-none_repeated : goal.returns-then-none_repeated
-returns-then-none_repeated c = sym (unrepeated_none c.requires.id_table (c.none_repeated.ensures c.if-none_repeated.true))
+returns-then-none_repeated c = sym (unrepeated_none c.requires (c.none_repeated.ensures c.if-none_repeated.true))
 
 pub loop-k-init : goal.loop-k-init
 unfolding first_repeated
-loop-k-init c = rw sub-zero
-
-pub used_earlier-requires : goal.used_earlier-requires
-used_earlier-requires c =
-    record {
-      components = c.requires.components;
-      k_bound = c.loop-k-test.true;
-      id_table = c.requires.id_table;
-    }
+loop-k-init c = rw (sub-zero, c.count-k-end.ensures.0)
 
 pub returns-then-used_earlier : goal.returns-then-used_earlier
 returns-then-used_earlier c =

@@ -14,13 +14,6 @@ use Rattle.lists.proofs.ids.id_table.Goals as goal
 pub loop-k-init : goal.loop-k-init
 loop-k-init c = (refl, λ j h. absurd (omega arith))
 
-pub id_key-requires : goal.id_key-requires
-id_key-requires c =
-    record {
-      components = c.requires.components;
-      k_bound = omega (arith, c.loop-k-test.true, c.loop-k.invariant.0, c.requires.keys_len.0);
-    }
-
 pub loop-k-preserved : goal.loop-k-preserved
 loop-k-preserved c =
     let l = c.loop-k in
@@ -35,14 +28,14 @@ loop-k-preserved c =
 -- where the loop ends there is a key for each component: the pair of its id and its place
 pub sort_pairs-requires : goal.sort_pairs-requires
 sort_pairs-requires c =
-    let cs = c.args.components.now in
+    let cs = c.args.components.numbers.now in
     let keys = c.loop-k.keys in
-    let long : length keys ≡ component_count cs = c.loop-k.invariant.0 ∙ c.requires.keys_len.0 in
+    let long : length keys ≡ component_count cs = c.loop-k.invariant.0 ∙ c.requires.0 in
     let each : ((k : ℕ) → k < component_count cs → get_or keys k 0 ≡ id_key cs k) =
     λ k h. c.loop-k.invariant.1 k (omega (arith, c.loop-k-test.false, c.loop-k.invariant.0, long)) in
     record {
-      keys_in_bounds = omega (arith, c.loop-k.invariant.0, c.requires.keys_len.1);
-      rising_by = (keys_rise cs keys c.requires.components long each, keys_small cs keys c.requires.components long each);
+      keys_in_bounds = omega (arith, c.loop-k.invariant.0, c.requires.1);
+      rising_by = (keys_rise cs keys c.args.components.within long each, keys_small cs keys c.args.components.within long each);
     }
 
 pub shape_of-keys : goal.shape_of-keys
@@ -54,9 +47,9 @@ shape_of-spare c = c.sort_pairs.auto.spare
 
 pub returns : goal.returns
 returns c =
-    let cs = c.args.components.now in
+    let cs = c.args.components.numbers.now in
     let keys = c.loop-k.keys in
-    let long : length keys ≡ component_count cs = c.loop-k.invariant.0 ∙ c.requires.keys_len.0 in
+    let long : length keys ≡ component_count cs = c.loop-k.invariant.0 ∙ c.requires.0 in
     let each : ((k : ℕ) → k < component_count cs → get_or keys k 0 ≡ id_key cs k) =
     λ k h. c.loop-k.invariant.1 k (omega (arith, c.loop-k-test.false, c.loop-k.invariant.0, long)) in
-    table_of cs (omega (arith, c.requires.components.few)) long each c.sort_pairs.ensures
+    table_of cs (omega (arith, c.args.components.within.few)) long each c.sort_pairs.ensures

@@ -9,4 +9,4 @@ use Rattle.lists.proofs.ids.id_table.Given as goal
 
 abbrev pub invariant-loop-k : goal.invariant-loop-k
 invariant-loop-k l =
-    (length l.keys ≡ length l.initial.keys) × ((j : ℕ) → j < l.k → get_or l.keys j 0 ≡ pair (component l.components j).id j)
+    (length l.keys ≡ length l.initial.keys) × ((j : ℕ) → j < l.k → get_or l.keys j 0 ≡ pair (component l.components.numbers.now j).id j)
