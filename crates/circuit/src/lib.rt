@@ -1,5 +1,5 @@
 // The groups of a scene: nets and fragments, by union-find over the list places of its components.
-// `v < component_limit` and `Connections` stand at each function that takes a place or the list: no value holds both.
+// `v < component_limit` stands at each function that takes a place: a number of a list, and what it is below is the forest's.
 #![tactic(auto)]
 
 mod forest;
@@ -11,6 +11,7 @@ ghost use Rattle.lists.specs.Limits.{component_limit};
 ghost use Rattle.circuit.specs.Topology.{Grouped, shares_member};
 
 use checks::refusals::{grouping_lists, room_for};
+use lists::views::ConnectionList;
 use lists::{COMPONENT, COMPONENTS, Refusal};
 use sets::ComponentSet;
 
@@ -40,7 +41,10 @@ pub fn from_parts(
         enough,
         &mut keys,
     )?;
-    Ok(settle::group(&keys[..count], connections, nets, fragments))
+    let accepted = ConnectionList {
+        numbers: connections,
+    };
+    Ok(settle::group(&keys[..count], accepted, nets, fragments))
 }
 
 // The set with the net put in, where it is a member's and the test says so.

@@ -3,18 +3,17 @@ ghost use Rattle.std.specs.Prelude.{◌≡◌, cond, List, ◌≤◌, length, �
 ghost use Rattle.lists.specs.Limits.{component_limit};
 ghost use Rattle.lists.specs.Records.{component_count, connection_count};
 ghost use Rattle.lists.specs.Ids.{IdTable, IsIdTable};
-ghost use Rattle.lists.specs.Within.{Connections};
 ghost use Rattle.circuit.specs.Forest.{unite_all};
 ghost use Rattle.circuit.specs.Topology.{GroupedBy};
 ghost use Rattle.circuit.specs.Settled.{settled_ends, Settled, settled_join, settled_joins, SettledGroups, EndsBelow, AllBelow};
 
 use super::Counts;
 use super::forest::UnionFind;
+use lists::CONNECTIONS;
 use lists::ends::Ends;
 use lists::hints::{HINTS, hint_ids, place_near};
 use lists::kinds::ConnectionKind;
-use lists::numbers::natural_at;
-use lists::{CONNECTION, CONNECTIONS};
+use lists::views::ConnectionList;
 
 // Nets use the kinds up to this one, and fragments up to the next.
 const NET_KINDS: u64 = ConnectionKind::StrongPower as u64;
@@ -32,17 +31,15 @@ fn both(source: Option<usize>, sink: Option<usize>) -> Option<Ends>
 }
 
 // Settles the ends of each connection.
-fn settle(keys: &[u64], connections: &[i64], settled: &mut [Option<Ends>])
-    requires connections { Connections connections.now }
-    requires room { connection_count connections.now ≤ length settled.old }
-    ensures { (cs : List ℤ) → IdTable cs keys.now → Settled cs connections.now settled.new }
+fn settle(keys: &[u64], connections: ConnectionList, settled: &mut [Option<Ends>])
+    requires { connection_count connections.numbers.now ≤ length settled.old }
+    ensures { (cs : List ℤ) → IdTable cs keys.now → Settled cs connections.entry.numbers.now settled.new }
 {
     let mut hints = [0u16; HINTS];
     hint_ids(keys, &mut hints);
-    for k in 0..connections.len() / CONNECTION {
-        let at = k * CONNECTION;
-        let source = place_near(keys, &hints, natural_at(connections, at));
-        let sink = place_near(keys, &hints, natural_at(connections, at + 1));
+    for k in 0..connections.count() {
+        let source = place_near(keys, &hints, connections.source(k));
+        let sink = place_near(keys, &hints, connections.sink(k));
         settled[k] = both(source, sink);
     }
 }
@@ -67,23 +64,27 @@ fn join_one(counts: bool, settled: Option<Ends>, forest: &mut UnionFind)
 }
 
 // Joins the settled ends of each connection of kinds 0 to `top`, in order.
-fn join_all(connections: &[i64], settled: &[Option<Ends>], top: u64, forest: &mut UnionFind)
-    requires connections { Connections connections.now }
-    requires settled { AllBelow component_limit (connection_count connections.now) settled.now }
-    ensures { forest.new ≡ unite_all forest.old (settled_joins connections.now settled.now top (connection_count connections.now)) }
+fn join_all(connections: ConnectionList, settled: &[Option<Ends>], top: u64, forest: &mut UnionFind)
+    requires { AllBelow component_limit (connection_count connections.numbers.now) settled.now }
+    ensures { let ps = connections.entry.numbers.now in
+        forest.new ≡ unite_all forest.old (settled_joins ps settled.now top (connection_count ps)) }
 {
-    for k in 0..connections.len() / CONNECTION {
-        let counts = natural_at(connections, k * CONNECTION + 2) <= top;
+    for k in 0..connections.count() {
+        let counts = connections.kind(k) <= top;
         join_one(counts, settled[k], forest);
     }
 }
 
 // The groups of the first places, one for each number, by the settled ends of the connections of kinds 0 to `top`.
-fn groups(connections: &[i64], settled: &[Option<Ends>], top: u64, numbers: &mut [u64]) -> usize
-    requires connections { Connections connections.now }
+fn groups(
+    connections: ConnectionList,
+    settled: &[Option<Ends>],
+    top: u64,
+    numbers: &mut [u64],
+) -> usize
     requires room { length numbers.old ≤ component_limit }
-    requires settled { AllBelow (length numbers.old) (connection_count connections.now) settled.now }
-    ensures { SettledGroups connections.now settled.now top numbers.new result }
+    requires settled { AllBelow (length numbers.old) (connection_count connections.numbers.now) settled.now }
+    ensures { SettledGroups connections.entry.numbers.now settled.now top numbers.new result }
 {
     let mut forest = UnionFind::new();
     join_all(connections, settled, top, &mut forest);
@@ -91,12 +92,16 @@ fn groups(connections: &[i64], settled: &[Option<Ends>], top: u64, numbers: &mut
 }
 
 // The nets and fragments of an accepted scene, whose table of ids is `keys`.
-pub fn group(keys: &[u64], connections: &[i64], nets: &mut [u64], fragments: &mut [u64]) -> Counts
-    requires connections { Connections connections.now }
+pub fn group(
+    keys: &[u64],
+    connections: ConnectionList,
+    nets: &mut [u64],
+    fragments: &mut [u64],
+) -> Counts
     requires id_table { IsIdTable keys.now }
     requires keys_len_bound { (length keys.now ≤ component_limit)
         × ((length keys.now ≤ length nets.old) × (length keys.now ≤ length fragments.old)) }
-    ensures { (cs : List ℤ) → IdTable cs keys.now → GroupedBy cs connections.now nets.old nets.new fragments.old fragments.new result }
+    ensures { (cs : List ℤ) → IdTable cs keys.now → GroupedBy cs connections.entry.numbers.now nets.old nets.new fragments.old fragments.new result }
 {
     let n = keys.len();
     let mut settled = [None; CONNECTIONS];

@@ -36,6 +36,27 @@ impl ComponentList<'_> {
     {
         natural_at(self.numbers, k * COMPONENT + 4)
     }
+
+    pub fn facing(self, k: usize) -> u64
+        requires { k < component_count self.numbers.now }
+        ensures { result ≡ (component self.entry.numbers.now k).facing }
+    {
+        natural_at(self.numbers, k * COMPONENT + 5)
+    }
+
+    pub fn support(self, k: usize) -> u64
+        requires { k < component_count self.numbers.now }
+        ensures { result ≡ (component self.entry.numbers.now k).support }
+    {
+        natural_at(self.numbers, k * COMPONENT + 6)
+    }
+
+    pub fn conducts(self, k: usize) -> u64
+        requires { k < component_count self.numbers.now }
+        ensures { result ≡ (component self.entry.numbers.now k).conducts }
+    {
+        natural_at(self.numbers, k * COMPONENT + 7)
+    }
 }
 
 // Grouping connections.

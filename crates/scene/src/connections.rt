@@ -2,7 +2,6 @@
 ghost use Rattle.std.specs.Prelude.{◌≡◌, Some, ◌+◌, ◌*◌, ◌≤◌, ◌<◌, map, length, pos};
 ghost use Rattle.lists.specs.Limits.{port_width};
 ghost use Rattle.lists.specs.Records.{component, connection, component_count, connection_count};
-ghost use Rattle.lists.specs.Within.{Components, Connections};
 ghost use Rattle.lists.specs.Ids.{IdTable};
 ghost use Rattle.faces.specs.Codes.{face_code, face_number};
 ghost use Rattle.faces.specs.Ports.{ports_of};
@@ -18,61 +17,57 @@ use faces::ports::ports_for;
 use faces::select::{select_port, transfer_of};
 use faces::step::facing_between;
 use lists::hints::{HINTS, hint_ids, place_near};
-use lists::numbers::natural_at;
+use lists::views::{ComponentList, ConnectionList};
 use lists::{COMPONENT, COMPONENTS, CONNECTION, PORT, Refusal};
 
 // The lists of an accepted scene, with the table of the components' ids and hints into it.
 #[derive(Drop)]
 struct Scene<'a> {
-    components: &'a [i64],
-    connections: &'a [i64],
+    components: ComponentList<'a>,
+    connections: ConnectionList<'a>,
     keys: &'a [u64],
     hints: &'a [u16; HINTS],
-    ghost components_within: { Components components.now },
-    ghost connections_within: { Connections connections.now },
-    ghost id_table: { IdTable components.now keys.now },
+    ghost id_table: { IdTable components.numbers.now keys.now },
 }
 
 impl Scene<'_> {
     // The port that component k has for a connection at a face.
     fn port_at(&self, k: usize, face: Face, outgoing: bool, kind: u64) -> Option<usize>
-        requires { k < component_count self.now.components.now }
-        ensures { result ≡ select_port (ports_of (component self.now.components.now k)) (face_code face) outgoing kind }
+        requires { k < component_count self.now.components.numbers.now }
+        ensures { result ≡ select_port (ports_of (component self.now.components.numbers.now k)) (face_code face) outgoing kind }
     {
-        let at = k * COMPONENT;
-        let block = natural_at(self.components, at + 4);
-        let facing = natural_at(self.components, at + 5);
-        let support = natural_at(self.components, at + 6);
-        let conducts = natural_at(self.components, at + 7);
-        select_port(
-            ports_for(block, facing, support, conducts),
-            u64::from(face),
-            outgoing,
-            kind,
-        )
+        let list = self.components;
+        let ports = ports_for(
+            list.kind(k),
+            list.facing(k),
+            list.support(k),
+            list.conducts(k),
+        );
+        select_port(ports, u64::from(face), outgoing, kind)
     }
 
     // The face of the step from component a to component b, if it has one.
     fn step_face(&self, a: usize, b: usize) -> Option<Face>
-        requires { (a < component_count self.now.components.now) × (b < component_count self.now.components.now) }
-        ensures { face_number result ≡ step_face (component self.now.components.now a) (component self.now.components.now b) }
+        requires { (a < component_count self.now.components.numbers.now) × (b < component_count self.now.components.numbers.now) }
+        ensures { face_number result ≡ step_face (component self.now.components.numbers.now a) (component self.now.components.numbers.now b) }
     {
+        let numbers = self.components.numbers;
         let source = a * COMPONENT;
         let sink = b * COMPONENT;
         facing_between(
-            self.components[source + 1],
-            self.components[source + 2],
-            self.components[source + 3],
-            self.components[sink + 1],
-            self.components[sink + 2],
-            self.components[sink + 3],
+            numbers[source + 1],
+            numbers[source + 2],
+            numbers[source + 3],
+            numbers[sink + 1],
+            numbers[sink + 2],
+            numbers[sink + 3],
         )
     }
 
     // The ports that a connection from component a to component b takes at its ends.
     fn ports_between(&self, a: usize, b: usize, kind: u64) -> Option<(usize, usize)>
-        requires { (a < component_count self.now.components.now) × (b < component_count self.now.components.now) }
-        ensures { result ≡ ports_between (component self.now.components.now a) (component self.now.components.now b) kind }
+        requires { (a < component_count self.now.components.numbers.now) × (b < component_count self.now.components.numbers.now) }
+        ensures { result ≡ ports_between (component self.now.components.numbers.now a) (component self.now.components.numbers.now b) kind }
     {
         let face = self.step_face(a, b)?;
         let source = self.port_at(a, face, true, kind)?;
@@ -82,40 +77,35 @@ impl Scene<'_> {
 
     // The ports of connection k.
     fn link_of(&self, k: usize) -> Option<(usize, usize)>
-        requires { k < connection_count self.now.connections.now }
-        ensures { result ≡ link_of self.now.components.now (connection self.now.connections.now k) }
+        requires { k < connection_count self.now.connections.numbers.now }
+        ensures { result ≡ link_of self.now.components.numbers.now (connection self.now.connections.numbers.now k) }
     {
-        let at = k * CONNECTION;
-        let source = natural_at(self.connections, at);
-        let sink = natural_at(self.connections, at + 1);
-        let a = place_near(self.keys, self.hints, source)?;
-        let b = place_near(self.keys, self.hints, sink)?;
-        self.ports_between(a, b, natural_at(self.connections, at + 2))
+        let a = place_near(self.keys, self.hints, self.connections.source(k))?;
+        let b = place_near(self.keys, self.hints, self.connections.sink(k))?;
+        self.ports_between(a, b, self.connections.kind(k))
     }
 
     // The row of connection k with its ports.
     fn row(&self, k: usize, ports: (usize, usize)) -> [i64; PORT]
-        requires k_bound { k < connection_count self.now.connections.now }
+        requires k_bound { k < connection_count self.now.connections.numbers.now }
         requires port_bounds { (ports.0 < port_places) × (ports.1 < port_places) }
-        ensures { result ≡ map pos (row_by (connection self.now.connections.now k) (Some ports)) }
+        ensures { result ≡ map pos (row_by (connection self.now.connections.numbers.now k) (Some ports)) }
     {
         let (source_port, sink_port) = ports;
-        let at = k * CONNECTION;
-        let transfer = transfer_of(natural_at(self.connections, at + 2));
         [
-            self.connections[at],
+            self.connections.source(k) as i64,
             source_port as i64,
-            self.connections[at + 1],
+            self.connections.sink(k) as i64,
             sink_port as i64,
-            transfer as i64,
+            transfer_of(self.connections.kind(k)) as i64,
         ]
     }
 
     // Writes what is kept of connection k after `count` rows, and answers how many there are then.
     fn keep(&self, k: usize, out: &mut [i64], count: usize) -> usize
-        requires k_bound { k < connection_count self.now.connections.now }
+        requires k_bound { k < connection_count self.now.connections.numbers.now }
         requires port_width_in_bounds { count * port_width + port_width ≤ length out.old }
-        ensures { Filled (map pos (kept_row self.now.components.now self.now.connections.now k)) count out.old out.new result }
+        ensures { Filled (map pos (kept_row self.now.components.numbers.now self.now.connections.numbers.now k)) count out.old out.new result }
     {
         let Some(ports) = self.link_of(k) else {
             return count;
@@ -127,12 +117,15 @@ impl Scene<'_> {
 }
 
 // Writes all rows that are kept, in order.
-pub fn keep_all(components: &[i64], keys: &[u64], connections: &[i64], out: &mut [i64]) -> usize
-    requires components { Components components.now }
-    requires id_table { IdTable components.now keys.now }
-    requires connections { Connections connections.now }
-    requires port_width_in_bounds { connection_count connections.now * port_width ≤ length out.old }
-    ensures { AllKept components.now connections.now out.old out.new result }
+pub fn keep_all(
+    components: ComponentList,
+    keys: &[u64],
+    connections: ConnectionList,
+    out: &mut [i64],
+) -> usize
+    requires id_table { IdTable components.numbers.now keys.now }
+    requires port_width_in_bounds { connection_count connections.numbers.now * port_width ≤ length out.old }
+    ensures { AllKept components.entry.numbers.now connections.entry.numbers.now out.old out.new result }
 {
     let mut hints = [0u16; HINTS];
     hint_ids(keys, &mut hints);
@@ -143,7 +136,7 @@ pub fn keep_all(components: &[i64], keys: &[u64], connections: &[i64], out: &mut
         hints: &hints,
     };
     let mut count: usize = 0;
-    for k in 0..connections.len() / CONNECTION {
+    for k in 0..connections.count() {
         count = scene.keep(k, out, count);
     }
     count
@@ -166,6 +159,12 @@ pub fn port_connections(
         enough,
         &mut keys,
     )?;
+    let listed = ComponentList {
+        numbers: components,
+    };
+    let connected = ConnectionList {
+        numbers: connections,
+    };
     let count = components.len() / COMPONENT;
-    Ok(keep_all(components, &keys[..count], connections, out))
+    Ok(keep_all(listed, &keys[..count], connected, out))
 }

@@ -70,6 +70,9 @@ slice_bounds-keys-end c = (long (goal.at.slice_bounds-keys-end c).After-grouping
 pub slice_bounds-group-end : goal.slice_bounds-group-end
 slice_bounds-group-end c = sym (long (goal.at.slice_bounds-group-end c).After-grouping_lists c.in_ok-grouping_lists.was).1
 
+pub invariant_of-accepted : goal.invariant_of-accepted
+invariant_of-accepted c = record { within = (scene (goal.at.invariant_of-accepted c).After-grouping_lists c.in_ok-grouping_lists.was).connections }
+
 pub group-requires : goal.group-requires
 group-requires c =
     let now = (goal.at.group-requires c).After-grouping_lists in
@@ -77,7 +80,6 @@ group-requires c =
     let s = scene now c.in_ok-grouping_lists.was in
     let places = room now c.in_ok-grouping_lists.was in
     let table = c.grouping_lists.ensures.table c.in_ok-grouping_lists.was in record {
-      connections = s.connections;
       id_table = (c.args.components.now, table);
       keys_len_bound = (omega (arith, n, s.components.few), (omega (arith, n, places), omega (arith, n, places)));
     }

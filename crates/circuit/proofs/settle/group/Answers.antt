@@ -17,12 +17,12 @@ use Rattle.circuit.proofs.settle.group.Goals as goal
 use Rattle.circuit.proofs.settle.group.Goals.{After-settle}
 
 -- the settled ends are places of components
-ends : (c : After-settle) → AllBelow (length c.args.keys.now) (connection_count c.args.connections.now) c.settle.new.settled
+ends : (c : After-settle) → AllBelow (length c.args.keys.now) (connection_count c.args.connections.numbers.now) c.settle.new.settled
 ends c =
     let cs = c.requires.id_table.0 in
     let t = c.requires.id_table.1 in
     rw (table_long t)
-    (ends_settled cs c.args.connections.now c.settle.new.settled (omega (arith, c.requires.connections.few, c.settle.auto.settled)) (c.settle.ensures cs t))
+    (ends_settled cs c.args.connections.numbers.now c.settle.new.settled (omega (arith, c.args.connections.within.few, c.settle.auto.settled)) (c.settle.ensures cs t))
 
 pub groups-requires-clause-settled : goal.groups-requires-clause-settled
 groups-requires-clause-settled c =
@@ -34,7 +34,7 @@ groups-requires-2-clause-settled c =
 
 pub returns : goal.returns
 returns c cs t =
-    let ps = c.args.connections.now in
+    let ps = c.args.connections.numbers.now in
     let settled = c.settle.new.settled in
     let same : (top : ℕ) → unite_all singletons (settled_joins ps settled top (connection_count ps)) ≡ forest_of cs ps top =
     λ top. ap (unite_all singletons) (joins_settled cs ps settled top (c.settle.ensures cs t) (connection_count ps) (omega arith)) in

@@ -1,9 +1,6 @@
 -- Answers for the goals that the search leaves.
 use mathlib.Core.Path.{refl}
 use native.Mathlib.Numerals.{add-one}
-use Prim.Native.Nat.{◌+◌, ◌*◌, ◌≤◌}
-use lib.ListN.{length}
-use Rattle.lists.proofs.Search.{record_within}
 use Rattle.circuit.specs.Forest.{unite_all}
 use Rattle.circuit.specs.Settled.{settled_joins}
 use Rattle.circuit.proofs.Settling.{unite_then}
@@ -14,10 +11,6 @@ pub loop-k-init : goal.loop-k-init
 unfolding settled_joins unite_all
 loop-k-init c = refl
 
--- the connection of a turn lies within the list
-within : (c : In-loop-k) → c.loop-k.k * 3 + 3 ≤ length c.args.connections.now
-within c = record_within c.loop-k.k _ 3 c.loop-k-test.true
-
 pub loop-k-preserved : goal.loop-k-preserved
 unfolding settled_joins
-loop-k-preserved c = rw (add-one, unite_then, ← c.loop-k.invariant) (rw c.natural_at.ensures at c.join_one.ensures)
+loop-k-preserved c = rw (add-one, unite_then, ← c.loop-k.invariant) (rw c.kind.ensures at c.join_one.ensures)

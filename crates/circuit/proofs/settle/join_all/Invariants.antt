@@ -6,4 +6,4 @@ use Rattle.circuit.specs.Settled.{settled_joins}
 use Rattle.circuit.proofs.settle.join_all.Given as goal
 
 abbrev pub invariant-loop-k : goal.invariant-loop-k
-invariant-loop-k l = l.forest ≡ unite_all l.initial.forest (settled_joins l.connections l.settled l.top l.k)
+invariant-loop-k l = l.forest ≡ unite_all l.initial.forest (settled_joins l.connections.numbers.now l.settled l.top l.k)

@@ -15,4 +15,4 @@ abbrev pub invariant-loop-k : goal.invariant-loop-k
 invariant-loop-k l =
     (length l.settled ≡ length l.initial.settled)
     × ((cs : List ℤ) → IdTable cs l.keys → (j : ℕ) → j < l.k →
-    get_or l.settled j None ≡ settled_ends (place_of cs (connection l.connections j).source) (place_of cs (connection l.connections j).sink))
+    get_or l.settled j None ≡ settled_ends (place_of cs (connection l.connections.numbers.now j).source) (place_of cs (connection l.connections.numbers.now j).sink))

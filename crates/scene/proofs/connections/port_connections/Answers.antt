@@ -30,12 +30,16 @@ pub slice_bounds-keep_all-end : goal.slice_bounds-keep_all-end
 slice_bounds-keep_all-end c =
     sym (length-take-le _ c.grouping_lists.new.keys (few (goal.at.slice_bounds-keep_all-end c).After-grouping_lists c.in_ok-grouping_lists.was))
 
+pub invariant_of-listed : goal.invariant_of-listed
+invariant_of-listed c = record { within = (accepted (goal.at.invariant_of-listed c).After-grouping_lists c.in_ok-grouping_lists.was).components }
+
+pub invariant_of-connected : goal.invariant_of-connected
+invariant_of-connected c = record { within = (accepted (goal.at.invariant_of-connected c).After-grouping_lists c.in_ok-grouping_lists.was).connections }
+
 pub keep_all-requires : goal.keep_all-requires
 keep_all-requires c =
     let s = accepted (goal.at.keep_all-requires c).After-grouping_lists c.in_ok-grouping_lists.was in
     let room = sym c.room_for-enough.ensures ∙ s.scene.lengths.room in record {
-      components = s.components;
       id_table = c.grouping_lists.ensures.table c.in_ok-grouping_lists.was;
-      connections = s.connections;
       port_width_in_bounds = omega (arith, leb-true (connection_count c.args.connections.now) (length c.args.out.now / port_width) room);
     }

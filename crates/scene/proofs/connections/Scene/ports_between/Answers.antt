@@ -16,19 +16,19 @@ use Rattle.scene.proofs.connections.Scene.ports_between.Goals.{In_ok-face}
 
 -- the ports at the face of the step and at the face opposite to it
 between : (c : In_ok-face) (facing : ℕ) → facing ≡ opposite (face_code c.in_ok-face.face)
-    → let source = component c.args.self.now.components.now c.args.a in
-    let sink = component c.args.self.now.components.now c.args.b in
+    → let source = component c.args.self.now.components.numbers.now c.args.a in
+    let sink = component c.args.self.now.components.numbers.now c.args.b in
     ports_between source sink c.args.kind
     ≡ both_ports (select_port (ports_of source) (face_code c.in_ok-face.face) true c.args.kind) (select_port (ports_of sink) facing false c.args.kind)
 between c facing d =
     let face = c.in_ok-face.face in
-    between_some (component c.args.self.now.components.now c.args.a) (component c.args.self.now.components.now c.args.b) c.args.kind (face_code face) facing
+    between_some (component c.args.self.now.components.numbers.now c.args.a) (component c.args.self.now.components.numbers.now c.args.b) c.args.kind (face_code face) facing
     c.in_ok-face.ensures (λ n. omega (arith, (code_range face).0)) d
 
 pub returns-in_err-face : goal.returns-in_err-face
 returns-in_err-face c =
-    let source = component c.args.self.now.components.now c.args.a in
-    let sink = component c.args.self.now.components.now c.args.b in
+    let source = component c.args.self.now.components.numbers.now c.args.a in
+    let sink = component c.args.self.now.components.numbers.now c.args.b in
     c.from_residual.ensures ∙ sym (between_none source sink c.args.kind (sym c.in_err-face.ensures))
 
 pub returns-in_err-source : goal.returns-in_err-source
