@@ -5,31 +5,29 @@ ghost use Rattle.tables.specs.Order.{Ascending, Sorted};
 ghost use Rattle.lists.specs.Records.{port_count};
 ghost use Rattle.lists.specs.Limits.{component_limit};
 ghost use Rattle.lists.specs.Ends.{sources_of, sinks_of};
-ghost use Rattle.lists.specs.Within.{PortConnections};
 ghost use Rattle.signals.specs.Signals.{is_signal};
 ghost use Rattle.signals.specs.Keys.{Slots, signal_key, signal_keys, turned, KeysOf, Sortable};
 ghost use Rattle.signals.specs.Flags.{Flags, Indices};
 ghost use Rattle.signals.specs.Seen.{Rows, EdgeKeys, some_edge_into};
 
+use lists::COMPONENTS;
 use lists::ends::Ends;
 use lists::ids::SUPPORT;
-use lists::numbers::natural_at;
-use lists::{COMPONENTS, PORT};
+use lists::views::PortList;
 use tables::SPAN;
 
 // A port of a member: ports are 0 to 255.
 pub const PORTS: usize = 1 << 8;
 
 // The port that each port connection feeds, as one number, its sink's member and then the port; and the member that feeds it.
-pub fn settle_slots(ports: &[i64], ends: &[Ends], fed: &mut [Ends])
-    requires port_connections { PortConnections ports.now }
-    requires ports_in_bounds { (port_count ports.now ≤ length ends.now) × (port_count ports.now ≤ length fed.old) }
-    requires by_index { (k : ℕ) → k < port_count ports.now → get_or (sinks_of ends.now) k 0 ≤ component_limit }
-    ensures slots { Slots ports.now (sinks_of ends.now) (sources_of fed.new) }
-    ensures sources { (k : ℕ) → k < port_count ports.now → get_or (sinks_of fed.new) k 0 ≡ get_or (sources_of ends.now) k 0 }
+pub fn settle_slots(ports: PortList, ends: &[Ends], fed: &mut [Ends])
+    requires ports_in_bounds { (port_count ports.numbers.now ≤ length ends.now) × (port_count ports.numbers.now ≤ length fed.old) }
+    requires by_index { (k : ℕ) → k < port_count ports.numbers.now → get_or (sinks_of ends.now) k 0 ≤ component_limit }
+    ensures slots { Slots ports.entry.numbers.now (sinks_of ends.now) (sources_of fed.new) }
+    ensures sources { (k : ℕ) → k < port_count ports.entry.numbers.now → get_or (sinks_of fed.new) k 0 ≡ get_or (sources_of ends.now) k 0 }
 {
-    for k in 0..ports.len() / PORT {
-        let port = natural_at(ports, k * PORT + 3) as usize;
+    for k in 0..ports.count() {
+        let port = ports.sink_port(k) as usize;
         fed[k] = Ends {
             source: ends[k].sink * PORTS + port,
             sink: ends[k].source,
@@ -39,23 +37,22 @@ pub fn settle_slots(ports: &[i64], ends: &[Ends], fed: &mut [Ends])
 
 // The key of port connection k: the pair of two numbers, or of `nowhere` and COMPONENTS where it is a support. Where `nowhere` is
 // COMPONENTS too, the key of a support turned round is itself.
-fn signal_key(ports: &[i64], k: usize, first: usize, second: usize, nowhere: usize) -> u64
-    requires port_connections { PortConnections ports.now × (k < port_count ports.now) }
+fn signal_key(ports: PortList, k: usize, first: usize, second: usize, nowhere: usize) -> u64
+    requires k_bound { k < port_count ports.numbers.now }
     requires first_bound { (first < 2 ^ 32) × ((second < span) × (nowhere < 2 ^ 32)) }
-    ensures { result ≡ signal_key (is_signal ports.now k) first second nowhere }
+    ensures { result ≡ signal_key (is_signal ports.entry.numbers.now k) first second nowhere }
 {
-    if natural_at(ports, k * PORT + 4) == SUPPORT {
+    if ports.transfer(k) == SUPPORT {
         return nowhere as u64 * SPAN + COMPONENTS as u64;
     }
     first as u64 * SPAN + second as u64
 }
 
 // Lists the keys of the port connections: pairs of their ends.
-pub(crate) fn list_keys(ports: &[i64], ends: &[Ends], nowhere: usize, keys: &mut [u64])
-    requires port_connections { PortConnections ports.now }
-    requires sortable { Sortable (port_count ports.now) (sources_of ends.now) (sinks_of ends.now) nowhere
-        × (length keys.old ≡ port_count ports.now) }
-    ensures { keys.new ≡ signal_keys ports.now (sources_of ends.now) (sinks_of ends.now) nowhere }
+pub(crate) fn list_keys(ports: PortList, ends: &[Ends], nowhere: usize, keys: &mut [u64])
+    requires { Sortable (port_count ports.numbers.now) (sources_of ends.now) (sinks_of ends.now) nowhere
+        × (length keys.old ≡ port_count ports.numbers.now) }
+    ensures { keys.new ≡ signal_keys ports.entry.numbers.now (sources_of ends.now) (sinks_of ends.now) nowhere }
 {
     for (k, key) in keys.iter_mut().enumerate() {
         *key = signal_key(ports, k, ends[k].source, ends[k].sink, nowhere);
@@ -64,16 +61,15 @@ pub(crate) fn list_keys(ports: &[i64], ends: &[Ends], nowhere: usize, keys: &mut
 
 // The same sorted. The spare is for the sort.
 pub fn signal_keys(
-    ports: &[i64],
+    ports: PortList,
     ends: &[Ends],
     nowhere: usize,
     keys: &mut [u64],
     spare: &mut [u64],
 )
-    requires port_connections { PortConnections ports.now }
-    requires sortable { Sortable (port_count ports.now) (sources_of ends.now) (sinks_of ends.now) nowhere }
-    requires keys_len { (length keys.old ≡ port_count ports.now) × (port_count ports.now ≤ length spare.old) }
-    ensures { KeysOf ports.now (sources_of ends.now) (sinks_of ends.now) nowhere keys.new }
+    requires sortable { Sortable (port_count ports.numbers.now) (sources_of ends.now) (sinks_of ends.now) nowhere }
+    requires keys_len { (length keys.old ≡ port_count ports.numbers.now) × (port_count ports.numbers.now ≤ length spare.old) }
+    ensures { KeysOf ports.entry.numbers.now (sources_of ends.now) (sinks_of ends.now) nowhere keys.new }
 {
     list_keys(ports, ends, nowhere, keys);
     tables::sort(keys, spare);

@@ -2,7 +2,6 @@
 ghost use Rattle.std.specs.Prelude.{◌≡◌, Bool, ◌&&◌, ◌||◌, ℕ, ◌≤◌, ◌<◌, eqb, leb, length, get_or};
 ghost use Rattle.sets.specs.Members.{count_below};
 ghost use Rattle.lists.specs.Records.{component, component_count};
-ghost use Rattle.lists.specs.Within.{Components};
 ghost use Rattle.lists.specs.First.{some};
 ghost use Rattle.regions.specs.Keys.{edges};
 ghost use Rattle.signals.specs.Regions.{wire, is_passive};
@@ -11,9 +10,8 @@ ghost use Rattle.signals.specs.Seen.{SeenOf, Rows, few_near, outside_key};
 
 use super::edges::flag_sinks;
 use super::network::Network;
-use lists::COMPONENT;
 use lists::kinds::BlockKind;
-use lists::numbers::natural_at;
+use lists::views::ComponentList;
 use regions::Graph;
 use tables::SPAN;
 
@@ -77,12 +75,12 @@ fn few_neighbours(network: &Network, m: usize) -> bool
 }
 
 // Flags the Solid and Transparent components, by list place.
-pub fn passive_flags(components: &[i64], flags: &mut [bool])
-    requires { Components components.now × (component_count components.now ≤ length flags.old) }
-    ensures { Flags (component_count components.now) (λ p. is_passive (component components.now p).kind) flags.new }
+pub fn passive_flags(components: ComponentList, flags: &mut [bool])
+    requires { component_count components.numbers.now ≤ length flags.old }
+    ensures { let cs = components.entry.numbers.now in Flags (component_count cs) (λ p. is_passive (component cs p).kind) flags.new }
 {
-    for p in 0..components.len() / COMPONENT {
-        let kind = natural_at(components, p * COMPONENT + 4);
+    for p in 0..components.count() {
+        let kind = components.kind(p);
         flags[p] = (kind == SOLID) | (kind == TRANSPARENT);
     }
 }
@@ -99,12 +97,16 @@ pub fn flag_outside(forward: &[u64], labels: &[usize], passive: &[bool], fed: &m
 }
 
 // Whether component p, member m, is an inferred input, given whether its region has a drive source or is fed from outside.
-pub fn is_inferred(components: &[i64], p: usize, quiet: bool, network: &Network, m: usize) -> bool
-    requires components { Components components.now × (p < component_count components.now) }
-    requires node { m < length network.now.labels.now }
-    ensures { result ≡ (eqb (component components.now p).kind wire
+pub fn is_inferred(
+    components: ComponentList,
+    p: usize,
+    quiet: bool,
+    network: &Network,
+    m: usize,
+) -> bool
+    requires { (p < component_count components.numbers.now) × (m < length network.now.labels.now) }
+    ensures { result ≡ (eqb (component components.entry.numbers.now p).kind wire
         && (quiet && few_near network.now.forward.keys.now network.now.backward.keys.now network.now.labels.now m)) }
 {
-    let kind = natural_at(components, p * COMPONENT + 4);
-    (kind == WIRE) & quiet && few_neighbours(network, m)
+    (components.kind(p) == WIRE) & quiet && few_neighbours(network, m)
 }

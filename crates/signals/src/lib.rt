@@ -1,7 +1,7 @@
 // What the port connections of a scene say of its components, stage by stage: tables of signal edges, regions, the pairs of regions that
 // an edge leads from and to, inferred inputs. Crate assessment goes on from there, and the entry that joins them is crate liveness.
-// `PortConnections ports` and `Rows` stand at each stage that is lent such a list: the tables are built stage by stage, so that no struct
-// holds all of them before the last.
+// `Rows` stands at each stage that is lent such a table: the tables are built stage by stage, so that no struct holds all of them before
+// the last.
 #![tactic(auto)]
 
 pub mod crossings;

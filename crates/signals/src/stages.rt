@@ -6,7 +6,6 @@ ghost use Rattle.lists.specs.Limits.{component_limit};
 ghost use Rattle.lists.specs.Records.{component_count, port_count};
 ghost use Rattle.lists.specs.Ids.{IdTable, IsIdTable, member_of, first_repeated};
 ghost use Rattle.lists.specs.Ends.{Settled, SettledEnds, sources_of, sinks_of};
-ghost use Rattle.lists.specs.Within.{PortConnections};
 ghost use Rattle.lists.specs.First.{some};
 ghost use Rattle.regions.specs.Keys.{edges, Reversed};
 ghost use Rattle.regions.specs.Graph.{marked};
@@ -19,6 +18,7 @@ use super::edges::{PORTS, flag_sinks, list_keys, settle_slots, signal_keys, turn
 use super::flags::count_into;
 use lists::ends::Ends;
 use lists::ids::place_at;
+use lists::views::PortList;
 use lists::{COMPONENTS, CONNECTIONS};
 use regions::{Graph, HINTED};
 use tables::SPAN;
@@ -26,18 +26,18 @@ use tables::SPAN;
 // Sorts the signal edges into a table, forward, given their settled ends; backward are the same edges turned round. Leaves hints of where
 // the rows of each end.
 pub fn build_tables(
-    ports: &[i64],
+    ports: PortList,
     ends: &[Ends],
     forward: &mut [u64],
     backward: &mut [u64],
     forward_ends: &mut [usize; HINTED],
     backward_ends: &mut [usize; HINTED],
 )
-    requires port_connections { PortConnections ports.now
-        × ((cs : List ℤ) × ((component_count cs ≤ component_limit) × SettledEnds cs ports.now (sources_of ends.now) (sinks_of ends.now))) }
-    requires forward_len { (length forward.old ≡ port_count ports.now) × (length backward.old ≡ port_count ports.now) }
-    ensures { (cs : List ℤ) → SettledEnds cs ports.now (sources_of ends.now) (sinks_of ends.now) →
-        Tables cs ports.now (sources_of ends.now) (sinks_of ends.now) forward.new backward.new }
+    requires settled { (cs : List ℤ) × ((component_count cs ≤ component_limit)
+        × SettledEnds cs ports.numbers.now (sources_of ends.now) (sinks_of ends.now)) }
+    requires forward_len { (length forward.old ≡ port_count ports.numbers.now) × (length backward.old ≡ port_count ports.numbers.now) }
+    ensures { (cs : List ℤ) → SettledEnds cs ports.entry.numbers.now (sources_of ends.now) (sinks_of ends.now) →
+        Tables cs ports.entry.numbers.now (sources_of ends.now) (sinks_of ends.now) forward.new backward.new }
 {
     let mut spare = [0u64; CONNECTIONS];
     list_keys(ports, ends, COMPONENTS, forward);
@@ -46,12 +46,11 @@ pub fn build_tables(
 }
 
 // Sorts the signal edges by the port that they feed, given their settled ends.
-pub fn build_fed(ports: &[i64], ends: &[Ends], fed: &mut [u64])
-    requires port_connections { PortConnections ports.now
-        × ((cs : List ℤ) × ((component_count cs ≤ component_limit)
-        × (Settled cs ports.now 0 (sources_of ends.now) × Settled cs ports.now 2 (sinks_of ends.now)))) }
-    requires ports_in_bounds { (port_count ports.now ≤ length ends.now) × (length fed.old ≡ port_count ports.now) }
-    ensures { FedTable ports.now (sources_of ends.now) (sinks_of ends.now) fed.new }
+pub fn build_fed(ports: PortList, ends: &[Ends], fed: &mut [u64])
+    requires settled { (cs : List ℤ) × ((component_count cs ≤ component_limit)
+        × (Settled cs ports.numbers.now 0 (sources_of ends.now) × Settled cs ports.numbers.now 2 (sinks_of ends.now))) }
+    requires ports_in_bounds { (port_count ports.numbers.now ≤ length ends.now) × (length fed.old ≡ port_count ports.numbers.now) }
+    ensures { FedTable ports.entry.numbers.now (sources_of ends.now) (sinks_of ends.now) fed.new }
 {
     let mut feeds = [Ends { source: 0, sink: 0 }; CONNECTIONS];
     let mut spare = [0u64; CONNECTIONS];

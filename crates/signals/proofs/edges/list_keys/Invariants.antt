@@ -7,4 +7,4 @@ use Rattle.signals.specs.Keys.{signal_key}
 use Rattle.signals.proofs.edges.list_keys.Given as goal
 
 abbrev pub invariant-loop-k : goal.invariant-loop-k
-invariant-loop-k l = (j : ℕ) → j < l.k → get_or l.keys j 0 ≡ signal_key (is_signal l.ports j) (get_or l.ends j none).source (get_or l.ends j none).sink l.nowhere
+invariant-loop-k l = (j : ℕ) → j < l.k → get_or l.keys j 0 ≡ signal_key (is_signal l.ports.numbers.now j) (get_or l.ends j none).source (get_or l.ends j none).sink l.nowhere

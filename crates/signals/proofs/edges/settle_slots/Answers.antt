@@ -1,8 +1,6 @@
 -- Answers for the goals that the search leaves.
 use Rattle.std.proofs.Common.{◌≤◌, get_or, arith}
-use mathlib.Core.Path.{refl}
 use Rattle.lists.specs.Limits.{component_limit}
-use Rattle.lists.proofs.Fields.{field_most}
 use Rattle.lists.proofs.EndLaws.{none, source_of, sink_of}
 use Rattle.signals.proofs.edges.settle_slots.Goals as goal
 use Rattle.signals.proofs.edges.settle_slots.Goals.{In-loop-k}
@@ -15,8 +13,7 @@ pub overflow_mul-fed : goal.overflow_mul-fed
 overflow_mul-fed c = omega (arith, sink_small (goal.at.overflow_mul-fed c).In-loop-k)
 
 pub overflow_add-fed : goal.overflow_add-fed
-overflow_add-fed c =
-    omega (arith, sink_small (goal.at.overflow_add-fed c).In-loop-k, c.natural_at-port.ensures, field_most c.requires.port_connections c.loop-k.k 3 c.loop-k-test.true (omega arith) 255 refl refl)
+overflow_add-fed c = omega (arith, sink_small (goal.at.overflow_add-fed c).In-loop-k, c.sink_port-port.ensures.1)
 
 pub returns : goal.returns
 returns c =

@@ -10,5 +10,5 @@ abbrev pub invariant-loop-k : goal.invariant-loop-k
 invariant-loop-k l =
     (length l.fed ≡ length l.initial.fed)
     × ((j : ℕ) → j < l.k →
-    ((get_or l.fed j none).source ≡ slot (get_or l.ends j none).sink (port_connection l.ports j).sink_port_of)
+    ((get_or l.fed j none).source ≡ slot (get_or l.ends j none).sink (port_connection l.ports.numbers.now j).sink_port_of)
     × ((get_or l.fed j none).sink ≡ (get_or l.ends j none).source))

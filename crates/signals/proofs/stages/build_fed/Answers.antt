@@ -23,15 +23,15 @@ same_keys ps firsts seconds others nowhere same =
     listed_keys ps firsts others nowhere (tab_length key (port_count ps)) (λ k h. tab_at key (port_count ps) k h ∙ rw (same k h))
 
 pub settle_slots-requires-clause-by_index : goal.settle_slots-requires-clause-by_index
-settle_slots-requires-clause-by_index c = let ends = c.requires.port_connections.1.1 in settled_small ends.0 ends.1.1
+settle_slots-requires-clause-by_index c = let ends = c.requires.settled.1 in settled_small ends.0 ends.1.1
 
 pub signal_keys-requires-clause-sortable : goal.signal_keys-requires-clause-sortable
 signal_keys-requires-clause-sortable c =
-    let ends = c.requires.port_connections.1.1 in
-    let few = c.requires.port_connections.0.few in
+    let ends = c.requires.settled.1 in
+    let few = c.args.ports.within.few in
     let fed = c.settle_slots.new.fed in
     let s =
-    sortable_slots ends.0 c.requires.port_connections.0 ends.1.0 ends.1.1 c.settle_slots.ensures.slots
+    sortable_slots ends.0 c.args.ports.within ends.1.0 ends.1.1 c.settle_slots.ensures.slots
     (omega (arith, few, c.settle_slots.auto.fed, sources_length fed)) (omega (arith, c.requires.ports_in_bounds.0, sources_length c.args.ends.now)) in
     record {
       firsts_long = s.firsts_long;
@@ -47,5 +47,5 @@ returns c =
     record {
       slots = sources_of fed;
       slots_are = c.settle_slots.ensures.slots;
-      fed_keys = record { sorted = rw (same_keys c.args.ports.now (sources_of fed) (sinks_of fed) (sources_of c.args.ends.now) _ c.settle_slots.ensures.sources) at c.signal_keys.ensures.sorted };
+      fed_keys = record { sorted = rw (same_keys c.args.ports.numbers.now (sources_of fed) (sinks_of fed) (sources_of c.args.ends.now) _ c.settle_slots.ensures.sources) at c.signal_keys.ensures.sorted };
     }

@@ -15,9 +15,9 @@ use Rattle.signals.proofs.Graph.{settled_small, sortable_members}
 use Rattle.signals.proofs.Turned.{keys_below, turned_keys_of}
 use Rattle.signals.proofs.stages.build_tables.Goals as goal
 
-pub list_keys-requires-clause-sortable : goal.list_keys-requires-clause-sortable
-list_keys-requires-clause-sortable c =
-    let (few, ends) = c.requires.port_connections.1.1 in
+pub list_keys-requires : goal.list_keys-requires
+list_keys-requires c =
+    let (few, ends) = c.requires.settled.1 in
     (sortable_members few ends.source_members ends.sink_members ends.sources_long ends.sinks_long, c.requires.forward_len.0)
 
 -- both ends of each connection are at most the limit
@@ -35,25 +35,25 @@ below ps sources sinks cs few ends m e =
 pub sort_edges-requires-clause-counts_len_bound : goal.sort_edges-requires-clause-counts_len_bound
 sort_edges-requires-clause-counts_len_bound c =
     let a = c.args in
-    let (cs, small) = c.requires.port_connections.1 in (
+    let (cs, small) = c.requires.settled in (
       omega (arith, c.told-forward_ends),
-      rw c.list_keys.ensures (below a.ports.now (sources_of a.ends.now) (sinks_of a.ends.now) cs small.0 small.1 _ c.told-forward_ends),
+      rw c.list_keys.ensures (below a.ports.numbers.now (sources_of a.ends.now) (sinks_of a.ends.now) cs small.0 small.1 _ c.told-forward_ends),
     )
 
 pub turned_keys-requires-clause-ascending : goal.turned_keys-requires-clause-ascending
 turned_keys-requires-clause-ascending c =
     let a = c.args in
-    let (cs, small) = c.requires.port_connections.1 in
+    let (cs, small) = c.requires.settled in
     let sorted = rw c.list_keys.ensures at c.sort_edges.ensures in
-    (sorted.ascending, (omega (arith, c.told-backward_ends), below_rearranged sorted.rearranged (below a.ports.now (sources_of a.ends.now) (sinks_of a.ends.now) cs small.0 small.1 _ c.told-backward_ends)))
+    (sorted.ascending, (omega (arith, c.told-backward_ends), below_rearranged sorted.rearranged (below a.ports.numbers.now (sources_of a.ends.now) (sinks_of a.ends.now) cs small.0 small.1 _ c.told-backward_ends)))
 
 pub returns : goal.returns
 returns c cs ends =
     let a = c.args in
-    let (settled, known) = c.requires.port_connections.1 in
-    let small = low a.ports.now (sources_of a.ends.now) (sinks_of a.ends.now) settled known.0 known.1 in
+    let (settled, known) = c.requires.settled in
+    let small = low a.ports.numbers.now (sources_of a.ends.now) (sinks_of a.ends.now) settled known.0 known.1 in
     -- the table forward
-    let forward : KeysOf a.ports.now (sources_of a.ends.now) (sinks_of a.ends.now) component_limit c.sort_edges.new.keys =
+    let forward : KeysOf a.ports.numbers.now (sources_of a.ends.now) (sinks_of a.ends.now) component_limit c.sort_edges.new.keys =
     record { sorted = rw c.list_keys.ensures at c.sort_edges.ensures } in
     record {
       source_members = ends.source_members;
