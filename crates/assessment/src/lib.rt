@@ -1,6 +1,5 @@
 // Drive sources, source rows and verdict rows of a scene whose regions are known, and what is upstream of each region.
-// `Components components`, bounds of places and of lent slices stand at each function that takes them: a list, a place and a slice are
-// lent apart, and a struct around one of them says no less.
+// Bounds of places and of lent slices stand at each function that takes them: a list, a place and a slice are lent apart.
 #![tactic(auto)]
 
 pub mod slots;

@@ -5,7 +5,6 @@ ghost use Rattle.lists.specs.Limits.{component_limit};
 ghost use Rattle.lists.specs.Records.{component_count, port_count};
 ghost use Rattle.lists.specs.Ids.{member_of, first_end_missing};
 ghost use Rattle.lists.specs.Ends.{Settled, sources_of, sinks_of};
-ghost use Rattle.lists.specs.Within.{Components, PortConnections};
 ghost use Rattle.regions.specs.Graph.{marked};
 ghost use Rattle.signals.specs.Signals.{is_signal};
 ghost use Rattle.signals.specs.Flags.{Numbers, Indices};
@@ -15,10 +14,10 @@ ghost use Rattle.assessment.specs.Rows.{Put, Scanned, NoneRequired, rows_of, row
 ghost use Rattle.assessment.specs.Places.{slot_of, slot_count, slot_at, SlotRoom, SlotFlags, Unmarked, LiveMarks, status_at, status_number};
 
 use super::verdicts::required_ports;
+use lists::COMPONENTS;
 use lists::ends::Ends;
 use lists::ids::SUPPORT;
-use lists::numbers::natural_at;
-use lists::{COMPONENT, COMPONENTS, PORT};
+use lists::views::{ComponentList, PortList};
 
 // A member has a slot for each port below this: no port past them has a verdict row.
 const PLACES: usize = 8;
@@ -54,14 +53,14 @@ impl From<Status> for u64 {
 }
 
 // The slot of the port that port connection k feeds: none, where it is a support or feeds a port past the places.
-fn slot_at(ports: &[i64], k: usize, sink: usize) -> Option<usize>
-    requires port_connections { PortConnections ports.now × (k < port_count ports.now) }
-    requires sink_lt_component_limit { is_signal ports.now k ≡ true → sink < component_limit }
-    ensures slot { result ≡ slot_at ports.now k sink }
+fn slot_at(ports: PortList, k: usize, sink: usize) -> Option<usize>
+    requires k_bound { k < port_count ports.numbers.now }
+    requires sink_lt_component_limit { is_signal ports.numbers.now k ≡ true → sink < component_limit }
+    ensures slot { result ≡ slot_at ports.entry.numbers.now k sink }
     ensures below { (j : ℕ) → result ≡ Some j → j < slot_count }
 {
-    let port = natural_at(ports, k * PORT + 3) as usize;
-    if natural_at(ports, k * PORT + 4) == SUPPORT {
+    let port = ports.sink_port(k) as usize;
+    if ports.transfer(k) == SUPPORT {
         return None;
     }
     if PLACES <= port {
@@ -79,15 +78,15 @@ fn mark_at(flags: &[bool], i: usize) -> bool
 
 impl Slots {
     // Marks the slots that are fed, and those fed from a marked source; none is marked before.
-    fn mark(&mut self, ports: &[i64], ends: &[Ends], drive: &[bool], potential: &[bool])
-        requires port_connections { PortConnections ports.now × SignalEnds component_limit ports.now (sinks_of ends.now) }
-        requires ends_in_bounds { port_count ports.now ≤ length ends.now }
+    fn mark(&mut self, ports: PortList, ends: &[Ends], drive: &[bool], potential: &[bool])
+        requires signal_ends { SignalEnds component_limit ports.numbers.now (sinks_of ends.now) }
+        requires ends_in_bounds { port_count ports.numbers.now ≤ length ends.now }
         requires none_marked { Unmarked self.old.fed self.old.driven self.old.possible }
         ensures room { SlotRoom self.new.fed self.new.driven self.new.possible }
-        ensures marked { SlotFlags (port_count ports.now) ports.now (sources_of ends.now) (sinks_of ends.now) drive.now potential.now
+        ensures marked { SlotFlags (port_count ports.entry.numbers.now) ports.entry.numbers.now (sources_of ends.now) (sinks_of ends.now) drive.now potential.now
             self.new.fed self.new.driven self.new.possible }
     {
-        for k in 0..ports.len() / PORT {
+        for k in 0..ports.count() {
             let Ends { source, sink } = ends[k];
             if let Some(j) = slot_at(ports, k, sink) {
                 self.fed[j] = true;
@@ -147,29 +146,33 @@ fn put_ports(id: u64, kind: u64, member: usize, slots: &Slots, out: &mut [u64], 
 
 // Writes the rows of all components, in list order, and answers how many there are. Not one with `put_sources`: they share a loop of three
 // lines, and the clauses of a closure that writes a component's rows would be longer.
-fn put_rows(components: &[i64], members: &[usize], slots: &Slots, out: &mut [u64]) -> usize
-    requires components { Components components.now × Indices (component_count components.now) component_limit members.now }
-    requires out_len { 12 * component_count components.now ≤ length out.old }
-    ensures { Scanned (rows_below components.now
+fn put_rows(components: ComponentList, members: &[usize], slots: &Slots, out: &mut [u64]) -> usize
+    requires members { Indices (component_count components.numbers.now) component_limit members.now }
+    requires out_len { 12 * component_count components.numbers.now ≤ length out.old }
+    ensures { Scanned (rows_below components.entry.numbers.now
         (λ p port. status_at slots.now.fed slots.now.driven slots.now.possible (slot_of (get_or members.now p 0) port))
-        (component_count components.now)) 3 out.old out.new result }
+        (component_count components.entry.numbers.now)) 3 out.old out.new result }
 {
     let mut at = 0;
-    for p in 0..components.len() / COMPONENT {
-        let id = natural_at(components, p * COMPONENT);
-        let kind = natural_at(components, p * COMPONENT + 4);
-        at = put_ports(id, kind, members[p], slots, out, at);
+    for p in 0..components.count() {
+        at = put_ports(
+            components.id(p),
+            components.kind(p),
+            members[p],
+            slots,
+            out,
+            at,
+        );
     }
     at / 3
 }
 
 // Whether some component may have a port with a verdict row.
-fn any_required(components: &[i64]) -> bool
-    requires { Components components.now }
-    ensures { result ≡ false → NoneRequired components.now }
+fn any_required(components: ComponentList) -> bool
+    ensures { result ≡ false → NoneRequired components.entry.numbers.now }
 {
-    for p in 0..components.len() / COMPONENT {
-        if !required_ports(natural_at(components, p * COMPONENT + 4)).is_empty() {
+    for p in 0..components.count() {
+        if !required_ports(components.kind(p)).is_empty() {
             return true;
         }
     }
@@ -179,21 +182,21 @@ fn any_required(components: &[i64]) -> bool
 // Writes the verdict rows of all components, in list order, and answers how many there are: given each component's member, the members at
 // the ends of each port connection, and the members that are driven and those that may be.
 pub fn write_verdicts(
-    components: &[i64],
+    components: ComponentList,
     members: &[usize],
-    ports: &[i64],
+    ports: PortList,
     ends: &[Ends],
     drive: &[bool],
     potential: &[bool],
     out: &mut [u64],
 ) -> usize
-    requires components { Components components.now × (PortConnections ports.now × (first_end_missing components.now ports.now ≡ None)) }
-    requires settled { Settled components.now ports.now 0 (sources_of ends.now) × Settled components.now ports.now 2 (sinks_of ends.now) }
-    requires ports_in_bounds { port_count ports.now ≤ length ends.now }
-    requires numbers { Numbers (component_count components.now) (member_of components.now) members.now
-        × (12 * component_count components.now ≤ length out.old) }
-    ensures { (fs : List ℤ) → LiveMarks components.now ports.now fs drive.now potential.now →
-        Scanned (input_rows components.now ports.now fs) 3 out.old out.new result }
+    requires ends { first_end_missing components.numbers.now ports.numbers.now ≡ None }
+    requires settled { Settled components.numbers.now ports.numbers.now 0 (sources_of ends.now) × Settled components.numbers.now ports.numbers.now 2 (sinks_of ends.now) }
+    requires ports_in_bounds { port_count ports.numbers.now ≤ length ends.now }
+    requires numbers { Numbers (component_count components.numbers.now) (member_of components.numbers.now) members.now
+        × (12 * component_count components.numbers.now ≤ length out.old) }
+    ensures { (fs : List ℤ) → LiveMarks components.entry.numbers.now ports.entry.numbers.now fs drive.now potential.now →
+        Scanned (input_rows components.entry.numbers.now ports.entry.numbers.now fs) 3 out.old out.new result }
 {
     // A plot of wires alone needs no flags.
     if !any_required(components) {

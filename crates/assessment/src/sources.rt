@@ -4,7 +4,6 @@ ghost use Rattle.std.specs.Prelude.{◌≡◌, ℕ, ◌≤◌, ◌<◌, length, 
 ghost use Rattle.lists.specs.Limits.{component_width};
 ghost use Rattle.lists.specs.Order.{first_not_ascending, component_order};
 ghost use Rattle.lists.specs.Records.{component, frontier, component_count, frontier_count};
-ghost use Rattle.lists.specs.Within.{Components};
 ghost use Rattle.signals.specs.Sources.{source_kind, same_position, before_position, Parted, first_at, is_on_frontier};
 ghost use Rattle.lists.specs.First.{is_found};
 ghost use Rattle.regions.specs.Graph.{marked};
@@ -13,7 +12,7 @@ ghost use Rattle.std.specs.Option.{option_map};
 ghost use Rattle.assessment.specs.Rows.{source_number};
 
 use lists::kinds::BlockKind;
-use lists::numbers::natural_at;
+use lists::views::ComponentList;
 use lists::{COMPONENT, FRONTIER};
 
 // Why a component is a source, in the order of its numbers in source rows.
@@ -119,22 +118,21 @@ pub fn frontier_flags(components: &[i64], frontiers: &[i64], flags: &mut [bool])
 }
 
 // Whether component p is a drive source, given whether it is on a frontier.
-fn is_drive(components: &[i64], p: usize, on_frontier: bool) -> bool
-    requires { Components components.now × (p < component_count components.now) }
-    ensures { result ≡ (is_found (source_kind (component components.now p).kind) || on_frontier) }
+fn is_drive(components: ComponentList, p: usize, on_frontier: bool) -> bool
+    requires { p < component_count components.numbers.now }
+    ensures { result ≡ (is_found (source_kind (component components.entry.numbers.now p).kind) || on_frontier) }
 {
-    source_kind(natural_at(components, p * COMPONENT + 4)).is_some() || on_frontier
+    source_kind(components.kind(p)).is_some() || on_frontier
 }
 
 // Flags the drive sources, given those on frontiers.
-pub fn drive_flags(components: &[i64], on_frontier: &[bool], flags: &mut [bool])
-    requires components { Components components.now }
-    requires components_in_bounds { (component_count components.now ≤ length on_frontier.now)
-        × (component_count components.now ≤ length flags.old) }
-    ensures { Flags (component_count components.now)
-        (λ p. is_found (source_kind (component components.now p).kind) || marked on_frontier.now p) flags.new }
+pub fn drive_flags(components: ComponentList, on_frontier: &[bool], flags: &mut [bool])
+    requires components_in_bounds { (component_count components.numbers.now ≤ length on_frontier.now)
+        × (component_count components.numbers.now ≤ length flags.old) }
+    ensures { Flags (component_count components.entry.numbers.now)
+        (λ p. is_found (source_kind (component components.entry.numbers.now p).kind) || marked on_frontier.now p) flags.new }
 {
-    for p in 0..components.len() / COMPONENT {
+    for p in 0..components.count() {
         flags[p] = is_drive(components, p, on_frontier[p]);
     }
 }

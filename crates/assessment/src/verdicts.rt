@@ -3,7 +3,6 @@ ghost use Rattle.std.specs.Prelude.{◌≡◌, true, false, ◌+◌, ◌*◌, �
 ghost use Rattle.tables.specs.Order.{Ascending, LowerBound};
 ghost use Rattle.tables.specs.Pairs.{span};
 ghost use Rattle.lists.specs.Records.{component_count};
-ghost use Rattle.lists.specs.Within.{Components};
 ghost use Rattle.std.specs.Option.{option_map};
 ghost use Rattle.signals.specs.Sources.{source_kind};
 ghost use Rattle.assessment.specs.Verdicts.{kind_row};
@@ -11,9 +10,8 @@ ghost use Rattle.assessment.specs.Rows.{Put, first_required, required_count, slo
 ghost use Rattle.assessment.specs.Rows.{source_number, sources_of, sources_below, InferredAlone};
 
 use super::sources::{SourceKind, source_kind};
-use lists::COMPONENT;
 use lists::kinds::BlockKind;
-use lists::numbers::natural_at;
+use lists::views::ComponentList;
 use std::ops::Range;
 use tables::SPAN;
 
@@ -75,23 +73,22 @@ fn put_component(
 
 // Writes the source rows of all components, in list order, and answers how many there are.
 pub fn put_sources(
-    components: &[i64],
+    components: ComponentList,
     on_frontier: &[bool],
     inferred: &[bool],
     out: &mut [u64],
 ) -> usize
-    requires components { Components components.now }
-    requires components_in_bounds { (component_count components.now ≤ length on_frontier.now)
-        × (component_count components.now ≤ length inferred.now) }
-    requires inferred_alone { InferredAlone components.now on_frontier.now inferred.now
-        × (4 * component_count components.now ≤ length out.old) }
-    ensures { Scanned (sources_below components.now on_frontier.now inferred.now (component_count components.now))
+    requires components_in_bounds { (component_count components.numbers.now ≤ length on_frontier.now)
+        × (component_count components.numbers.now ≤ length inferred.now) }
+    requires inferred_alone { InferredAlone components.numbers.now on_frontier.now inferred.now
+        × (4 * component_count components.numbers.now ≤ length out.old) }
+    ensures { Scanned (sources_below components.entry.numbers.now on_frontier.now inferred.now (component_count components.entry.numbers.now))
         2 out.old out.new result }
 {
     let mut at = 0;
-    for p in 0..components.len() / COMPONENT {
-        let id = natural_at(components, p * COMPONENT);
-        let kind = natural_at(components, p * COMPONENT + 4);
+    for p in 0..components.count() {
+        let id = components.id(p);
+        let kind = components.kind(p);
         at = put_component(out, at, id, kind, on_frontier[p], inferred[p]);
     }
     at / 2

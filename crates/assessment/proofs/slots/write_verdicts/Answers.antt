@@ -16,20 +16,20 @@ pub returns-then-not-any_required : goal.returns-then-not-any_required
 returns-then-not-any_required c fs live =
     let none = c.any_required.ensures (c.if-not-any_required.true) in
     subst (λ (l : List ℕ). Scanned l 3 c.args.out.now c.args.out.now 0)
-    (sym (no_rows c.args.components.now c.args.ports.now fs none _ (omega arith)))
+    (sym (no_rows c.args.components.numbers.now c.args.ports.numbers.now fs none _ (omega arith)))
     (record { is = refl; count = refl })
 
-pub mark-requires-clause-port_connections : goal.mark-requires-clause-port_connections
-mark-requires-clause-port_connections c =
-    let few = c.requires.components.0.few in
-    let ends = sink_ends few c.requires.settled.0 c.requires.settled.1 (ends_within _ _ c.requires.components.1.1) (omega (arith, c.requires.ports_in_bounds, sinks_length c.args.ends.now)) in
-    (c.requires.components.1.0, record { long = ends.long; below = λ k h signal. omega (arith, ends.below k h signal, few) })
+pub mark-requires-clause-signal_ends : goal.mark-requires-clause-signal_ends
+mark-requires-clause-signal_ends c =
+    let few = c.args.components.within.few in
+    let ends = sink_ends few c.requires.settled.0 c.requires.settled.1 (ends_within _ _ c.requires.ends) (omega (arith, c.requires.ports_in_bounds, sinks_length c.args.ends.now)) in
+    record { long = ends.long; below = λ k h signal. omega (arith, ends.below k h signal, few) }
 
-pub put_rows-requires-clause-components : goal.put_rows-requires-clause-components
-put_rows-requires-clause-components c = (c.requires.components.0, members_within _ c.requires.components.0.few c.requires.numbers.0)
+pub put_rows-requires-clause-members : goal.put_rows-requires-clause-members
+put_rows-requires-clause-members c = members_within _ c.args.components.within.few c.requires.numbers.0
 
 pub returns : goal.returns
 returns c fs live =
     subst (λ (l : List ℕ). Scanned l 3 c.args.out.now c.put_rows.new.out c.put_rows.result)
-    (verdicts_are c.requires.components.0.few c.requires.settled.0 c.requires.settled.1 c.requires.components.1.1 c.requires.numbers.0 c.mark.ensures.marked c.mark.ensures.room fs live)
+    (verdicts_are c.args.components.within.few c.requires.settled.0 c.requires.settled.1 c.requires.ends c.requires.numbers.0 c.mark.ensures.marked c.mark.ensures.room fs live)
     c.put_rows.ensures

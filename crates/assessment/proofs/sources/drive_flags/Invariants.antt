@@ -9,4 +9,4 @@ use Rattle.signals.specs.Sources.{source_kind}
 use Rattle.assessment.proofs.sources.drive_flags.Given as goal
 
 abbrev pub invariant-loop-p : goal.invariant-loop-p
-invariant-loop-p l = Flags l.p (λ q. is_found (source_kind (component l.components q).kind) || marked l.on_frontier q) l.flags
+invariant-loop-p l = Flags l.p (λ q. is_found (source_kind (component l.components.numbers.now q).kind) || marked l.on_frontier q) l.flags

@@ -22,7 +22,7 @@ loop-k-preserved c =
     let l = c.loop-k in
     let room = l.invariant.room in
     let ends = c.args.ends.now in
-    let ps = c.args.ports.now in
+    let ps = c.args.ports.numbers.now in
     let slot : c.slot_at.result ≡ slot_at ps l.k (get_or (sinks_of ends) l.k 0) = c.slot_at.ensures.slot ∙ ap (slot_at ps l.k) (sym (sink_of ends l.k)) in
     elim c.match-slot_at.branch [
       | in-Some w ↦ rw w.self-is record {
