@@ -37,11 +37,11 @@ pub fn width(block: Block) -> usize
     ensures { (result ≡ length (block_keys block)) × (0 < result) }
 {
     match block {
-        Block::Components => 6,
-        Block::Connections => 5,
-        Block::Regions => 2,
-        Block::Sources => 2,
-        Block::Inputs => 3,
+        Block::Components => COMPONENT_KEYS.len(),
+        Block::Connections => CONNECTION_KEYS.len(),
+        Block::Regions => REGION_KEYS.len(),
+        Block::Sources => SOURCE_KEYS.len(),
+        Block::Inputs => INPUT_KEYS.len(),
     }
 }
 
@@ -50,11 +50,11 @@ fn field_key(block: Block, k: usize) -> &'static [u8]
     ensures { result.now ≡ field_key (block_keys block) k }
 {
     match block {
-        Block::Components => COMPONENT_KEYS[k % 6],
-        Block::Connections => CONNECTION_KEYS[k % 5],
-        Block::Regions => REGION_KEYS[k % 2],
-        Block::Sources => SOURCE_KEYS[k % 2],
-        Block::Inputs => INPUT_KEYS[k % 3],
+        Block::Components => COMPONENT_KEYS[k % COMPONENT_KEYS.len()],
+        Block::Connections => CONNECTION_KEYS[k % CONNECTION_KEYS.len()],
+        Block::Regions => REGION_KEYS[k % REGION_KEYS.len()],
+        Block::Sources => SOURCE_KEYS[k % SOURCE_KEYS.len()],
+        Block::Inputs => INPUT_KEYS[k % INPUT_KEYS.len()],
     }
 }
 

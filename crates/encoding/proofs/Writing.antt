@@ -10,9 +10,9 @@ use Prim.Native.Nat.{ℕ, zero, suc, ◌+◌, ◌*◌, ◌/◌, ◌-◌, ◌^◌
 use native.Mathlib.Nat.{pow-suc}
 use native.Mathlib.Numerals.{add-one}
 use native.Mathlib.Omega.{arith}
-use lib.ListN.{length, get_or, take, drop, length-append, length-take, length-drop, drop_of_length-le}
-use lib.Seq.{take_all, take-suc}
-use borrow.Rule.Slice.PartMut.{mid_of, put_mid}
+use lib.ListN.{length, get_or, take, drop, length-append, length-take}
+use lib.Seq.{take-suc, take-append_seam, drop_at, drop-drop}
+use borrow.Rule.Slice.PartMut.{put_mid}
 use Rattle.lists.specs.Slices.{laid}
 use Rattle.encoding.specs.Bytes.{number_bytes, little_endian, low_bytes, bytes_of}
 use Rattle.encoding.proofs.Laid.{laid_then}
@@ -39,21 +39,15 @@ unfolding bytes_of
 length_bytes [] = refl
 length_bytes (n ∷ ns) = length-append (low_bytes number_bytes n) (bytes_of ns) ∙ omega (arith, length_low number_bytes n, length_bytes ns)
 
--- a slice is lent from `a` on, and rows are laid at the front of that part
-pub rest_back : (a : ℕ) (xs ys rows : List ℕ) → ys ≡ laid rows (mid_of a (length xs - a) xs) → put_mid a (length xs - a) xs ys ≡ take a xs ++ laid rows (drop a xs)
-rest_back a xs ys rows e =
-    let whole = take_all (length xs - a) (drop a xs) (omega (arith, length-drop a xs)) in
-    let nothing = drop_of_length-le (drop a xs) {i = length xs - a} (omega (arith, length-drop a xs)) in
-    rw (e, whole, nothing, append-nil)
-
--- the bytes of one number more
-pub encode_more : (values out old ys : List ℕ) (k : ℕ) → k < length values → out ≡ laid (bytes_of (take k values)) old
-    → ys ≡ laid (low_bytes number_bytes (get_or values k 0)) (mid_of (k * number_bytes) (length out - k * number_bytes) out)
-    → put_mid (k * number_bytes) (length out - k * number_bytes) out ys ≡ laid (bytes_of (take (k + 1) values)) old
-encode_more values out old ys k h e f =
-    let passed : length (bytes_of (take k values)) ≡ k * number_bytes = omega (arith, length_bytes (take k values), length-take k values) in
-    rest_back (k * number_bytes) out ys (low_bytes number_bytes (get_or values k 0)) f
-    ∙ rw e (laid_then (bytes_of (take k values)) old (k * number_bytes) passed (low_bytes number_bytes (get_or values k 0)) ∙ rw (bytes_more values k h))
+-- the bytes of one number more, written after those of the first k
+pub encode_more : (values old out part : List ℕ) (k : ℕ) → k < length values → out ≡ laid (bytes_of (take k values)) old → part ≡ low_bytes number_bytes (get_or values k 0)
+    → put_mid (k * number_bytes) (k * number_bytes + number_bytes - k * number_bytes) out part ≡ laid (bytes_of (take (k + 1) values)) old
+encode_more values old out part k h e f =
+    let front = bytes_of (take k values) in
+    let size : length front ≡ k * number_bytes = omega (arith, length_bytes (take k values), length-take k values) in
+    let width : k * number_bytes + number_bytes - k * number_bytes ≡ number_bytes = omega arith in
+    let low = length_low number_bytes (get_or values k 0) in
+    rw (f, e, width, ← size, bytes_more values k h, length-append, low, append_assoc, take-append_seam, drop_at front (drop (length front) old) (length front) refl, drop-drop)
 
 -- the bytes of further numbers, written after those that stand at the front
 pub bytes_then : (ns ms old out out' : List ℕ) (k : ℕ) → length ns * number_bytes ≡ k → out ≡ laid (bytes_of ns) old

@@ -8,7 +8,7 @@ use lines::read::{read_number, skip_key};
 use lists::{COMPONENT, CONNECTION, FRONTIER, Section};
 
 // The keys of a record's fields, in order.
-const COMPONENT_KEYS: [&[u8]; 8] = [
+const COMPONENT_KEYS: [&[u8]; COMPONENT] = [
     b"id",
     b"x",
     b"y",
@@ -19,18 +19,18 @@ const COMPONENT_KEYS: [&[u8]; 8] = [
     b"conducts",
 ];
 
-const CONNECTION_KEYS: [&[u8]; 3] = [b"source", b"sink", b"kind"];
+const CONNECTION_KEYS: [&[u8]; CONNECTION] = [b"source", b"sink", b"kind"];
 
-const FRONTIER_KEYS: [&[u8]; 3] = [b"x", b"y", b"z"];
+const FRONTIER_KEYS: [&[u8]; FRONTIER] = [b"x", b"y", b"z"];
 
 // How many numbers a record has.
 pub fn width(section: Section) -> usize
     ensures { result ≡ length (keys_of section) }
 {
     match section {
-        Section::Components => COMPONENT,
-        Section::Connections => CONNECTION,
-        Section::Frontiers => FRONTIER,
+        Section::Components => COMPONENT_KEYS.len(),
+        Section::Connections => CONNECTION_KEYS.len(),
+        Section::Frontiers => FRONTIER_KEYS.len(),
     }
 }
 
@@ -50,9 +50,9 @@ fn field_key(section: Section, k: usize) -> &'static [u8]
     ensures { result.now ≡ field_key (keys_of section) k }
 {
     match section {
-        Section::Components => COMPONENT_KEYS[k % COMPONENT],
-        Section::Connections => CONNECTION_KEYS[k % CONNECTION],
-        Section::Frontiers => FRONTIER_KEYS[k % FRONTIER],
+        Section::Components => COMPONENT_KEYS[k % COMPONENT_KEYS.len()],
+        Section::Connections => CONNECTION_KEYS[k % CONNECTION_KEYS.len()],
+        Section::Frontiers => FRONTIER_KEYS[k % FRONTIER_KEYS.len()],
     }
 }
 

@@ -23,6 +23,7 @@ pub struct Place {
     pub end: usize,
 }
 
+// Not one generic struct with `Counts`: as a `pub type` of it neither has a name in definitions ("`..specs.declared` has no `Counts`").
 #[derive(Clone, Copy)]
 pub struct Places {
     pub components: Place,
