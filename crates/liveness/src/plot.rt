@@ -8,6 +8,7 @@ ghost use Rattle.liveness.specs.Scene.{Accepted, Prepared, Prepares, PreparedRoo
 
 use lists::COMPONENTS;
 use lists::ends::Ends;
+use lists::views::PortList;
 use regions::{Graph, HINTED};
 use signals::flags::spread;
 use signals::stages::{build_tables, find_regions, place_members};
@@ -78,8 +79,11 @@ impl<'a> Plot<'a> {
             forward.new backward.new labels.new work.new.members work.new.region_at stack.new result }
     {
         stack.fill(0);
+        let linked = PortList {
+            numbers: self.ports,
+        };
         build_tables(
-            self.ports,
+            linked,
             self.ends,
             forward,
             backward,

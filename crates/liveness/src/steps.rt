@@ -19,6 +19,7 @@ use super::plot::{Plot, PreparedPlot, Workspace};
 use assessment::slots::write_verdicts;
 use assessment::sources::{drive_flags, frontier_flags};
 use assessment::verdicts::put_sources;
+use lists::views::{ComponentList, PortList};
 use lists::{COMPONENT, COMPONENTS, CONNECTIONS, PORT};
 use regions::Graph;
 use sets::ComponentSet;
@@ -35,32 +36,29 @@ pub struct RowCounts {
 
 // Flags the components on frontiers, the drive sources, and the regions that hold one. Its slices stay: a prepared plot would ask more.
 pub fn flag_drive(
-    components: &[i64],
+    components: ComponentList,
     frontiers: &[i64],
     region_at: &[usize],
     on_frontier: &mut [bool],
     drive_at: &mut [bool],
     has_drive: &mut [bool],
 )
-    requires scene { (ps : List ℤ) × (Scene components.now ps
-        × Numbers (component_count components.now) (region_of_place components.now ps) region_at.now) }
-    requires components_in_bounds { (component_count components.now ≤ length on_frontier.old)
-        × ((component_count components.now ≤ length drive_at.old) × (length has_drive.old ≡ component_limit)) }
-    ensures { (ps : List ℤ) → Numbers (component_count components.now) (region_of_place components.now ps) region_at.now →
-        Driven components.now ps frontiers.now on_frontier.new drive_at.new has_drive.new }
+    requires scene { (ps : List ℤ) × (Scene components.numbers.now ps
+        × Numbers (component_count components.numbers.now) (region_of_place components.numbers.now ps) region_at.now) }
+    requires components_in_bounds { (component_count components.numbers.now ≤ length on_frontier.old)
+        × ((component_count components.numbers.now ≤ length drive_at.old) × (length has_drive.old ≡ component_limit)) }
+    ensures { (ps : List ℤ) → Numbers (component_count components.entry.numbers.now) (region_of_place components.entry.numbers.now ps) region_at.now →
+        Driven components.entry.numbers.now ps frontiers.now on_frontier.new drive_at.new has_drive.new }
 {
-    frontier_flags(components, frontiers, on_frontier);
+    frontier_flags(components.numbers, frontiers, on_frontier);
     drive_flags(components, on_frontier, drive_at);
-    gather(
-        &region_at[..components.len() / COMPONENT],
-        drive_at,
-        has_drive,
-    );
+    let n = components.numbers.len() / COMPONENT;
+    gather(&region_at[..n], drive_at, has_drive);
 }
 
 // Flags the inferred inputs, by list place. Its slices stay: a prepared plot would ask more.
 pub fn flag_inferred(
-    components: &[i64],
+    components: ComponentList,
     forward: Graph,
     backward: Graph,
     labels: &[usize],
@@ -70,12 +68,12 @@ pub fn flag_inferred(
     inferred: &mut [bool],
 )
     requires prepared_scene { (ps : List ℤ) ×
-        PreparedScene components.now ps forward.keys.now backward.keys.now labels.now members.now region_at.now }
-    requires has_drive_len { (length has_drive.now ≡ component_limit) × (component_count components.now ≤ length inferred.old) }
+        PreparedScene components.numbers.now ps forward.keys.now backward.keys.now labels.now members.now region_at.now }
+    requires has_drive_len { (length has_drive.now ≡ component_limit) × (component_count components.numbers.now ≤ length inferred.old) }
     ensures { (ps fs : List ℤ) →
-        PreparedScene components.now ps forward.entry.keys.now backward.entry.keys.now labels.now members.now region_at.now →
-        Flags component_limit (holds_drive components.now ps fs) has_drive.now →
-        Flags (component_count components.now) (is_inferred components.now ps fs) inferred.new }
+        PreparedScene components.entry.numbers.now ps forward.entry.keys.now backward.entry.keys.now labels.now members.now region_at.now →
+        Flags component_limit (holds_drive components.entry.numbers.now ps fs) has_drive.now →
+        Flags (component_count components.entry.numbers.now) (is_inferred components.entry.numbers.now ps fs) inferred.new }
 {
     let mut fed = [false; COMPONENTS];
     outside_regions(components, forward.keys, labels, members, &mut fed);
@@ -103,8 +101,11 @@ fn mark(
         Marked p.components.now p.ports.now p.frontiers.now on_frontier.new inferred.new has_drive.new drive.new potential.new }
 {
     let mut drive_at = [false; COMPONENTS];
+    let listed = ComponentList {
+        numbers: plot.plot.components,
+    };
     flag_drive(
-        plot.plot.components,
+        listed,
         plot.plot.frontiers,
         plot.region_at,
         on_frontier,
@@ -112,7 +113,7 @@ fn mark(
         has_drive,
     );
     flag_inferred(
-        plot.plot.components,
+        listed,
         plot.forward,
         plot.backward,
         plot.labels,
@@ -192,12 +193,18 @@ fn report(
         &mut potential[..n],
     );
     put_regions(n, plot.region_at, regions);
+    let listed = ComponentList {
+        numbers: lists.components,
+    };
+    let linked = PortList {
+        numbers: lists.ports,
+    };
     let counts = RowCounts {
-        sources: put_sources(lists.components, &on_frontier, &inferred, sources),
+        sources: put_sources(listed, &on_frontier, &inferred, sources),
         inputs: write_verdicts(
-            lists.components,
+            listed,
             plot.members,
-            lists.ports,
+            linked,
             lists.ends,
             &drive[..n],
             &potential[..n],

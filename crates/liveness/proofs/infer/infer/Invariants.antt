@@ -9,4 +9,4 @@ use Rattle.liveness.proofs.infer.infer.Given as goal
 abbrev pub invariant-loop-p : goal.invariant-loop-p
 invariant-loop-p l =
     let t = l.network in
-    (j : ℕ) → j < l.p → marked l.flags j ≡ inferred_by l.components l.members l.region_at l.has_drive l.fed t.forward.keys.now t.backward.keys.now t.labels.now j
+    (j : ℕ) → j < l.p → marked l.flags j ≡ inferred_by l.components.numbers.now l.members l.region_at l.has_drive l.fed t.forward.keys.now t.backward.keys.now t.labels.now j

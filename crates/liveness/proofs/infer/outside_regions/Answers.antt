@@ -20,11 +20,11 @@ use Rattle.liveness.proofs.infer.outside_regions.Goals as goal
 use Rattle.liveness.proofs.infer.outside_regions.Goals.{Start}
 
 -- the prepared scene
-abbrev scene : (c : Start) → PreparedScene c.args.components.now c.requires.by_index.0 c.args.forward.now c.requires.by_index.1 c.args.labels.now c.args.members.now c.requires.by_index.2
+abbrev scene : (c : Start) → PreparedScene c.args.components.numbers.now c.requires.by_index.0 c.args.forward.now c.requires.by_index.1 c.args.labels.now c.args.members.now c.requires.by_index.2
 scene c = c.requires.by_index.3
 
 -- as many labels as components
-labelled : (c : Start) → length c.args.labels.now ≡ component_count c.args.components.now
+labelled : (c : Start) → length c.args.labels.now ≡ component_count c.args.components.numbers.now
 labelled c = labels_long (scene c).scene (scene c).prepared
 
 small : (c : Start) → length c.args.labels.now ≤ component_limit
@@ -32,7 +32,7 @@ small c = omega (arith, labelled c, (scene c).scene.components.few)
 
 -- and no more than members
 lent : (c : Start) → length c.args.labels.now ≤ length c.args.members.now
-lent c = omega (arith, labelled c, (members_below c.args.components.now (scene c).prepared.members_are).long)
+lent c = omega (arith, labelled c, (members_below c.args.components.numbers.now (scene c).prepared.members_are).long)
 
 pub slice_bounds-passive-end : goal.slice_bounds-passive-end
 slice_bounds-passive-end c =
@@ -57,7 +57,7 @@ gather-requires-clause-tests_in_bounds c =
 pub gather-requires-clause-indices : goal.gather-requires-clause-indices
 gather-requires-clause-indices c =
     let s = (goal.at.gather-requires-clause-indices c).Start in
-    let below = members_below c.args.components.now (scene s).prepared.members_are in
+    let below = members_below c.args.components.numbers.now (scene s).prepared.members_are in
     let members : Indices (length c.args.labels.now) (length (take (length c.args.labels.now) (replicate component_limit false))) c.args.members.now =
     record {
       long = omega (arith, labelled s, below.long);
@@ -96,7 +96,7 @@ slice_bounds-flag_outside-end c = sym (whole (goal.at.slice_bounds-flag_outside-
 labels-below : (c : Start) → Indices (length c.args.labels.now) (length c.args.fed.now) c.args.labels.now
 labels-below c =
     subst (λ (l : List ℕ). Indices (length l) (length c.args.fed.now) l) (sym (scene c).prepared.labels_are)
-    (labels_under c.args.components.now c.requires.by_index.0 (scene c).scene.ends _
+    (labels_under c.args.components.numbers.now c.requires.by_index.0 (scene c).scene.ends _
     (omega (arith, (scene c).scene.components.few, c.requires.fed_len)))
 
 pub flag_outside-requires : goal.flag_outside-requires

@@ -23,10 +23,7 @@ use Rattle.liveness.proofs.steps.flag_drive.Goals as goal
 
 pub drive_flags-requires : goal.drive_flags-requires
 drive_flags-requires c =
-    record {
-      components = c.requires.scene.1.0.components;
-      components_in_bounds = (c.frontier_flags.ensures.long, c.requires.components_in_bounds.1.0);
-    }
+    record { components_in_bounds = (c.frontier_flags.ensures.long, c.requires.components_in_bounds.1.0) }
 
 -- each component's region has a flag
 regions_small : (cs ps : List ℤ) {region_at : List ℕ} {m : ℕ} → Scene cs ps → Numbers (component_count cs) (region_of_place cs ps) region_at → m ≡ component_limit
@@ -36,7 +33,7 @@ regions_small cs ps scene numbers e = places_under cs ps scene.ends _ (omega (ar
 pub gather-requires-clause-indices : goal.gather-requires-clause-indices
 gather-requires-clause-indices c =
     let (ps, (scene, numbers)) = c.requires.scene in
-    indices_front c.args.region_at.now (regions_small c.args.components.now ps scene numbers c.requires.components_in_bounds.1.1)
+    indices_front c.args.region_at.now (regions_small c.args.components.numbers.now ps scene numbers c.requires.components_in_bounds.1.1)
 
 -- a component on a frontier is a drive source
 drives_too : (cs fs : List ℤ) {frontier driven : List Bool} → Flags (component_count cs) (is_on_frontier cs fs) frontier
@@ -60,11 +57,11 @@ regions_driven cs ps fs long at_place driven g = record {
 pub returns : goal.returns
 returns c ps placed =
     let fs = c.args.frontiers.now in
-    let drives = drives_too c.args.components.now fs c.frontier_flags.ensures c.drive_flags.ensures in
+    let drives = drives_too c.args.components.numbers.now fs c.frontier_flags.ensures c.drive_flags.ensures in
     record {
       frontier_flags = c.frontier_flags.ensures;
       drive_flags = drives;
-      region_flags = regions_driven c.args.components.now ps fs (c.gather.auto.out ∙ c.requires.components_in_bounds.1.1) placed drives
+      region_flags = regions_driven c.args.components.numbers.now ps fs (c.gather.auto.out ∙ c.requires.components_in_bounds.1.1) placed drives
           (gathered_front c.args.region_at.now placed.long c.gather.ensures);
     }
 

@@ -18,12 +18,12 @@ pub infer-requires-clause-members_below : goal.infer-requires-clause-members_bel
 infer-requires-clause-members_below c =
     let scene = c.requires.prepared_scene.1.scene in
     let p = c.requires.prepared_scene.1.prepared in
-    indices_same (sym (labels_long scene p)) (members_below c.args.components.now p.members_are)
+    indices_same (sym (labels_long scene p)) (members_below c.args.components.numbers.now p.members_are)
 
 pub infer-requires-clause-regions_below : goal.infer-requires-clause-regions_below
 infer-requires-clause-regions_below c =
     let (ps, r) = c.requires.prepared_scene in
-    places_under c.args.components.now ps r.scene.ends _ (omega (arith, r.scene.components.few, c.requires.has_drive_len.0)) r.prepared.regions_are
+    places_under c.args.components.numbers.now ps r.scene.ends _ (omega (arith, r.scene.components.few, c.requires.has_drive_len.0)) r.prepared.regions_are
 
 pub infer-requires-clause-fed_room : goal.infer-requires-clause-fed_room
 infer-requires-clause-fed_room c =

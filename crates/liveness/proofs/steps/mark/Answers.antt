@@ -4,6 +4,9 @@ use mathlib.Core.Path.{◌∙◌}
 use Rattle.liveness.proofs.Inferring.{prepared_scene}
 use Rattle.liveness.proofs.steps.mark.Goals as goal
 
+pub invariant_of-listed : goal.invariant_of-listed
+invariant_of-listed c = record { within = c.args.plot.now.plot.accepted.scene.components }
+
 pub flag_inferred-requires : goal.flag_inferred-requires
 flag_inferred-requires c =
     let p = c.args.plot.now in

@@ -96,11 +96,16 @@ put_regions-requires c =
     let s = (goal.at.put_regions-requires c).Start in
     (omega (arith, all s, c.args.plot.now.prepared.regions_are.long), omega (arith, all s, c.requires.rows_room.regions_room))
 
+pub invariant_of-listed : goal.invariant_of-listed
+invariant_of-listed c = record { within = c.args.plot.now.plot.accepted.scene.components }
+
+pub invariant_of-linked : goal.invariant_of-linked
+invariant_of-linked c = record { within = c.args.plot.now.plot.accepted.scene.connections }
+
 pub put_sources-requires : goal.put_sources-requires
 put_sources-requires c =
     let s = (goal.at.put_sources-requires c).Start in
     let e = c.mark.ensures in record {
-      components = (scene s).components;
       components_in_bounds = (e.frontier_flags.long, e.inferred_flags.long);
       inferred_alone = (inferred_alone (cs s) (ps s) (fs s) e.frontier_flags e.inferred_flags, c.requires.rows_room.sources_room);
     }
@@ -110,7 +115,7 @@ write_verdicts-requires c =
     let s = (goal.at.write_verdicts-requires c).Start in
     let p = c.args.plot.now.prepared in
     let t = p.tables in record {
-      components = ((scene s).components, ((scene s).connections, (scene s).ends));
+      ends = (scene s).ends;
       settled = (t.source_members, t.sink_members);
       ports_in_bounds = omega (arith, p.sources_long, sources_length c.args.plot.now.plot.ends.now);
       numbers = (p.members_are, c.requires.rows_room.inputs_room);

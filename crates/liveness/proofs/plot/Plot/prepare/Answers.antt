@@ -24,13 +24,13 @@ use Rattle.signals.proofs.Staged.{regions_are, members_below, labels_placed}
 use Rattle.liveness.proofs.plot.Plot.prepare.Goals as goal
 use Rattle.liveness.proofs.plot.Plot.prepare.Goals.{Start}
 
+pub invariant_of-linked : goal.invariant_of-linked
+invariant_of-linked c = record { within = c.args.self.now.accepted.scene.connections }
+
 pub build_tables-requires : goal.build_tables-requires
 build_tables-requires c =
     let room = c.requires in record {
-      port_connections = (
-        c.args.self.now.accepted.scene.connections,
-        (c.args.self.now.components.now, (c.args.self.now.accepted.scene.components.few, c.args.self.now.accepted.ends)),
-      );
+      settled = (c.args.self.now.components.now, (c.args.self.now.accepted.scene.components.few, c.args.self.now.accepted.ends));
       forward_len = (room.forward_room, room.backward_room);
     }
 
