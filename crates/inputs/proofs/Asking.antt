@@ -19,7 +19,8 @@ use borrow.Author.Tests.{eqb-true, eq-eqb, ltb-true, lt-ltb}
 use Rattle.tables.specs.Order.{Ascending, LowerBound, member}
 use Rattle.tables.specs.Laws.{same?, member_at}
 use Rattle.tables.specs.Pairs.{pair, span}
-use Rattle.sets.specs.Members.{member_limit, member_of, Inserted}
+use Rattle.sets.specs.declared.ComponentSet.{ComponentSet}
+use Rattle.sets.specs.Members.{member_of, Inserted}
 use Rattle.lists.specs.Limits.{component_limit}
 use Rattle.lists.specs.Records.{component_count}
 use Rattle.lists.specs.First.{tabulate}
@@ -49,14 +50,14 @@ use Rattle.inputs.proofs.Inputs.{immediate_at}
 -- ---- the keys of a slot
 
 -- each key passed is in the one set, and its row in the other; what is in the sets comes from keys of the slot
-pub record Sought (keys : List ℕ) (number : ℕ) (labelled rows : List ℕ) (first place : ℕ) (immediate inferred : List ℕ) : Type 0 where
+pub record Sought (keys : List ℕ) (number : ℕ) (labelled : List ℕ) (rows : List ComponentSet) (first place : ℕ) (immediate inferred : List ℕ) : Type 0 where
   pub seen : (i : ℕ) → first ≤ i → i < place → member_of immediate (get_or keys i 0 % span) ≡ true
   pub held : (a : ℕ) → member_of immediate a ≡ true → (a < length labelled) × (member (pair number a) keys ≡ true)
-  pub rows_seen : (i k : ℕ) → first ≤ i → i < place → k < member_limit → in_row rows (at labelled (get_or keys i 0 % span)) k ≡ true → member_of inferred k ≡ true
+  pub rows_seen : (i k : ℕ) → first ≤ i → i < place → in_row rows (at labelled (get_or keys i 0 % span)) k ≡ true → member_of inferred k ≡ true
   pub rows_held : (k : ℕ) → member_of inferred k ≡ true
-      → (a : ℕ) × (a < length labelled) × (member (pair number a) keys ≡ true) × (k < member_limit) × (in_row rows (at labelled a) k ≡ true)
+      → (a : ℕ) × (a < length labelled) × (member (pair number a) keys ≡ true) × (in_row rows (at labelled a) k ≡ true)
 
-module _ (keys : List ℕ) (number : ℕ) (labelled rows : List ℕ) (first : ℕ) where
+module _ (keys : List ℕ) (number : ℕ) (labelled : List ℕ) (rows : List ComponentSet) (first : ℕ) where
   pub sought_none : {immediate inferred : List ℕ} → ((k : ℕ) → member_of immediate k ≡ false) → ((k : ℕ) → member_of inferred k ≡ false)
       → Sought keys number labelled rows first first immediate inferred
   sought_none f g = record {
@@ -73,7 +74,7 @@ module _ (keys : List ℕ) (number : ℕ) (labelled rows : List ℕ) (first : �
     source = get_or keys place 0 % span
 
     module _ {immediate' : List ℕ} (inferred' : List ℕ) (put : Inserted immediate source immediate')
-        (joined : (k : ℕ) → member_of inferred' k ≡ (member_of inferred k || (ltb k member_limit && in_row rows (at labelled source) k))) where
+        (joined : (k : ℕ) → member_of inferred' k ≡ (member_of inferred k || in_row rows (at labelled source) k)) where
       stays : (a : ℕ) → member_of immediate a ≡ true → member_of immediate' a ≡ true
       stays a t = ⊎_elim (λ (q : a ≡ source). ap (member_of immediate') q ∙ put.there) (λ (n : a ≡ source → ⊥). put.others a n ∙ t) (same? a source)
 
@@ -87,19 +88,17 @@ module _ (keys : List ℕ) (number : ℕ) (labelled rows : List ℕ) (first : �
       rows_stay : (k : ℕ) → member_of inferred k ≡ true → member_of inferred' k ≡ true
       rows_stay k t = joined k ∙ rw t
 
-      row_new : (k : ℕ) → k < member_limit → in_row rows (at labelled source) k ≡ true → member_of inferred' k ≡ true
-      row_new k m t = joined k ∙ rw (lt-ltb k member_limit m, t) (or-true (member_of inferred k))
+      row_new : (k : ℕ) → in_row rows (at labelled source) k ≡ true → member_of inferred' k ≡ true
+      row_new k t = joined k ∙ rw t (or-true (member_of inferred k))
 
       rows_came : (k : ℕ) → member_of inferred' k ≡ true
-          → (a : ℕ) × (a < length labelled) × (member (pair number a) keys ≡ true) × (k < member_limit) × (in_row rows (at labelled a) k ≡ true)
+          → (a : ℕ) × (a < length labelled) × (member (pair number a) keys ≡ true) × (in_row rows (at labelled a) k ≡ true)
       rows_came k t = go (member_of inferred k) refl (sym (joined k) ∙ t)
         where
-          go : (b : Bool) → member_of inferred k ≡ b → (b || (ltb k member_limit && in_row rows (at labelled source) k)) ≡ true
-              → (a : ℕ) × (a < length labelled) × (member (pair number a) keys ≡ true) × (k < member_limit) × (in_row rows (at labelled a) k ≡ true)
+          go : (b : Bool) → member_of inferred k ≡ b → (b || in_row rows (at labelled source) k) ≡ true
+              → (a : ℕ) × (a < length labelled) × (member (pair number a) keys ≡ true) × (in_row rows (at labelled a) k ≡ true)
           go true p q = s.rows_held k p
-          go false p q =
-              let parts = both (ltb k member_limit) (in_row rows (at labelled source) k) q in
-              (source, l, here keys number place h e, ltb-true k member_limit parts.0, parts.1)
+          go false p q = (source, l, here keys number place h e, q)
 
       pub sought_more : Sought keys number labelled rows first (place + 1) immediate' inferred'
       sought_more = record {
@@ -108,15 +107,15 @@ module _ (keys : List ℕ) (number : ℕ) (labelled rows : List ℕ) (first : �
             (λ (less : i < place). stays (get_or keys i 0 % span) (s.seen i b less))
             (eq-or-lt_of_le (let w : i ≤ place = omega arith in w));
         held = came;
-        rows_seen = λ i k b m lim t. ⊎_elim
-            (λ (q : i ≡ place). row_new k lim (ap (λ (x : ℕ). in_row rows (at labelled (get_or keys x 0 % span)) k) (sym q) ∙ t))
-            (λ (less : i < place). rows_stay k (s.rows_seen i k b less lim t))
+        rows_seen = λ i k b m t. ⊎_elim
+            (λ (q : i ≡ place). row_new k (ap (λ (x : ℕ). in_row rows (at labelled (get_or keys x 0 % span)) k) (sym q) ∙ t))
+            (λ (less : i < place). rows_stay k (s.rows_seen i k b less t))
             (eq-or-lt_of_le (let w : i ≤ place = omega arith in w));
         rows_held = rows_came;
       }
 
 -- past the last key of the slot
-module _ {keys : List ℕ} {number : ℕ} {labelled rows : List ℕ} {first place : ℕ} {immediate inferred : List ℕ} (rising : Ascending keys)
+module _ {keys : List ℕ} {number : ℕ} {labelled : List ℕ} {rows : List ComponentSet} {first place : ℕ} {immediate inferred : List ℕ} (rising : Ascending keys)
     (low : LowerBound keys (number * span) first) (few : length labelled ≤ component_limit) (s : Sought keys number labelled rows first place immediate inferred)
     (le : first ≤ place) (past : place < length keys → get_or keys place 0 / span ≡ number → ⊥) where
   -- a node that feeds the slot was passed
@@ -140,33 +139,33 @@ module _ {keys : List ℕ} {number : ℕ} {labelled rows : List ℕ} {first plac
           ap (member_of immediate) (sym f.3) ∙ s.seen f.0 f.1 f.2);
     };
     from = λ k t. s.rows_held k (sym (ap (λ (w : List ℕ). member_of w k) q) ∙ t);
-    all = λ a k h m l t.
+    all = λ a k h m t.
         let f = passed a h m in
-        ap (λ (w : List ℕ). member_of w k) q ∙ s.rows_seen f.0 k f.1 f.2 l (ap (λ (x : ℕ). in_row rows (at labelled x) k) f.3 ∙ t);
+        ap (λ (w : List ℕ). member_of w k) q ∙ s.rows_seen f.0 k f.1 f.2 (ap (λ (x : ℕ). in_row rows (at labelled x) k) f.3 ∙ t);
   }
 
 -- ---- the table of a prepared scene
 
 -- the same of equal arrays
-pub rows_as : {keys labelled labelled' : List ℕ} {flags flags' : List Bool} {rows : List ℕ} → labelled ≡ labelled' → flags ≡ flags'
+pub rows_as : {keys labelled labelled' : List ℕ} {flags flags' : List Bool} {rows : List ComponentSet} → labelled ≡ labelled' → flags ≡ flags'
     → UpstreamRows keys labelled flags rows → UpstreamRows keys labelled' flags' rows
 rows_as {keys} {labelled} {labelled'} {flags} {flags'} {rows} a b u =
     subst (λ (f : List Bool). UpstreamRows keys labelled' f rows) b (subst (λ (l : List ℕ). UpstreamRows keys l flags rows) a u)
 
-pub ready_as : {cs ps fs : List ℤ} {fed labelled fed' labelled' rows : List ℕ} → fed' ≡ fed → labelled' ≡ labelled → Ready cs ps fs fed labelled rows → Ready cs ps fs fed' labelled' rows
+pub ready_as : {cs ps fs : List ℤ} {fed labelled fed' labelled' : List ℕ} {rows : List ComponentSet} → fed' ≡ fed → labelled' ≡ labelled → Ready cs ps fs fed labelled rows → Ready cs ps fs fed' labelled' rows
 ready_as a b r = rw (a, b) r
 
-pub ready_nodes : {cs ps fs : List ℤ} {fed labelled rows : List ℕ} → Ready cs ps fs fed labelled rows → length labelled ≡ component_count cs
+pub ready_nodes : {cs ps fs : List ℤ} {fed labelled : List ℕ} {rows : List ComponentSet} → Ready cs ps fs fed labelled rows → length labelled ≡ component_count cs
 ready_nodes {cs} {ps} r = ap length r.labels_are ∙ labels_count cs ps r.fed_scene.scene.ends
 
-pub ready_labels : {cs ps fs : List ℤ} {fed labelled rows : List ℕ} → Ready cs ps fs fed labelled rows → Indices (length labelled) component_limit labelled
+pub ready_labels : {cs ps fs : List ℤ} {fed labelled : List ℕ} {rows : List ComponentSet} → Ready cs ps fs fed labelled rows → Indices (length labelled) component_limit labelled
 ready_labels {cs} {ps} r =
     subst (λ (l : List ℕ). Indices (length l) component_limit l) (sym r.labels_are)
     (labels_under cs ps r.fed_scene.scene.ends component_limit r.fed_scene.scene.components.few)
 
 -- ---- the port of the slot
 
-module _ {cs ps fs : List ℤ} {p port : ℕ} {fed labelled rows : List ℕ} {number : ℕ} {r : InputSources} (ready : Ready cs ps fs fed labelled rows)
+module _ {cs ps fs : List ℤ} {p port : ℕ} {fed labelled : List ℕ} {rows : List ComponentSet} {number : ℕ} {r : InputSources} (ready : Ready cs ps fs fed labelled rows)
     (q : SlotOf cs ps p port fed number) (s : SlotSets fed number labelled rows r) where
   abbrev n : ℕ
   n = component_count cs
@@ -218,16 +217,16 @@ module _ {cs ps fs : List ℤ} {p port : ℕ} {fed labelled rows : List ℕ} {nu
       let (a, h, e, path) = (back.exactly k).0 t in
       (a, h, sym (starts_at a h) ∙ e, Reach·flip path)
 
-  row_at : (a k : ℕ) → k < member_limit → in_row rows (at labelled a) k ≡ ((ltb k n && marked flags k) && carry ready.keys (eqb (label k)) (label a))
-  row_at a k h =
-      ap (λ (l : List ℕ). in_row rows (at l a) k) ready.labels_are ∙ ready.rows.at (label a) k h
+  row_at : (a k : ℕ) → in_row rows (at labelled a) k ≡ ((ltb k n && marked flags k) && carry ready.keys (eqb (label k)) (label a))
+  row_at a k =
+      ap (λ (l : List ℕ). in_row rows (at l a) k) ready.labels_are ∙ ready.rows.at (label a) k
       ∙ ap (λ (m : ℕ). (ltb k m && marked flags k) && carry ready.keys (eqb (label k)) (label a)) count
 
   there : (k : ℕ) → member_of r.inferred.words k ≡ true → (ltb k n && is_inferred_for cs ps fs p port k) ≡ true
   unfolding is_inferred_for
   there k t =
-      let (a, h, m, l, row) = s.from k t in
-      let parts = both (ltb k n && marked flags k) (carry ready.keys (eqb (label k)) (label a)) (sym (row_at a k l) ∙ row) in
+      let (a, h, m, row) = s.from k t in
+      let parts = both (ltb k n && marked flags k) (carry ready.keys (eqb (label k)) (label a)) (sym (row_at a k) ∙ row) in
       let flagged = both (ltb k n) (marked flags k) parts.0 in
       let small = ltb-true k n flagged.0 in
       let node : a < n = omega (arith, h, long) in
@@ -241,9 +240,8 @@ module _ {cs ps fs : List ℤ} {p port : ℕ} {fed labelled rows : List ℕ} {nu
       let small = ltb-true k n parts.0 in
       let marks = both (marked (upstream cs ps p port) k) (marked flags k) parts.1 in
       let (a, h, e, path) = below k marks.0 in
-      let lim : k < member_limit = omega (arith, small, few) in
-      s.all a k (omega (arith, h, long)) (immediate_at q a (omega (arith, h, few)) ∙ e) lim
-      (row_at a k lim
+      s.all a k (omega (arith, h, long)) (immediate_at q a (omega (arith, h, few)) ∙ e)
+      (row_at a k
       ∙ and_true (ltb k n && marked flags k) (carry ready.keys (eqb (label k)) (label a)) (and_true (ltb k n) (marked flags k) parts.0 marks.1) (carried k a small h path))
 
   inferred : SetWhere n (is_inferred_for cs ps fs p port) r.inferred.words

@@ -6,7 +6,8 @@
 use Rattle.std.specs.Prelude.{ℕ, ◌*◌, ◌≤◌, ◌<◌, ◌≡◌, Bool, true, ◌&&◌, List, length, ℤ}
 use Rattle.tables.specs.Order.{Ascending, member}
 use Rattle.tables.specs.Pairs.{pair}
-use Rattle.sets.specs.Members.{member_limit, member_of}
+use Rattle.sets.specs.declared.ComponentSet.{ComponentSet}
+use Rattle.sets.specs.Members.{member_of}
 use Rattle.lists.specs.Limits.{component_limit}
 use Rattle.lists.specs.Records.{component_count, port_count}
 use Rattle.lists.specs.Ids as Ids
@@ -21,7 +22,7 @@ use Rattle.signals.specs.Regions.{labels, is_inferred}
 use Rattle.signals.specs.Drive.{members_where}
 use Rattle.signals.specs.Keys.{slot, ports}
 use Rattle.signals.specs.Stages.{FedTable}
-use Rattle.assessment.specs.Upstream.{table_words, in_row, UpstreamRows}
+use Rattle.assessment.specs.Upstream.{in_row, UpstreamRows}
 use Rattle.liveness.specs.Sets.{SetWhere}
 use Rattle.liveness.specs.Scene.{Scene, Prepared}
 use Rattle.inputs.specs.declared.InputSources.{InputSources}
@@ -85,17 +86,17 @@ pub record UpstreamSet (n : ℕ) (edge : Edges) (immediate inferred : List Bool)
 -- ---- many ports, by the table of what is upstream of each region
 
 -- the edges by the port that they feed, the regions, and their rows
-pub record Ready (cs ps fs : List ℤ) (fed labelled upstream : List ℕ) : Type 0 where
+pub record Ready (cs ps fs : List ℤ) (fed labelled : List ℕ) (upstream : List ComponentSet) : Type 0 where
   pub fed_scene : FedScene cs ps fed
   pub labels_are : labelled ≡ labels cs ps
   pub keys : List ℕ
   pub pairs : Crossings (signals cs ps) (labels cs ps) keys
   pub rows : UpstreamRows keys (labels cs ps) (members_where cs (is_inferred cs ps fs)) upstream
-  pub rows_long : length upstream ≡ table_words
+  pub rows_long : length upstream ≡ component_limit
 
 -- the nodes that feed a slot, and all members of the rows of their regions
-pub record SlotSets (fed : List ℕ) (number : ℕ) (labelled upstream : List ℕ) (r : InputSources) : Type 0 where
+pub record SlotSets (fed : List ℕ) (number : ℕ) (labelled : List ℕ) (upstream : List ComponentSet) (r : InputSources) : Type 0 where
   pub immediate : SetWhere (length labelled) (λ a. member (pair number a) fed) r.immediate.words
   pub from : (k : ℕ) → member_of r.inferred.words k ≡ true
-      → (a : ℕ) × (a < length labelled) × (member (pair number a) fed ≡ true) × (k < member_limit) × (in_row upstream (at labelled a) k ≡ true)
-  pub all : (a k : ℕ) → a < length labelled → member (pair number a) fed ≡ true → k < member_limit → in_row upstream (at labelled a) k ≡ true → member_of r.inferred.words k ≡ true
+      → (a : ℕ) × (a < length labelled) × (member (pair number a) fed ≡ true) × (in_row upstream (at labelled a) k ≡ true)
+  pub all : (a k : ℕ) → a < length labelled → member (pair number a) fed ≡ true → in_row upstream (at labelled a) k ≡ true → member_of r.inferred.words k ≡ true

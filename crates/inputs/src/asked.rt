@@ -9,13 +9,14 @@ ghost use Rattle.lists.specs.Ids.{IdTable};
 ghost use Rattle.regions.specs.Search.{Zeros};
 ghost use Rattle.signals.specs.Flags.{Indices};
 ghost use Rattle.assessment.specs.Rows.{SlotWithin};
+ghost use Rattle.assessment.specs.Upstream.{RowsEmpty};
 ghost use Rattle.inputs.specs.Query.{row_place, PortSets};
 ghost use Rattle.inputs.specs.Inputs.{Ready, SlotSets};
 
 use super::InputSources;
 use super::query::{find_inputs, no_sources};
 use super::row::row_place;
-use assessment::upstream::{TABLE, add_row, upstream_rows};
+use assessment::upstream::upstream_rows;
 use lists::ids::member_of;
 use lists::{COMPONENTS, CONNECTIONS, PORT};
 use liveness::plot::Plot;
@@ -33,7 +34,7 @@ pub struct Asked<'a> {
     pub components: &'a [i64],
     pub fed: &'a [u64],
     pub labels: &'a [usize],
-    pub upstream: &'a [u64; TABLE],
+    pub upstream: &'a [ComponentSet; COMPONENTS],
     pub ghost table: { IdTable components.now keys.now } by { Prim.hlevel props },
     pub ghost ready: { ∥ ((ps fs : List ℤ) × Ready components.now ps fs fed.now labels.now upstream.now) ∥₁ },
 }
@@ -45,12 +46,12 @@ pub fn make_ready(
     plot: &Plot,
     fed: &mut [u64],
     labels: &mut [usize],
-    upstream: &mut [u64; TABLE],
+    upstream: &mut [ComponentSet; COMPONENTS],
     stack: &mut [usize],
 )
     requires fed_len { length fed.old ≡ port_count plot.now.ports.now }
     requires labels_len { let n = component_count plot.now.components.now in (length labels.old ≡ n) × (2 * n ≤ length stack.old) }
-    requires upstream { Zeros upstream.old }
+    requires upstream { RowsEmpty upstream.old }
     ensures { let p = plot.now in Ready p.components.now p.ports.now p.frontiers.now fed.new labels.new upstream.new × Zeros stack.new }
 {
     let n = plot.keys.len();
@@ -71,7 +72,12 @@ pub fn make_ready(
 }
 
 // The nodes that feed a slot, and all members of the rows of their regions.
-fn slot_sources(fed: &[u64], slot: usize, labels: &[usize], upstream: &[u64; TABLE]) -> InputSources
+fn slot_sources(
+    fed: &[u64],
+    slot: usize,
+    labels: &[usize],
+    upstream: &[ComponentSet; COMPONENTS],
+) -> InputSources
     requires ascending { Ascending fed.now × ((slot < 2 ^ 32) × SlotWithin fed.now slot (length labels.now)) }
     requires indices { Indices (length labels.now) component_limit labels.now × (length labels.now ≤ component_limit) }
     ensures { SlotSets fed.now slot labels.now upstream.now result }
@@ -86,7 +92,7 @@ fn slot_sources(fed: &[u64], slot: usize, labels: &[usize], upstream: &[u64; TAB
         }
         let source = (key % SPAN) as usize;
         immediate = immediate.insert(source);
-        inferred = add_row(inferred, upstream, labels[source]);
+        inferred = inferred.union(upstream[labels[source]]);
     }
     InputSources {
         immediate,

@@ -10,7 +10,6 @@ ghost use Rattle.report.specs.Printing.{whole_text, Accepts, Gathered, Analyzed}
 
 use super::fill::{fill_components, fill_connections, fill_regions};
 use super::rows::put_rows;
-use assessment::upstream::TABLE;
 use blocks::answer::put_accepted;
 use blocks::{Block, put_block};
 use checks::refusals::grouping_lists;
@@ -22,6 +21,7 @@ use liveness::Analysis;
 use liveness::plot::Plot;
 use liveness::steps::analyze;
 use scene::connections::keep_all;
+use sets::ComponentSet;
 
 // How many numbers the rows of a full scene have: of components, of kept connections, of regions, of sources, of inputs, and of the stack.
 const COMPONENT_ROWS: usize = 6 * COMPONENTS;
@@ -165,7 +165,7 @@ fn print_ready(
     let m = plot.ports.len() / PORT;
     let mut fed = [0u64; CONNECTIONS];
     let mut labels = [0usize; COMPONENTS];
-    let mut upstream = [0u64; TABLE];
+    let mut upstream = [ComponentSet::empty(); COMPONENTS];
     make_ready(plot, &mut fed[..m], &mut labels[..n], &mut upstream, stack);
     let asked = Asked {
         keys: plot.keys,

@@ -19,7 +19,7 @@ loop-at-preserved c =
     let l = c.loop-at in
     let a = c.args in
     sought_more a.fed.now a.slot a.labels.now a.upstream.now _ l.invariant c.loop-at-test.true c.if-key-slot.false
-    (node (goal.at.loop-at-preserved c).Else-key-slot) _ c.insert-immediate.ensures c.add_row-inferred.ensures
+    (node (goal.at.loop-at-preserved c).Else-key-slot) _ c.insert-immediate.ensures c.union-inferred.ensures
 
 pub returns-then-key-slot : goal.returns-then-key-slot
 returns-then-key-slot c =

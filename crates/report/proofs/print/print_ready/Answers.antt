@@ -8,11 +8,11 @@ use native.Mathlib.Omega.{arith}
 use lib.IntN.{ℤ}
 use lib.ListN.{length, take, drop, replicate, length-replicate}
 use lib.Seq.{length-take-le}
-use Rattle.sets.proofs.Words.{get_or_zeros}
+use Rattle.sets.specs.declared.ComponentSet.{ComponentSet}
 use Rattle.lists.specs.Limits.{component_limit, connection_limit}
 use Rattle.lists.specs.Records.{port_count}
 use Rattle.lists.proofs.Table.{table_long}
-use Rattle.assessment.specs.Upstream.{table_words}
+use Rattle.assessment.proofs.UpRows.{rows_empty}
 use Rattle.signals.proofs.Lent.{front, front_long, front_length}
 use Rattle.liveness.specs.Scene.{Accepted}
 use Rattle.inputs.specs.Inputs.{Ready}
@@ -32,10 +32,10 @@ make_ready-requires-clause-labels_len c =
     (lent (length c.args.plot.now.keys.now) component_limit 0 (few accepted) ∙ table_long accepted.table, c.requires.stack_room)
 
 pub make_ready-requires-clause-upstream : goal.make_ready-requires-clause-upstream
-make_ready-requires-clause-upstream c = get_or_zeros table_words
+make_ready-requires-clause-upstream c = rows_empty component_limit c.empty-upstream.result c.empty-upstream.ensures
 
 -- what came back stands at the fronts
-ready_fronts : {cs ps fs : List ℤ} {keys sources sinks fed labels upstream : List ℕ} → Accepted cs ps keys sources sinks
+ready_fronts : {cs ps fs : List ℤ} {keys sources sinks fed labels : List ℕ} {upstream : List ComponentSet} → Accepted cs ps keys sources sinks
     → length fed ≡ length {A = ℕ} (take (port_count ps) (replicate connection_limit 0))
     → length labels ≡ length {A = ℕ} (take (length keys) (replicate component_limit 0))
     → Ready cs ps fs fed labels upstream
