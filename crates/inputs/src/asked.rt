@@ -18,6 +18,7 @@ use super::query::{find_inputs, no_sources};
 use super::row::row_place;
 use assessment::upstream::upstream_rows;
 use lists::ids::member_of;
+use lists::views::{ComponentList, PortList};
 use lists::{COMPONENTS, CONNECTIONS, PORT};
 use liveness::plot::Plot;
 use sets::ComponentSet;
@@ -31,12 +32,12 @@ use tables::SPAN;
 #[derive(Clone, Copy)]
 pub struct Asked<'a> {
     pub keys: &'a [u64],
-    pub components: &'a [i64],
+    pub components: ComponentList<'a>,
     pub fed: &'a [u64],
     pub labels: &'a [usize],
     pub upstream: &'a [ComponentSet; COMPONENTS],
-    pub ghost table: { IdTable components.now keys.now } by { Prim.hlevel props },
-    pub ghost ready: { ∥ ((ps fs : List ℤ) × Ready components.now ps fs fed.now labels.now upstream.now) ∥₁ },
+    pub ghost table: { IdTable components.numbers.now keys.now } by { Prim.hlevel props },
+    pub ghost ready: { ∥ ((ps fs : List ℤ) × Ready components.numbers.now ps fs fed.now labels.now upstream.now) ∥₁ },
 }
 
 // Fills what the ports of a plot are asked by: its edges by the port that they feed, the regions of its members, and the rows of the
@@ -67,7 +68,10 @@ pub fn make_ready(
         stack,
     );
     let crossings = find_crossings(fed, labels, &mut pairs);
-    build_fed(plot.ports, plot.ends, fed);
+    let linked = PortList {
+        numbers: plot.ports,
+    };
+    build_fed(linked, plot.ends, fed);
     upstream_rows(crossings, labels, &inferred[..n], upstream);
 }
 
@@ -104,8 +108,8 @@ impl<'a> Asked<'a> {
     // The sets of a port by the id of its component, empty where it has no verdict row: those of every scene that the tables are of.
     pub fn sources(&self, id: u64, port: u64) -> InputSources
         ensures { let a = self.now in
-            (ps fs : List ℤ) → Ready a.components.now ps fs a.fed.now a.labels.now a.upstream.now →
-            PortSets a.components.now ps fs (row_place a.components.now id port) port result }
+            (ps fs : List ℤ) → Ready a.components.numbers.now ps fs a.fed.now a.labels.now a.upstream.now →
+            PortSets a.components.numbers.now ps fs (row_place a.components.numbers.now id port) port result }
     {
         match row_place(self.keys, self.components, id, port) {
             Some(_) => slot_sources(

@@ -22,7 +22,7 @@ use super::InputSources;
 use super::row::row_place;
 use assessment::verdicts::slot_fed;
 use lists::ids::member_of;
-use lists::numbers::natural_at;
+use lists::views::{ComponentList, PortList};
 use lists::{COMPONENT, COMPONENTS, CONNECTIONS, Fault, PORT, Refusal};
 use liveness::plot::{Plot, PreparedPlot, Workspace};
 use liveness::steps::{flag_drive, flag_inferred};
@@ -138,8 +138,11 @@ pub(crate) fn inferred_members(plot: &PreparedPlot, inferred: &mut [bool])
     let mut drive_at = [false; COMPONENTS];
     let mut has_drive = [false; COMPONENTS];
     let mut inferred_at = [false; COMPONENTS];
+    let listed = ComponentList {
+        numbers: lists.components,
+    };
     flag_drive(
-        lists.components,
+        listed,
         lists.frontiers,
         plot.region_at,
         &mut on_frontier,
@@ -147,7 +150,7 @@ pub(crate) fn inferred_members(plot: &PreparedPlot, inferred: &mut [bool])
         &mut has_drive,
     );
     flag_inferred(
-        lists.components,
+        listed,
         plot.forward,
         plot.backward,
         plot.labels,
@@ -197,7 +200,10 @@ fn walk_tables(
     let n = plot.keys.len();
     let mut labels = [0usize; COMPONENTS];
     find_inputs(plot, fed, backward, &mut labels[..n], inferred, stack);
-    build_fed(plot.ports, plot.ends, fed);
+    let linked = PortList {
+        numbers: plot.ports,
+    };
+    build_fed(linked, plot.ends, fed);
 }
 
 // The sets of a port of the component at p.
@@ -219,7 +225,10 @@ fn input_sources(plot: &Plot, p: usize, port: usize, stack: &mut [usize]) -> Inp
         &mut inferred[..n],
         stack,
     );
-    let slot = member_of(plot.keys, natural_at(plot.components, p * COMPONENT)) * PORTS + port;
+    let listed = ComponentList {
+        numbers: plot.components,
+    };
+    let slot = member_of(plot.keys, listed.id(p)) * PORTS + port;
     row_sources(&fed[..m], &backward[..m], slot, &inferred[..n], stack)
 }
 
@@ -235,7 +244,10 @@ pub(crate) fn query_plot(
         InputsBy (refuse Fault.NoVerdictRow None (too_short (is_found place)))
         p.components.now p.ports.now p.frontiers.now place port stack.old stack.new result }
 {
-    match row_place(plot.keys, plot.components, id, port) {
+    let listed = ComponentList {
+        numbers: plot.components,
+    };
+    match row_place(plot.keys, listed, id, port) {
         Some(p) => Ok(input_sources(plot, p, port as usize, stack)),
         None => Err(Refusal {
             fault: Fault::NoVerdictRow,

@@ -37,6 +37,9 @@ nodes s = length s.args.plot.now.keys.now
 few : (s : Start) → component_count (cs s) ≤ component_limit
 few s = s.args.plot.now.accepted.scene.components.few
 
+pub invariant_of-linked : goal.invariant_of-linked
+invariant_of-linked c = record { within = c.args.plot.now.accepted.scene.connections }
+
 pub find_inputs-requires : goal.find_inputs-requires
 find_inputs-requires c =
     record {

@@ -6,6 +6,9 @@ use Rattle.signals.proofs.Staged.{members_below, marks_are}
 use Rattle.liveness.proofs.Inferring.{prepared_scene}
 use Rattle.inputs.proofs.query.inferred_members.Goals as goal
 
+pub invariant_of-listed : goal.invariant_of-listed
+invariant_of-listed c = record { within = c.args.plot.now.plot.accepted.scene.components }
+
 pub flag_inferred-requires-clause-prepared_scene : goal.flag_inferred-requires-clause-prepared_scene
 flag_inferred-requires-clause-prepared_scene c =
     let p = c.args.plot.now in

@@ -11,14 +11,12 @@ use Rattle.lists.specs.Limits.{component_limit, connection_limit}
 use Rattle.lists.specs.Records.{component, port_count}
 use Rattle.lists.specs.Ids.{smaller_ids, member_of}
 use Rattle.liveness.proofs.Lent.{edges_lent, flags_lent, nodes_are, nodes_few}
-use Rattle.lists.proofs.Search.{record_within}
-use Rattle.lists.proofs.Fields.{first_non_neg}
 use Rattle.lists.proofs.Members.{member_below}
 use Rattle.regions.proofs.Fill.{zeros_cleared}
 use Rattle.signals.specs.Keys.{slot}
 use Rattle.signals.proofs.Lent.{front, front_long, front_length}
 use Rattle.inputs.specs.Inputs.{SlotOf, Walkable}
-use Rattle.inputs.proofs.Inputs.{walk_as, id_small}
+use Rattle.inputs.proofs.Inputs.{walk_as}
 use Rattle.inputs.proofs.query.input_sources.Goals as goal
 use Rattle.inputs.proofs.query.input_sources.Goals.{Start}
 
@@ -47,14 +45,8 @@ flags_long : (s : Start) (flags : List Bool) → length flags ≡ length (take (
 flags_long s flags e = e ∙ flags_lent s.args.plot.now.accepted
 
 -- ---- the port by its slot
-pub natural_at-requires : goal.natural_at-requires
-natural_at-requires c =
-    let h = c.requires.p_bound.0 in
-    (omega (arith, record_within c.args.p _ 8 h), first_non_neg c.args.plot.now.accepted.scene.components c.args.p h (omega arith) refl)
-
-pub member_of-requires : goal.member_of-requires
-member_of-requires c =
-    omega (arith, c.natural_at.ensures, id_small c.args.plot.now.accepted.scene.components c.args.p c.requires.p_bound.0)
+pub invariant_of-listed : goal.invariant_of-listed
+invariant_of-listed c = record { within = c.args.plot.now.accepted.scene.components }
 
 member_is : (s : Start) {m id : ℕ} → m ≡ smaller_ids (cs s) id → id ≡ (component (cs s) s.args.p).id → m ≡ member_of (cs s) s.args.p
 member_is s e d = e ∙ ap (smaller_ids (cs s)) d
@@ -89,7 +81,7 @@ row_sources-requires c =
     let s = (goal.at.row_sources-requires c).Start in
     let a = c.args in
     let w = c.walk_tables in
-    let m = member_is s (c.member_of.ensures (cs s) s.args.plot.now.accepted.table) c.natural_at.ensures in
+    let m = member_is s (c.member_of.ensures (cs s) s.args.plot.now.accepted.table) c.id.ensures.0 in
     let walk = walk_is s w.auto.fed w.auto.backward w.auto.inferred w.ensures.0 in
     record {
       by_index = (cs s, a.plot.now.ports.now, a.plot.now.frontiers.now, a.p, a.port, (walk, slot_at s m walk));
@@ -110,7 +102,7 @@ returns c =
     let s = (goal.at.returns c).Start in
     let a = c.args in
     let w = c.walk_tables in
-    let m = member_is s (c.member_of.ensures (cs s) s.args.plot.now.accepted.table) c.natural_at.ensures in
+    let m = member_is s (c.member_of.ensures (cs s) s.args.plot.now.accepted.table) c.id.ensures.0 in
     let walk = walk_is s w.auto.fed w.auto.backward w.auto.inferred w.ensures.0 in
     let sources = c.row_sources.ensures (cs s) a.plot.now.ports.now a.plot.now.frontiers.now a.p a.port walk (slot_at s m walk) in
     record {
@@ -138,14 +130,14 @@ walk_tables-requires c =
 pub overflow_mul-slot : goal.overflow_mul-slot
 overflow_mul-slot c =
     let s = (goal.at.overflow_mul-slot c).Start in
-    omega (arith, member_small s (member_is s (c.member_of.ensures (cs s) c.args.plot.now.accepted.table) c.natural_at.ensures))
+    omega (arith, member_small s (member_is s (c.member_of.ensures (cs s) c.args.plot.now.accepted.table) c.id.ensures.0))
 
 pub overflow_add-slot : goal.overflow_add-slot
 overflow_add-slot c =
     let s = (goal.at.overflow_add-slot c).Start in
     omega (
       arith,
-      member_small s (member_is s (c.member_of.ensures (cs s) c.args.plot.now.accepted.table) c.natural_at.ensures),
+      member_small s (member_is s (c.member_of.ensures (cs s) c.args.plot.now.accepted.table) c.id.ensures.0),
       s.requires.p_bound.1,
     )
 

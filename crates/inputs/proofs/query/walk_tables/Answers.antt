@@ -7,6 +7,9 @@ use Rattle.inputs.proofs.Inputs.{fed_scene, graph_back}
 use Rattle.inputs.proofs.query.walk_tables.Goals as goal
 use Rattle.inputs.proofs.query.walk_tables.Goals.{Start}
 
+pub invariant_of-linked : goal.invariant_of-linked
+invariant_of-linked c = record { within = c.args.plot.now.accepted.scene.connections }
+
 pub find_inputs-requires : goal.find_inputs-requires
 find_inputs-requires c =
     record {

@@ -17,12 +17,12 @@ use Rattle.inputs.proofs.row.with_row.Goals.{After-has_row, Start}
 
 -- the answer of the call, by the component
 row : (c : After-has_row)
-    → let k = component c.args.components.now c.args.p in c.has_row.result ≡ (ltb c.args.port (length (ports_of k)) && is_required k c.args.port)
+    → let k = component c.args.components.numbers.now c.args.p in c.has_row.result ≡ (ltb c.args.port (length (ports_of k)) && is_required k c.args.port)
 row c =
     c.has_row.ensures
     ∙ ap (λ (kind : ℕ). leb (first_required kind) c.args.port && ltb c.args.port (first_required kind + required_count kind))
-    c.natural_at-kind.ensures
-    ∙ row_of (component c.args.components.now c.args.p) c.args.port
+    c.kind.ensures
+    ∙ row_of (component c.args.components.numbers.now c.args.p) c.args.port
 
 some_if : (b : Bool) (p : ℕ) → then_some b p ≡ cond b (Some p) None
 some_if true p = refl
