@@ -32,12 +32,12 @@ use tables::SPAN;
 #[derive(Clone, Copy)]
 pub struct Asked<'a> {
     pub keys: &'a [u64],
-    pub components: ComponentList<'a>,
+    pub components: &'a [i64],
     pub fed: &'a [u64],
     pub labels: &'a [usize],
     pub upstream: &'a [ComponentSet; COMPONENTS],
-    pub ghost table: { IdTable components.numbers.now keys.now } by { Prim.hlevel props },
-    pub ghost ready: { ∥ ((ps fs : List ℤ) × Ready components.numbers.now ps fs fed.now labels.now upstream.now) ∥₁ },
+    pub ghost table: { IdTable components.now keys.now } by { Prim.hlevel props },
+    pub ghost ready: { ∥ ((ps fs : List ℤ) × Ready components.now ps fs fed.now labels.now upstream.now) ∥₁ },
 }
 
 // Fills what the ports of a plot are asked by: its edges by the port that they feed, the regions of its members, and the rows of the
@@ -108,10 +108,13 @@ impl<'a> Asked<'a> {
     // The sets of a port by the id of its component, empty where it has no verdict row: those of every scene that the tables are of.
     pub fn sources(&self, id: u64, port: u64) -> InputSources
         ensures { let a = self.now in
-            (ps fs : List ℤ) → Ready a.components.numbers.now ps fs a.fed.now a.labels.now a.upstream.now →
-            PortSets a.components.numbers.now ps fs (row_place a.components.numbers.now id port) port result }
+            (ps fs : List ℤ) → Ready a.components.now ps fs a.fed.now a.labels.now a.upstream.now →
+            PortSets a.components.now ps fs (row_place a.components.now id port) port result }
     {
-        match row_place(self.keys, self.components, id, port) {
+        let listed = ComponentList {
+            numbers: self.components,
+        };
+        match row_place(self.keys, listed, id, port) {
             Some(_) => slot_sources(
                 self.fed,
                 member_of(self.keys, id) * PORTS + port as usize,

@@ -2,15 +2,14 @@
 ghost use Rattle.std.specs.Prelude.{◌≡◌, List, map, ℕ, ◌+◌, ◌*◌, ◌≤◌, length, pos};
 ghost use Rattle.lists.specs.Records.{component_count};
 ghost use Rattle.lists.specs.Ids.{IdTable};
-ghost use Rattle.lists.specs.Within.{Components};
 ghost use Rattle.lists.specs.Slices.{laid};
 ghost use Rattle.assessment.specs.Rows.{Put};
 ghost use Rattle.report.specs.Report.{all_rows};
 ghost use Rattle.report.specs.Printing.{component_row_by, region_row_by, AllNatural};
 
-use lists::COMPONENT;
 use lists::ids::member_of;
 use lists::numbers::natural_at;
+use lists::views::ComponentList;
 use sets::ComponentSet;
 
 // Writes a row at a place, and answers the place after it.
@@ -26,7 +25,7 @@ fn put_row(rows: &mut [u64], at: usize, row: &[u64]) -> usize
 // Fills the rows of the components, in list order, given the table of ids, the numbers of their groups and
 // regions, and two sets of members.
 pub fn fill_components(
-    components: &[i64],
+    components: ComponentList,
     keys: &[u64],
     nets: &[u64],
     fragments: &[u64],
@@ -35,16 +34,17 @@ pub fn fill_components(
     potential: ComponentSet,
     rows: &mut [u64],
 )
-    requires components { Components components.now × IdTable components.now keys.now }
-    requires components_in_bounds { let n = component_count components.now in
+    requires table { IdTable components.numbers.now keys.now }
+    requires components_in_bounds { let n = component_count components.numbers.now in
         (n ≤ length nets.now) × ((n ≤ length fragments.now) × (n ≤ length regions.now)) }
-    requires components_in_bounds_2 { 6 * component_count components.now ≤ length rows.old }
-    ensures { let row = component_row_by components.now nets.now fragments.now regions.now drive.words potential.words in
-        rows.new ≡ laid (all_rows row (component_count components.now)) rows.old }
+    requires components_in_bounds_2 { 6 * component_count components.numbers.now ≤ length rows.old }
+    ensures { let cs = components.entry.numbers.now in
+        let row = component_row_by cs nets.now fragments.now regions.now drive.words potential.words in
+        rows.new ≡ laid (all_rows row (component_count cs)) rows.old }
 {
     let mut at = 0;
-    for p in 0..components.len() / COMPONENT {
-        let id = natural_at(components, p * COMPONENT);
+    for p in 0..components.count() {
+        let id = components.id(p);
         let m = member_of(keys, id);
         let driven = u64::from(drive.contains(m));
         let potent = u64::from(potential.contains(m));

@@ -16,6 +16,7 @@ use checks::refusals::grouping_lists;
 use circuit::settle::group;
 use inputs::asked::{Asked, make_ready};
 use lists::ends::{Ends, settle_ends};
+use lists::views::{ComponentList, ConnectionList, PortList};
 use lists::{COMPONENT, COMPONENTS, CONNECTIONS, Fault, PORT, Refusal};
 use liveness::Analysis;
 use liveness::plot::Plot;
@@ -116,8 +117,11 @@ fn print_analysis(
     let mut components = [0u64; COMPONENT_ROWS];
     let mut kept = [0u64; KEPT_ROWS];
     let mut marks = [0u64; REGION_ROWS];
+    let listed = ComponentList {
+        numbers: asked.components,
+    };
     fill_components(
-        asked.components,
+        listed,
         asked.keys,
         nets,
         fragments,
@@ -200,7 +204,8 @@ fn print_kept(
     let mut sources = [0u64; SOURCE_ROWS];
     let mut inputs = [0u64; INPUT_ROWS];
     let mut stack = [0usize; STACK];
-    settle_ends(keys, ports, &mut ends);
+    let linked = PortList { numbers: ports };
+    settle_ends(keys, linked, &mut ends);
     let plot = Plot {
         keys,
         components: scene,
@@ -237,8 +242,12 @@ fn print_scene(
     let mut nets = [0u64; COMPONENTS];
     let mut fragments = [0u64; COMPONENTS];
     let mut ports = [0i64; KEPT_ROWS];
-    group(keys, connections, &mut nets, &mut fragments);
-    let count = keep_all(scene, keys, connections, &mut ports);
+    let listed = ComponentList { numbers: scene };
+    let connected = ConnectionList {
+        numbers: connections,
+    };
+    group(keys, connected, &mut nets, &mut fragments);
+    let count = keep_all(listed, keys, connected, &mut ports);
     print_kept(
         keys,
         scene,

@@ -7,4 +7,4 @@ use Rattle.report.proofs.fill.fill_components.Given as goal
 
 abbrev pub invariant-loop-p : goal.invariant-loop-p
 invariant-loop-p l =
-    RowsPut (all_rows (component_row_by l.components l.nets l.fragments l.regions l.drive.words l.potential.words)) 6 6 l.p-end l.initial.rows l.rows l.at l.p
+    RowsPut (all_rows (component_row_by l.components.numbers.now l.nets l.fragments l.regions l.drive.words l.potential.words)) 6 6 l.p-end l.initial.rows l.rows l.at l.p

@@ -34,6 +34,9 @@ regions_inside : {cs kept fs : List ℤ} {regions sources inputs : List ℕ} {r 
     → Analyzed cs kept fs regions sources inputs r → Scene cs kept → length rows ≡ 2 * component_limit → 2 * r.regions ≤ length rows
 regions_inside rows a scene long = omega (arith, regions_fit a scene, long)
 
+pub invariant_of-listed : goal.invariant_of-listed
+invariant_of-listed c = record { within = c.requires.analyzed.1.0.fed_scene.scene.components }
+
 pub fill_components-requires-clause-components_in_bounds : goal.fill_components-requires-clause-components_in_bounds
 fill_components-requires-clause-components_in_bounds c =
     let g = c.requires.gathered.1 in (nets_long g, (fragments_long g, regions_long c.requires.analyzed.1.1))

@@ -21,13 +21,13 @@ scene_of : {cs ps kept fs : List ℤ} {keys nets fragments : List ℕ}
     → Accepts cs ps fs keys → Gathered cs ps kept nets fragments → Scene cs kept
 scene_of {cs} {ps} {fs = fs} a g = subst (Scene cs) (sym g.kept_are) (kept_scene cs ps fs a.accepted)
 
+pub invariant_of-linked : goal.invariant_of-linked
+invariant_of-linked c = record { within = (scene_of c.requires.1.0 c.requires.1.1).connections }
+
 pub settle_ends-requires : goal.settle_ends-requires
 settle_ends-requires c =
     let connections = (scene_of c.requires.1.0 c.requires.1.1).connections in
-    record {
-      port_connections = connections;
-      ports_in_bounds = connections.few;
-    }
+    connections.few
 
 pub invariant_of-plot : goal.invariant_of-plot
 invariant_of-plot c =

@@ -18,13 +18,18 @@ use Rattle.report.specs.Printing.{Gathered}
 use Rattle.report.proofs.Scenes.{sheet_scene, front_is, front_long}
 use Rattle.report.proofs.print.print_scene.Goals as goal
 
+pub invariant_of-listed : goal.invariant_of-listed
+invariant_of-listed c = record { within = (sheet_scene _ _ _ c.requires.accepted).components }
+
+pub invariant_of-connected : goal.invariant_of-connected
+invariant_of-connected c = record { within = (sheet_scene _ _ _ c.requires.accepted).connections }
+
 pub group-requires : goal.group-requires
 group-requires c =
     let scene = sheet_scene _ _ _ c.requires.accepted in
     let n = table_long c.requires.table in
     let few = scene.components.few in
     record {
-      connections = scene.connections;
       id_table = (c.args.scene.now, c.requires.table);
       keys_len_bound = (omega arith, (omega arith, omega arith));
     }
@@ -33,9 +38,7 @@ pub keep_all-count-requires : goal.keep_all-count-requires
 keep_all-count-requires c =
     let scene = sheet_scene _ _ _ c.requires.accepted in
     record {
-      components = scene.components;
       id_table = c.requires.table;
-      connections = scene.connections;
       port_width_in_bounds = omega (arith, scene.connections.few);
     }
 

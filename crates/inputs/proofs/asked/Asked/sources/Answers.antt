@@ -20,7 +20,7 @@ use Rattle.inputs.proofs.asked.Asked.sources.Goals as goal
 use Rattle.inputs.proofs.asked.Asked.sources.Goals.{Start}
 
 abbrev cs : Start → List ℤ
-cs s = s.args.self.now.components.numbers.now
+cs s = s.args.self.now.components.now
 
 -- a scene that the tables are of
 abbrev ReadyScene : Start → Type 0
@@ -56,13 +56,18 @@ returns-in-Some c ps fs r =
     let a = c.args.self.now in
     let found = sym c.row_place.ensures ∙ c.in-Some.is in
     sets_at c.args.id found
-    (port_sets r (row_slot r.fed_scene (row_found a.components.numbers.now c.args.id c.args.port found) (c.member_of.ensures a.components.numbers.now a.table))
+    (port_sets r (row_slot r.fed_scene (row_found a.components.now c.args.id c.args.port found) (c.member_of.ensures a.components.now a.table))
     c.slot_sources.ensures)
 
 pub returns-in-None : goal.returns-in-None
 returns-in-None c ps fs r =
     sets_at c.args.id (sym c.row_place.ensures ∙ c.in-None.is)
-    (c.no_sources.ensures c.args.self.now.components.numbers.now ps fs c.args.port)
+    (c.no_sources.ensures c.args.self.now.components.now ps fs c.args.port)
+
+pub invariant_of-listed : goal.invariant_of-listed
+invariant_of-listed c =
+    let s = (goal.at.invariant_of-listed c).Start in
+    ∥∥₁_elim c.args.self.now.ready (hlevel props) (λ (r : ReadyScene s). record { within = within s r })
 
 pub overflow_mul-member_of : goal.overflow_mul-member_of
 overflow_mul-member_of c =
