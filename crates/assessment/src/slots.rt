@@ -83,7 +83,8 @@ impl Slots {
         requires ends_in_bounds { port_count ports.numbers.now ≤ length ends.now }
         requires none_marked { Unmarked self.old.fed self.old.driven self.old.possible }
         ensures room { SlotRoom self.new.fed self.new.driven self.new.possible }
-        ensures marked { SlotFlags (port_count ports.entry.numbers.now) ports.entry.numbers.now (sources_of ends.now) (sinks_of ends.now) drive.now potential.now
+        ensures marked { let ps = ports.entry.numbers.now in
+            SlotFlags (port_count ps) ps (sources_of ends.now) (sinks_of ends.now) drive.now potential.now
             self.new.fed self.new.driven self.new.possible }
     {
         for k in 0..ports.count() {
@@ -191,7 +192,8 @@ pub fn write_verdicts(
     out: &mut [u64],
 ) -> usize
     requires ends { first_end_missing components.numbers.now ports.numbers.now ≡ None }
-    requires settled { Settled components.numbers.now ports.numbers.now 0 (sources_of ends.now) × Settled components.numbers.now ports.numbers.now 2 (sinks_of ends.now) }
+    requires settled { Settled components.numbers.now ports.numbers.now 0 (sources_of ends.now)
+        × Settled components.numbers.now ports.numbers.now 2 (sinks_of ends.now) }
     requires ports_in_bounds { port_count ports.numbers.now ≤ length ends.now }
     requires numbers { Numbers (component_count components.numbers.now) (member_of components.numbers.now) members.now
         × (12 * component_count components.numbers.now ≤ length out.old) }

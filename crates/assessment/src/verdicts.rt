@@ -82,7 +82,8 @@ pub fn put_sources(
         × (component_count components.numbers.now ≤ length inferred.now) }
     requires inferred_alone { InferredAlone components.numbers.now on_frontier.now inferred.now
         × (4 * component_count components.numbers.now ≤ length out.old) }
-    ensures { Scanned (sources_below components.entry.numbers.now on_frontier.now inferred.now (component_count components.entry.numbers.now))
+    ensures { let cs = components.entry.numbers.now in
+        Scanned (sources_below cs on_frontier.now inferred.now (component_count cs))
         2 out.old out.new result }
 {
     let mut at = 0;

@@ -1,5 +1,5 @@
-// The refusals of the entries: what each check of the lists says, in the paper's order. `0 < width` and the room for keys stand at each
-// check: the second list has one of two widths, and the keys are lent by the entries, longer ones too.
+// The refusals of the entries: what each check of the lists says, in the paper's order. `0 < width` stands at each check: the second list
+// has one of two widths. So does the room for keys: an array in place of the slice would turn callers away that lend longer ones.
 #![tactic(auto)]
 
 mod ranges;

@@ -5,14 +5,16 @@ use lists::{COMPONENT, CONNECTION, FAR, FRONTIER, IDS, PORT};
 
 const GREATEST_ID: i64 = IDS as i64 - 1;
 
-const LAST_KIND: i64 = BlockKind::Air as i64;
+// The last kind of a component, face (Down; 0 is for none) and transfer.
+const KIND: i64 = BlockKind::Air as i64;
 
-// The last face is Down; 0 is for none.
-const LAST_FACE: i64 = 6;
+const FACE: i64 = 6;
+
+const TRANSFER: i64 = TransferKind::StructuralSupport as i64;
 
 pub(crate) const COMPONENT_RANGES: Ranges<COMPONENT> = Ranges {
     low: [0, -FAR, -FAR, -FAR, 0, 0, 0, 0],
-    high: [GREATEST_ID, FAR, FAR, FAR, LAST_KIND, LAST_FACE, LAST_FACE, 1],
+    high: [GREATEST_ID, FAR, FAR, FAR, KIND, FACE, FACE, 1],
 };
 
 pub(crate) const CONNECTION_RANGES: Ranges<CONNECTION> = Ranges {
@@ -22,7 +24,7 @@ pub(crate) const CONNECTION_RANGES: Ranges<CONNECTION> = Ranges {
 
 pub(crate) const PORT_RANGES: Ranges<PORT> = Ranges {
     low: [0, 0, 0, 0, 0],
-    high: [GREATEST_ID, 255, GREATEST_ID, 255, TransferKind::StructuralSupport as i64],
+    high: [GREATEST_ID, 255, GREATEST_ID, 255, TRANSFER],
 };
 
 pub(crate) const FRONTIER_RANGES: Ranges<FRONTIER> = Ranges {

@@ -15,7 +15,7 @@ use lists::hints::{HINTS, hint_ids, place_near};
 use lists::kinds::ConnectionKind;
 use lists::views::ConnectionList;
 
-// Nets use the kinds up to this one, and fragments up to the next.
+// Nets use the kinds up to this one, and fragments up to the next; in the order of their numbers, as the paper has it.
 const NET_KINDS: u64 = ConnectionKind::StrongPower as u64;
 
 const FRAGMENT_KINDS: u64 = ConnectionKind::Control as u64;
@@ -101,7 +101,8 @@ pub fn group(
     requires id_table { IsIdTable keys.now }
     requires keys_len_bound { (length keys.now ≤ component_limit)
         × ((length keys.now ≤ length nets.old) × (length keys.now ≤ length fragments.old)) }
-    ensures { (cs : List ℤ) → IdTable cs keys.now → GroupedBy cs connections.entry.numbers.now nets.old nets.new fragments.old fragments.new result }
+    ensures { (cs : List ℤ) → IdTable cs keys.now →
+        GroupedBy cs connections.entry.numbers.now nets.old nets.new fragments.old fragments.new result }
 {
     let n = keys.len();
     let mut settled = [None; CONNECTIONS];

@@ -213,6 +213,7 @@ pub fn port_count(kind: u64, facing: u64, support: u64, conducts: u64) -> usize
     ensures { result ≡ length (ports_for kind facing support conducts) }
 {
     let ports = ports_for(kind, facing, support, conducts);
+    // By place: of `position` the check knows the answer by the runs of its closure alone.
     for i in 0..PORTS {
         let Some(_) = ports[i] else {
             return i;

@@ -7,6 +7,8 @@ ghost use Rattle.faces.specs.Select.{fits, serves, select_port, transfer_of};
 use super::ports::{Channel, PORTS, Port, Role};
 use lists::kinds::{ConnectionKind, TransferKind};
 
+// Faces and kinds of connections come as numbers to what is public here and in `ports`: any number is taken, and an enum would turn
+// callers away. They are compared as the numbers of their names.
 pub const CONTROL_KIND: u64 = ConnectionKind::Control as u64;
 
 pub const SUPPORT_KIND: u64 = ConnectionKind::Support as u64;

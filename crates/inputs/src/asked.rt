@@ -14,7 +14,7 @@ ghost use Rattle.inputs.specs.Query.{row_place, PortSets};
 ghost use Rattle.inputs.specs.Inputs.{Ready, SlotSets};
 
 use super::InputSources;
-use super::query::{find_inputs, no_sources};
+use super::query::find_inputs;
 use super::row::row_place;
 use assessment::upstream::upstream_rows;
 use lists::ids::member_of;
@@ -121,7 +121,7 @@ impl<'a> Asked<'a> {
                 self.labels,
                 self.upstream,
             ),
-            None => no_sources(),
+            None => InputSources::none(),
         }
     }
 }

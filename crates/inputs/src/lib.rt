@@ -5,7 +5,8 @@ pub mod asked;
 mod query;
 mod row;
 
-ghost use Rattle.inputs.specs.Query.{Answered};
+ghost use Rattle.std.specs.Prelude.{List, ℕ, ℤ, None};
+ghost use Rattle.inputs.specs.Query.{Answered, PortSets};
 
 use checks::refusals::{liveness_lists, room_for};
 use lists::ends::Ends;
@@ -19,6 +20,19 @@ use sets::ComponentSet;
 pub struct InputSources {
     pub immediate: ComponentSet,
     pub inferred: ComponentSet,
+}
+
+impl InputSources {
+    // Those of a port that has no verdict row, or that nothing feeds. A report writes them as empty lists, so that no Option stands for
+    // them.
+    pub fn none() -> InputSources
+        ensures { (cs ps fs : List ℤ) (port : ℕ) → PortSets cs ps fs None port result }
+    {
+        InputSources {
+            immediate: ComponentSet::empty(),
+            inferred: ComponentSet::empty(),
+        }
+    }
 }
 
 // The refusal of the checks, or the immediate sources of a port that has a verdict row, by the id of its component, and the inferred inputs

@@ -79,17 +79,6 @@ fn upstream_inputs(
     ComponentSet::of_flags(&upstream[..n])
 }
 
-// The sources where the port asked for has no verdict row, or none feeds it: two empty sets, which a report writes as empty lists, so that
-// an Option would be turned into them at once.
-pub(crate) fn no_sources() -> InputSources
-    ensures { (cs ps fs : List ℤ) (port : ℕ) → PortSets cs ps fs None port result }
-{
-    InputSources {
-        immediate: ComponentSet::empty(),
-        inferred: ComponentSet::empty(),
-    }
-}
-
 // Whether some key has the slot.
 fn is_fed(keys: &[u64], slot: usize) -> bool
     requires { Ascending keys.now × (slot < 2 ^ 32) }
@@ -114,7 +103,7 @@ pub(crate) fn row_sources(
         PortSets cs ps fs (Some p) port result × Zeros stack.new }
 {
     if !is_fed(fed, slot) {
-        return no_sources();
+        return InputSources::none();
     }
     let n = inferred.len();
     let mut immediate = [false; COMPONENTS];

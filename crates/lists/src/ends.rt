@@ -45,7 +45,8 @@ fn stands_at(keys: &[u64], m: usize, id: u64) -> bool
 fn end_missing(keys: &[u64], ports: PortList, ends: &[Ends], k: usize) -> bool
     requires { (k < port_count ports.numbers.now) × (k < length ends.now) }
     ensures { (cs : List ℤ) → IdTable cs keys.now →
-        SettledEnds cs ports.entry.numbers.now (sources_of ends.now) (sinks_of ends.now) → result ≡ end_missing cs ports.entry.numbers.now k }
+        SettledEnds cs ports.entry.numbers.now (sources_of ends.now) (sinks_of ends.now) →
+        result ≡ end_missing cs ports.entry.numbers.now k }
 {
     let settled = ends[k];
     let transfer = ports.transfer(k);
@@ -58,7 +59,8 @@ fn end_missing(keys: &[u64], ports: PortList, ends: &[Ends], k: usize) -> bool
 pub fn first_end_missing(keys: &[u64], ports: PortList, ends: &[Ends]) -> Option<usize>
     requires { port_count ports.numbers.now ≤ length ends.now }
     ensures { (cs : List ℤ) → IdTable cs keys.now →
-        SettledEnds cs ports.entry.numbers.now (sources_of ends.now) (sinks_of ends.now) → result ≡ first_end_missing cs ports.entry.numbers.now }
+        SettledEnds cs ports.entry.numbers.now (sources_of ends.now) (sinks_of ends.now) →
+        result ≡ first_end_missing cs ports.entry.numbers.now }
 {
     for k in 0..ports.count() {
         if end_missing(keys, ports, ends, k) {

@@ -97,7 +97,7 @@ pub fn first_repeated(keys: &[u64], components: ComponentList) -> Option<usize>
     None
 }
 
-// A support makes no signal edge.
+// A support makes no signal edge. A number as it stands in lists: to turn one into a kind for one test is longer.
 pub const SUPPORT: u64 = TransferKind::StructuralSupport as u64;
 
 // The member that stands for the component with the id: how many ids are below it.

@@ -1,6 +1,6 @@
 // The lists of a scene: what they may hold, where an id stands, the ends of port connections. Their refusals are crate checks.
-// `Components`, `PortConnections` and `id < 2 ^ 32` stand at each function that is lent such a list or id: they come as plain slices and
-// numbers from entries that owe nothing, and a struct around one slice says no less.
+// `id < 2 ^ 32` stands at each function that takes an id, a number. `IdTable` is said of every list of components that a table of ids is
+// of, so that no struct holds the one.
 #![tactic(auto)]
 
 pub mod ends;

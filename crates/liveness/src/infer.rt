@@ -27,7 +27,8 @@ pub(crate) fn infer(
     requires regions_below { Indices (component_count components.numbers.now) (length has_drive.now) region_at.now }
     requires fed_room { (length has_drive.now ≤ length fed.now) × (component_count components.numbers.now ≤ length flags.old) }
     ensures { let t = network.now in Flags (component_count components.entry.numbers.now)
-        (inferred_by components.entry.numbers.now members.now region_at.now has_drive.now fed.now t.forward.keys.now t.backward.keys.now t.labels.now)
+        (inferred_by components.entry.numbers.now members.now region_at.now has_drive.now fed.now
+        t.forward.keys.now t.backward.keys.now t.labels.now)
         flags.new }
 {
     for p in 0..components.count() {

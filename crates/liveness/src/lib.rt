@@ -1,5 +1,7 @@
 // Regions, sources, drive and verdicts of a scene.
-// `length has_drive ≡ component_limit` stands at each stage that fills or reads the flags: they are lent apart from a plot.
+// `length has_drive ≡ component_limit` stands at each stage that fills or reads the flags: they are lent apart from a plot, and two of the
+// stages are public, which an array in place of the slice would narrow. `(ps : List ℤ)` binds the port connections that a stage is not
+// lent.
 #![tactic(auto)]
 
 mod alive;

@@ -34,7 +34,7 @@ pub struct RowCounts {
     pub inputs: usize,
 }
 
-// Flags the components on frontiers, the drive sources, and the regions that hold one. Its slices stay: a prepared plot would ask more.
+// Flags the components on frontiers, the drive sources, and the regions that hold one. A prepared plot for its slices would ask more.
 pub fn flag_drive(
     components: ComponentList,
     frontiers: &[i64],
@@ -47,7 +47,8 @@ pub fn flag_drive(
         × Numbers (component_count components.numbers.now) (region_of_place components.numbers.now ps) region_at.now) }
     requires components_in_bounds { (component_count components.numbers.now ≤ length on_frontier.old)
         × ((component_count components.numbers.now ≤ length drive_at.old) × (length has_drive.old ≡ component_limit)) }
-    ensures { (ps : List ℤ) → Numbers (component_count components.entry.numbers.now) (region_of_place components.entry.numbers.now ps) region_at.now →
+    ensures { (ps : List ℤ) →
+        Numbers (component_count components.entry.numbers.now) (region_of_place components.entry.numbers.now ps) region_at.now →
         Driven components.entry.numbers.now ps frontiers.now on_frontier.new drive_at.new has_drive.new }
 {
     frontier_flags(components.numbers, frontiers, on_frontier);
@@ -56,7 +57,7 @@ pub fn flag_drive(
     gather(&region_at[..n], drive_at, has_drive);
 }
 
-// Flags the inferred inputs, by list place. Its slices stay: a prepared plot would ask more.
+// Flags the inferred inputs, by list place. A prepared plot for its slices would ask more.
 pub fn flag_inferred(
     components: ComponentList,
     forward: Graph,

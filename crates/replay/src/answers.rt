@@ -40,13 +40,6 @@ struct Rows {
 }
 
 // What a refused scene has.
-fn no_sources() -> InputSources {
-    InputSources {
-        immediate: ComponentSet::empty(),
-        inferred: ComponentSet::empty(),
-    }
-}
-
 fn no_analysis() -> Analysis {
     Analysis {
         regions: 0,
@@ -111,7 +104,7 @@ impl Replay {
             row[1],
             &mut stack,
         );
-        let found = self.accepted(answer, no_sources());
+        let found = self.accepted(answer, InputSources::none());
         self.compare_set(b"immediate", plot.keys, found.immediate);
         self.compare_set(b"inferred", plot.keys, found.inferred);
     }

@@ -152,7 +152,8 @@ impl Replay {
         }
     }
 
-    // Reads the list of a word, and compares an answer with it.
+    // Reads the list of a word, and compares an answer with it. Not one with `compare_signed`: each call would name the number and the
+    // room.
     pub fn compare(&mut self, word: &[u8], answered: &[u64])
         ensures tally { self.new.tally ≡ compared eq_n 4096 (length self.old.text)
             (read_list word.now (drop self.old.tally.at self.old.text)) answered.now self.old.tally }

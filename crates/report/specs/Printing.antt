@@ -2,6 +2,7 @@
 --     component_row_by, region_row_by         rows by what the entries wrote and answered
 --     asked_text, row_lines, inputs_text     the verdict rows, each asked for by the id of its device and by its port
 --     blocks_text, whole_text               the blocks before them, and the report by its rows
+--     AskedOf                             the scenes that the tables of ports are of
 --     Accepts, Gathered, Analyzed         the lists of an accepted sheet; what grouping, port selection and the analysis left
 -- Assumes nothing: these are definitions.
 use Rattle.blocks.specs.declared.Block.{Block}
@@ -15,6 +16,8 @@ use Rattle.lists.specs.Slices.{laid}
 use Rattle.lines.specs.Text.{ascii}
 use Rattle.lines.specs.Decimal.{line_of}
 use Rattle.circuit.specs.Topology.{nets_of, fragments_of}
+use Rattle.inputs.specs.declared.asked.Asked.{Asked}
+use Rattle.inputs.specs.Inputs.{Ready}
 use Rattle.inputs.specs.Query.{row_place, at_place, is_immediate, is_inferred_for}
 use Rattle.regions.specs.Graph.{marked}
 use Rattle.signals.specs.Regions.{region_count, regions_of, is_cyclic, holds_drive}
@@ -26,6 +29,10 @@ use Rattle.lists.specs.Records.{component, component_count}
 use Rattle.blocks.specs.Lines.{input_text}
 use Rattle.blocks.specs.Blocks.{block_text}
 use Rattle.report.specs.Report.{kept_list, ids_where}
+
+-- the tables by which ports are asked for their sources are those of their components with these port connections and frontiers
+abbrev pub AskedOf : Asked → List ℤ → List ℤ → Type 0
+AskedOf a ps fs = Ready a.components.now ps fs a.fed.now a.labels.now a.upstream.now
 
 -- ---- rows
 

@@ -2,11 +2,10 @@
 // first byte is written. Each stage has its arrays only while it runs.
 ghost use Rattle.std.specs.Prelude.{◌≡◌, List, ◌*◌, ◌≤◌, length, ℤ};
 ghost use Rattle.lists.specs.Records.{component_count};
-ghost use Rattle.inputs.specs.Inputs.{Ready};
 ghost use Rattle.blocks.specs.Printed.{Printed};
 ghost use Rattle.report.specs.Report.{report_of};
 ghost use Rattle.report.specs.Entry.{fits, lists_checked, PrintedBy};
-ghost use Rattle.report.specs.Printing.{whole_text, Accepts, Gathered, Analyzed};
+ghost use Rattle.report.specs.Printing.{AskedOf, whole_text, Accepts, Gathered, Analyzed};
 
 use super::fill::{fill_components, fill_connections, fill_regions};
 use super::rows::put_rows;
@@ -50,7 +49,7 @@ fn put_whole(
     inputs: &[u64],
 ) -> usize
     ensures { let a = asked.now in
-        (ps fs : List ℤ) → Ready a.components.now ps fs a.fed.now a.labels.now a.upstream.now →
+        (ps fs : List ℤ) → AskedOf a ps fs →
         let text = whole_text a.components.now ps fs components.now kept.now regions.now sources.now inputs.now in
         Printed 0 text out.old out.new result }
 {
@@ -73,7 +72,7 @@ fn print_rows(
     out: &mut [u8],
 ) -> Result<usize, Refusal>
     ensures { let a = asked.now in
-        (ps fs : List ℤ) → Ready a.components.now ps fs a.fed.now a.labels.now a.upstream.now →
+        (ps fs : List ℤ) → AskedOf a ps fs →
         let text = whole_text a.components.now ps fs components.now kept.now regions.now sources.now inputs.now in
         PrintedBy (fits text (length out.old)) text out.old out.new result }
 {
@@ -104,11 +103,11 @@ fn print_analysis(
 ) -> Result<usize, Refusal>
     requires gathered { (ps : List ℤ) × Gathered asked.now.components.now ps ports.now nets.now fragments.now }
     requires analyzed { let a = asked.now in
-        (fs : List ℤ) × (Ready a.components.now ports.now fs a.fed.now a.labels.now a.upstream.now ×
+        (fs : List ℤ) × (AskedOf a ports.now fs ×
         Analyzed a.components.now ports.now fs regions.now sources.now inputs.now found) }
     ensures { let a = asked.now in
         (ps fs : List ℤ) → Gathered a.components.now ps ports.now nets.now fragments.now →
-        Ready a.components.now ports.now fs a.fed.now a.labels.now a.upstream.now →
+        AskedOf a ports.now fs →
         Analyzed a.components.now ports.now fs regions.now sources.now inputs.now found →
         PrintedBy (fits (report_of a.components.now ps fs) (length out.old)) (report_of a.components.now ps fs) out.old out.new result }
 {

@@ -49,7 +49,7 @@ impl Scene<'_> {
     // The face of the step from component a to component b, if it has one.
     fn step_face(&self, a: usize, b: usize) -> Option<Face>
         requires { (a < component_count self.now.components.numbers.now) × (b < component_count self.now.components.numbers.now) }
-        ensures { face_number result ≡ step_face (component self.now.components.numbers.now a) (component self.now.components.numbers.now b) }
+        ensures { let cs = self.now.components.numbers.now in face_number result ≡ step_face (component cs a) (component cs b) }
     {
         let numbers = self.components.numbers;
         let source = a * COMPONENT;
@@ -105,7 +105,8 @@ impl Scene<'_> {
     fn keep(&self, k: usize, out: &mut [i64], count: usize) -> usize
         requires k_bound { k < connection_count self.now.connections.numbers.now }
         requires port_width_in_bounds { count * port_width + port_width ≤ length out.old }
-        ensures { Filled (map pos (kept_row self.now.components.numbers.now self.now.connections.numbers.now k)) count out.old out.new result }
+        ensures { let s = self.now in
+            Filled (map pos (kept_row s.components.numbers.now s.connections.numbers.now k)) count out.old out.new result }
     {
         let Some(ports) = self.link_of(k) else {
             return count;

@@ -15,6 +15,7 @@ use lists::views::ComponentList;
 use regions::Graph;
 use tables::SPAN;
 
+// A component's number is compared with the kind's own: to turn it into a kind for one test is longer.
 const WIRE: u64 = BlockKind::RedstoneWire as u64;
 
 const SOLID: u64 = BlockKind::Solid as u64;

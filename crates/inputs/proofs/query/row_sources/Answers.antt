@@ -36,7 +36,7 @@ lent s = length-take-le _ _ (small s)
 -- nothing feeds the slot
 pub returns-then-not-is_fed : goal.returns-then-not-is_fed
 returns-then-not-is_fed c cs ps fs p port w q =
-    (none_fed w q (sym c.is_fed.ensures ∙ c.if-not-is_fed.true) (c.no_sources.ensures cs ps fs port), c.requires.inferred_in_bounds.1)
+    (none_fed w q (sym c.is_fed.ensures ∙ c.if-not-is_fed.true) (c.none.ensures cs ps fs port), c.requires.inferred_in_bounds.1)
 
 -- the flags of the nodes, lent from the front of an array
 abbrev rest : Start → List Bool

@@ -62,7 +62,7 @@ returns-in-Some c ps fs r =
 pub returns-in-None : goal.returns-in-None
 returns-in-None c ps fs r =
     sets_at c.args.id (sym c.row_place.ensures ∙ c.in-None.is)
-    (c.no_sources.ensures c.args.self.now.components.now ps fs c.args.port)
+    (c.none.ensures c.args.self.now.components.now ps fs c.args.port)
 
 pub invariant_of-listed : goal.invariant_of-listed
 invariant_of-listed c =

@@ -16,5 +16,8 @@ returns c =
       small_read c.sink.result (omega (arith, c.sink.ensures.1)),
       small_read c.args.ports.1 (omega arith),
       small_read c.transfer_of.result (omega (arith, c.transfer_of.ensures, transfer_most c.kind.result)),
-      c.source.ensures.0, c.sink.ensures.0, c.transfer_of.ensures, c.kind.ensures,
+      c.source.ensures.0,
+      c.sink.ensures.0,
+      c.transfer_of.ensures,
+      c.kind.ensures,
     )
