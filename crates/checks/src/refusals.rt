@@ -220,6 +220,7 @@ pub fn liveness_lists(
 }
 
 // An answer as one number: 0 where the checks accept, else the number, the list and the item, from the lowest digits on.
+// An entry whose accepted answer is another number packs its refusal in an arm: a function of both would be no shorter at its callers.
 pub fn pack(checked: Result<(), Refusal>) -> u64
     requires { Small checked }
     ensures { result ≡ packed checked }

@@ -64,7 +64,7 @@ fn face_of(x: Shift, y: Shift, z: Shift) -> Option<Face>
     }
 }
 
-// The face of the step from (x, y, z) to (to_x, to_y, to_z), if it has one.
+// The face of the step from (x, y, z) to (to_x, to_y, to_z), if it has one. An entry, so that it takes plain numbers.
 pub fn facing_between(x: i64, y: i64, z: i64, to_x: i64, to_y: i64, to_z: i64) -> Option<Face>
     ensures { face_number result ≡ facing_between x y z to_x to_y to_z }
 {

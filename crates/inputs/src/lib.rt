@@ -1,4 +1,5 @@
 // The input query: the immediate sources of a port, and the inferred inputs among these and all upstream of them.
+// Lent slices stay parameters: a struct of `&mut` fields would owe a ghost name for what each is left as.
 #![tactic(auto)]
 
 pub mod asked;

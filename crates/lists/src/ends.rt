@@ -31,7 +31,7 @@ pub fn settle_ends(keys: &[u64], ports: PortList, ends: &mut [Ends])
     }
 }
 
-// Whether a component has the id, given the member that would stand for it.
+// Whether a component has the id, given the member that would stand for it. No plainer by `get`: it was tried, and takes a law more.
 fn stands_at(keys: &[u64], m: usize, id: u64) -> bool
     ensures { (cs : List ℤ) → IdTable cs keys.now → m ≡ smaller_ids cs id → result ≡ has_component cs id }
 {

@@ -30,6 +30,15 @@ impl ComponentList<'_> {
         natural_at(self.numbers, k * COMPONENT)
     }
 
+    // Where it stands: x, y and z.
+    pub fn position(self, k: usize) -> (i64, i64, i64)
+        requires { k < component_count self.numbers.now }
+        ensures { let c = component self.entry.numbers.now k in (result.0 ≡ c.x) × ((result.1 ≡ c.y) × (result.2 ≡ c.z)) }
+    {
+        let at = k * COMPONENT;
+        (self.numbers[at + 1], self.numbers[at + 2], self.numbers[at + 3])
+    }
+
     pub fn kind(self, k: usize) -> u64
         requires { k < component_count self.numbers.now }
         ensures { result ≡ (component self.entry.numbers.now k).kind }

@@ -1,4 +1,5 @@
 // The liveness entry over a lent list of records: their numbers are copied into the flat form, and the entry over that answers.
+// Lent slices stay parameters: a struct of `&mut` fields would owe a ghost name for what each is left as.
 #![tactic(auto)]
 
 ghost use Rattle.std.specs.Prelude.{◌≡◌, ◌*◌, ◌≤◌, length, take};

@@ -14,7 +14,7 @@ const SOURCES: usize = 2 * COMPONENTS;
 
 const INPUTS: usize = 4 * COMPONENTS;
 
-// The lists of a scene.
+// The lists of a scene as they were read: no check has accepted them, which the core's own structs ask for.
 #[derive(Clone, Copy)]
 struct Scene<'a> {
     components: &'a [i64],

@@ -1,5 +1,6 @@
 // The report of a sheet: the sheet is read into lent work lists, its lists are checked and analyzed, and the report is written into a lent
 // buffer where it fits. Crate `blocks` has the text, block by block.
+// Lent slices stay parameters: a struct of `&mut` fields would owe a ghost name for what each is left as.
 #![tactic(auto)]
 
 pub mod fill;

@@ -51,17 +51,9 @@ impl Scene<'_> {
         requires { (a < component_count self.now.components.numbers.now) × (b < component_count self.now.components.numbers.now) }
         ensures { let cs = self.now.components.numbers.now in face_number result ≡ step_face (component cs a) (component cs b) }
     {
-        let numbers = self.components.numbers;
-        let source = a * COMPONENT;
-        let sink = b * COMPONENT;
-        facing_between(
-            numbers[source + 1],
-            numbers[source + 2],
-            numbers[source + 3],
-            numbers[sink + 1],
-            numbers[sink + 2],
-            numbers[sink + 3],
-        )
+        let (x, y, z) = self.components.position(a);
+        let (to_x, to_y, to_z) = self.components.position(b);
+        facing_between(x, y, z, to_x, to_y, to_z)
     }
 
     // The ports that a connection from component a to component b takes at its ends.

@@ -1,6 +1,7 @@
 // Sheets: text that says the three lists of a scene, line by line. The first pass takes the text alone and finds its first fault, or where
 // the lists stand; the second stores the numbers. So a refusal changes no slice.
 // `at ≤ length text` stands at each reader: a text and a position are lent apart, since places in a text outlive a reader.
+// Lent slices stay parameters: a struct of `&mut` fields would owe a ghost name for what each is left as.
 #![tactic(auto)]
 
 mod first_pass;

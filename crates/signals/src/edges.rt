@@ -19,7 +19,8 @@ use tables::SPAN;
 // A port of a member: ports are 0 to 255.
 pub const PORTS: usize = 1 << 8;
 
-// The port that each port connection feeds, as one number, its sink's member and then the port; and the member that feeds it.
+// The port that each port connection feeds, as one number, its sink's member and then the port; and the member that feeds it. As `Ends`,
+// of which keys are made.
 pub fn settle_slots(ports: PortList, ends: &[Ends], fed: &mut [Ends])
     requires ports_in_bounds { (port_count ports.numbers.now ≤ length ends.now) × (port_count ports.numbers.now ≤ length fed.old) }
     requires by_index { (k : ℕ) → k < port_count ports.numbers.now → get_or (sinks_of ends.now) k 0 ≤ component_limit }
@@ -36,7 +37,7 @@ pub fn settle_slots(ports: PortList, ends: &[Ends], fed: &mut [Ends])
 }
 
 // The key of port connection k: the pair of two numbers, or of `nowhere` and COMPONENTS where it is a support. Where `nowhere` is
-// COMPONENTS too, the key of a support turned round is itself.
+// COMPONENTS too, the key of a support turned round is itself. A number and no Option: the key is sorted with the others, behind them.
 fn signal_key(ports: PortList, k: usize, first: usize, second: usize, nowhere: usize) -> u64
     requires k_bound { k < port_count ports.numbers.now }
     requires first_bound { (first < 2 ^ 32) × ((second < span) × (nowhere < 2 ^ 32)) }

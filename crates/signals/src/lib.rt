@@ -2,6 +2,7 @@
 // an edge leads from and to, inferred inputs. Crate assessment goes on from there, and the entry that joins them is crate liveness.
 // `Rows` stands at each stage that is lent such a table: the tables are built stage by stage, so that no struct holds all of them before
 // the last.
+// Lent slices stay parameters: a struct of `&mut` fields would owe a ghost name for what each is left as.
 #![tactic(auto)]
 
 pub mod crossings;
