@@ -12,7 +12,7 @@ use mathlib.Core.List.{List, [], ◌++◌}
 use Prim.Native.Nat.{ℕ, zero, suc, ◌+◌, ◌≤◌, ◌<◌}
 use native.Mathlib.Omega.{arith}
 use lib.Dec.{eqb, leb}
-use lib.ListN.{get_or}
+use lib.ListN.{length, get_or}
 use lib.IntN.{ℤ}
 use borrow.Author.Tests.{eq-eqb, not-true}
 use Rattle.lists.specs.Limits.{component_limit}
@@ -28,7 +28,8 @@ use Rattle.signals.specs.Sources.{source_kind, is_on_frontier, is_drive}
 use Rattle.signals.specs.Regions.{wire, is_inferred, holds_drive, region_of_place, neighbours, fed_from_outside}
 use Rattle.assessment.specs.Verdicts.{status_of, verdict_rows, input_rows, sources_at, source_rows_below}
 use Rattle.assessment.specs.Rows.{device_rows, first_required, required_count, NoneRequired, rows_below, sources_below, InferredAlone}
-use Rattle.assessment.specs.Places.{places, slot_of, SlotRoom, SlotFlags, LiveMarks, status_at}
+use Rattle.assessment.specs.declared.slots.Slot.{Slot}
+use Rattle.assessment.specs.Places.{places, slot_of, slot_count, SlotFlags, LiveMarks, status_at}
 use Rattle.lists.proofs.Some.{some_at, and_true}
 use Rattle.assessment.proofs.Devices.{count_most, first_most}
 use Rattle.assessment.proofs.Statuses.{status_is}
@@ -87,12 +88,12 @@ module _ (cs ps fs : List ℤ) (status : ℕ → ℕ → ℕ) (same : (p port : 
       (rows_cong (component cs p).id (first_required kind) (status p) (status_of cs ps fs p) (required_count kind)
       (λ j l. same p (first_required kind + j) (omega arith) (omega (arith, count_most kind, first_most kind)))))
 
-module _ {cs ps : List ℤ} {sources sinks members : List ℕ} {drive potential fed driven possible : List Bool} (few : component_count cs ≤ component_limit)
+module _ {cs ps : List ℤ} {sources sinks members : List ℕ} {drive potential : List Bool} {slots : List Slot} (few : component_count cs ≤ component_limit)
     (s : Settled cs ps 0 sources) (t : Settled cs ps 2 sinks) (ends : first_end_missing cs ps ≡ None) (numbers : Numbers (component_count cs) (member_of cs) members)
-    (f : SlotFlags (port_count ps) ps sources sinks drive potential fed driven possible) (room : SlotRoom fed driven possible) where
+    (f : SlotFlags (port_count ps) ps sources sinks drive potential slots) (room : length slots ≡ slot_count) where
   pub verdicts_are : (fs : List ℤ) → LiveMarks cs ps fs drive potential
-      → rows_below cs (λ p port. status_at fed driven possible (slot_of (get_or members p 0) port)) (component_count cs) ≡ input_rows cs ps fs
+      → rows_below cs (λ p port. status_at slots (slot_of (get_or members p 0) port)) (component_count cs) ≡ input_rows cs ps fs
   verdicts_are fs live =
-      by_status cs ps fs (λ p port. status_at fed driven possible (slot_of (get_or members p 0) port))
-      (λ p port h l. ap (λ (m : ℕ). status_at fed driven possible (slot_of m port)) (numbers.at p h) ∙ status_is few s t ends p port h l f room fs live)
+      by_status cs ps fs (λ p port. status_at slots (slot_of (get_or members p 0) port))
+      (λ p port h l. ap (λ (m : ℕ). status_at slots (slot_of m port)) (numbers.at p h) ∙ status_is few s t ends p port h l f room fs live)
       (component_count cs) (omega arith)

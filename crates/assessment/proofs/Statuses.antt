@@ -6,12 +6,12 @@
 use Rattle.std.specs.Prelude.{Some, None}
 use mathlib.Core.Path.{◌≡◌, refl, sym, ap, ◌∙◌}
 use mathlib.Core.Bool.{Bool, true, false, cond, ◌&&◌}
-use mathlib.Core.List.{List}
+use mathlib.Core.List.{List, map}
 use mathlib.Core.Logic.{⊎_elim}
 use Prim.Native.Nat.{ℕ, ◌/◌, ◌%◌, ◌≤◌, ◌<◌}
 use native.Mathlib.Omega.{arith}
 use lib.Dec.{eqb, ltb}
-use lib.ListN.{length, get_or}
+use lib.ListN.{length, get_or, length-map}
 use lib.IntN.{ℤ}
 use borrow.Author.Tests.{eqb-true, eq-eqb, ne_eqb, lt-ltb, le-ltb}
 use Rattle.tables.specs.Order.{member}
@@ -31,13 +31,15 @@ use Rattle.signals.specs.Keys.{Slots, KeysOf, slot, ports}
 use Rattle.signals.specs.Flags.{GatheredBy}
 use Rattle.assessment.specs.Verdicts.{feeds_port, fed_by, status_of}
 use Rattle.assessment.specs.Rows.{slot_fed, FedWithin}
-use Rattle.assessment.specs.Places.{places, slot_of, slot_count, slot_at, slot_number, SlotRoom, SlotFlags, LiveMarks, status_at}
+use Rattle.assessment.specs.declared.slots.Slot.{Slot}
+use Rattle.assessment.specs.Places.{places, slot_of, slot_count, slot_at, slot_number, unfed, SlotFlags, LiveMarks, slot_status, status_at}
 use Rattle.signals.proofs.Tabulated.{first_cong}
 use Rattle.signals.proofs.Ends.{ends_below, sink_is}
 use Rattle.signals.proofs.Tested.{same_truth}
 use Rattle.signals.proofs.Graph.{parts_same, and_turn, feeds, no_slot, fed_at, has_pair, pairs_member, settled_small, source_at, sink_at}
 use Rattle.lists.proofs.Some.{some_found, some_at, and_true}
 use Rattle.assessment.proofs.Required.{and_none}
+use Rattle.assessment.proofs.Places.{flag_at}
 
 -- ---- the table of fed ports
 
@@ -140,23 +142,25 @@ module _ {cs ps : List ℤ} {sources sinks : List ℕ} (few : component_count cs
     unfolding slot_at
     slot_feeds = by_signal (is_signal ps k) refl
 
-  flag_is : (marks : List Bool) {flags : List Bool} → GatheredBy (port_count ps) (λ k. slot_number (slot_at ps k (get_or sinks k 0))) (λ k. marked marks (get_or sources k 0)) flags
-      → length flags ≡ slot_count → marked flags j ≡ fed_by cs ps p port marks
-  unfolding fed_by
-  flag_is marks {flags} g long =
-      g.at j (omega (arith, slot_below))
-      ∙ ap is_found (first_cong (λ k. marked marks (get_or sources k 0) && eqb (slot_number (slot_at ps k (get_or sinks k 0))) j) (λ k. feeds_port cs ps p port k && marked marks (source_member cs ps k)) 0 (port_count ps) (λ k a b.
-      let here : k < port_count ps = omega arith in
-      rw (slot_feeds k here, source_at few s t k here) (and_turn true (marked marks (source_member cs ps k)) (feeds_port cs ps p port k))))
-
-  module _ {drive potential fed driven possible : List Bool} (f : SlotFlags (port_count ps) ps sources sinks drive potential fed driven possible)
-      (room : SlotRoom fed driven possible) where
-    fed_is : marked fed j ≡ some (feeds_port cs ps p port) (port_count ps)
+  module _ {drive potential : List Bool} {slots : List Slot} (f : SlotFlags (port_count ps) ps sources sinks drive potential slots) (room : length slots ≡ slot_count) where
+    fed_is : (get_or slots j unfed).fed ≡ some (feeds_port cs ps p port) (port_count ps)
     fed_is =
-        f.fed_flags.at j (omega (arith, slot_below, room.fed_room))
+        sym (flag_at (λ s. s.fed) refl slots j)
+        ∙ f.fed_flags.at j (omega (arith, slot_below, room, length-map slots (λ s. s.fed)))
         ∙ ap is_found (first_cong (λ k. eqb (slot_number (slot_at ps k (get_or sinks k 0))) j) (feeds_port cs ps p port) 0 (port_count ps) (λ k a b. slot_feeds k (omega arith)))
 
-    pub status_is : (fs : List ℤ) → LiveMarks cs ps fs drive potential → status_at fed driven possible j ≡ status_of cs ps fs p port
-    unfolding status_at status_of
+    flag_is : (marks : List Bool) (flag : Slot → Bool) → flag unfed ≡ false
+        → GatheredBy (port_count ps) (λ k. slot_number (slot_at ps k (get_or sinks k 0))) (λ k. marked marks (get_or sources k 0)) (map flag slots)
+        → flag (get_or slots j unfed) ≡ fed_by cs ps p port marks
+    unfolding fed_by
+    flag_is marks flag off g =
+        sym (flag_at flag off slots j)
+        ∙ g.at j (omega (arith, slot_below, room, length-map slots flag))
+        ∙ ap is_found (first_cong (λ k. marked marks (get_or sources k 0) && eqb (slot_number (slot_at ps k (get_or sinks k 0))) j) (λ k. feeds_port cs ps p port k && marked marks (source_member cs ps k)) 0 (port_count ps) (λ k a b.
+        let here : k < port_count ps = omega arith in
+        rw (slot_feeds k here, source_at few s t k here) (and_turn true (marked marks (source_member cs ps k)) (feeds_port cs ps p port k))))
+
+    pub status_is : (fs : List ℤ) → LiveMarks cs ps fs drive potential → status_at slots j ≡ status_of cs ps fs p port
+    unfolding slot_status status_of
     status_is fs live =
-        rw (fed_is, flag_is drive f.driven_flags room.driven_room, flag_is potential f.possible_flags room.possible_room, live.drive_is, live.potential_is)
+        rw (fed_is, flag_is drive (λ s. s.driven) refl f.driven_flags, flag_is potential (λ s. s.possible) refl f.possible_flags, live.drive_is, live.potential_is)

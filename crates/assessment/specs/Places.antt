@@ -2,16 +2,17 @@
 -- marked member.
 --     slot_at, SlotFlags          the slot that a port connection feeds, and the flags that the connections leave
 --     LiveMarks                  the marks of members by which slots are flagged
---     status_at                   the status of a slot by its flags
+--     slot_status, status_at      the status of a slot by its flags
 -- Assumes nothing: these are definitions.
 use Rattle.std.specs.Prelude.{Option, Some, None}
-use Rattle.std.specs.Prelude.{ℕ, ◌+◌, ◌*◌, ◌≡◌, Bool, true, false, not, cond, ◌&&◌, List, ltb, length, get_or, replicate, ℤ}
+use Rattle.std.specs.Prelude.{ℕ, ◌+◌, ◌*◌, ◌≡◌, Bool, true, false, not, cond, ◌&&◌, List, ltb, map, get_or, ℤ}
 use Rattle.lists.specs.Limits.{component_limit}
 use Rattle.lists.specs.Records.{port_connection}
 use Rattle.regions.specs.Graph.{marked}
 use Rattle.signals.specs.Signals.{is_signal}
 use Rattle.signals.specs.Flags.{GatheredBy}
 use Rattle.signals.specs.Drive.{drive, potential}
+use Rattle.assessment.specs.declared.slots.Slot.{Slot}
 use Rattle.assessment.specs.declared.slots.Status.{Status}
 
 -- ---- slots
@@ -38,31 +39,28 @@ slot_number None = slot_count
 
 -- ---- flags of slots
 
-pub record SlotRoom (fed driven possible : List Bool) : Type 0 where
-  pub fed_room : length fed ≡ slot_count
-  pub driven_room : length driven ≡ slot_count
-  pub possible_room : length possible ≡ slot_count
-
--- no slot is flagged
-pub record Unmarked (fed driven possible : List Bool) : Type 0 where
-  pub fed_none : fed ≡ replicate slot_count false
-  pub driven_none : driven ≡ replicate slot_count false
-  pub possible_none : possible ≡ replicate slot_count false
+-- a slot that nothing feeds
+abbrev pub unfed : Slot
+unfed = record { fed = false; driven = false; possible = false }
 
 -- those that the first n port connections feed, and those that they feed from a marked source
-pub record SlotFlags (n : ℕ) (ps : List ℤ) (sources sinks : List ℕ) (drive potential fed driven possible : List Bool) : Type 0 where
-  pub fed_flags : GatheredBy n (λ k. slot_number (slot_at ps k (get_or sinks k 0))) (λ k. true) fed
-  pub driven_flags : GatheredBy n (λ k. slot_number (slot_at ps k (get_or sinks k 0))) (λ k. marked drive (get_or sources k 0)) driven
-  pub possible_flags : GatheredBy n (λ k. slot_number (slot_at ps k (get_or sinks k 0))) (λ k. marked potential (get_or sources k 0)) possible
+pub record SlotFlags (n : ℕ) (ps : List ℤ) (sources sinks : List ℕ) (drive potential : List Bool) (slots : List Slot) : Type 0 where
+  pub fed_flags : GatheredBy n (λ k. slot_number (slot_at ps k (get_or sinks k 0))) (λ k. true) (map (λ s. s.fed) slots)
+  pub driven_flags : GatheredBy n (λ k. slot_number (slot_at ps k (get_or sinks k 0))) (λ k. marked drive (get_or sources k 0)) (map (λ s. s.driven) slots)
+  pub possible_flags : GatheredBy n (λ k. slot_number (slot_at ps k (get_or sinks k 0))) (λ k. marked potential (get_or sources k 0)) (map (λ s. s.possible) slots)
 
 -- the marks are those of `Drive`
 pub record LiveMarks (cs ps fs : List ℤ) (driven possible : List Bool) : Type 0 where
   pub drive_is : driven ≡ drive cs ps fs
   pub potential_is : possible ≡ potential cs ps fs
 
--- the status of slot j
-unfoldable pub status_at : List Bool → List Bool → List Bool → ℕ → ℕ
-status_at fed driven possible j = cond (not (marked fed j)) 2 (cond (marked driven j) 0 (cond (marked possible j) 1 3))
+-- the status of a slot
+unfoldable pub slot_status : Slot → ℕ
+slot_status s = cond (not s.fed) 2 (cond s.driven 0 (cond s.possible 1 3))
+
+-- and of slot j
+abbrev pub status_at : List Slot → ℕ → ℕ
+status_at slots j = slot_status (get_or slots j unfed)
 
 -- statuses in the numbers of verdict rows
 abbrev pub status_number : Status → ℕ

@@ -1,6 +1,6 @@
 // Verdict rows by flags of slots: one pass over the port connections marks which ports are fed, and by what, so no table is sorted.
 ghost use Rattle.std.specs.Prelude.{Some, None};
-ghost use Rattle.std.specs.Prelude.{◌≡◌, true, false, ℕ, List, [], ◌∷◌, ◌+◌, ◌*◌, ◌≤◌, ◌<◌, length, get_or, ℤ};
+ghost use Rattle.std.specs.Prelude.{◌≡◌, true, false, ℕ, List, [], ◌∷◌, ◌+◌, ◌*◌, ◌≤◌, ◌<◌, length, get_or, replicate, ℤ};
 ghost use Rattle.lists.specs.Limits.{component_limit};
 ghost use Rattle.lists.specs.Records.{component_count, port_count};
 ghost use Rattle.lists.specs.Ids.{member_of, first_end_missing};
@@ -11,7 +11,7 @@ ghost use Rattle.signals.specs.Flags.{Numbers, Indices};
 ghost use Rattle.signals.specs.Seen.{SignalEnds};
 ghost use Rattle.assessment.specs.Verdicts.{input_rows};
 ghost use Rattle.assessment.specs.Rows.{Put, Scanned, NoneRequired, rows_of, rows_below};
-ghost use Rattle.assessment.specs.Places.{slot_of, slot_count, slot_at, SlotRoom, SlotFlags, Unmarked, LiveMarks, status_at, status_number};
+ghost use Rattle.assessment.specs.Places.{slot_of, slot_count, slot_at, unfed, SlotFlags, LiveMarks, slot_status, status_at, status_number};
 
 use super::verdicts::required_ports;
 use lists::COMPONENTS;
@@ -26,13 +26,12 @@ const SLOTS: usize = PLACES * COMPONENTS;
 
 // ---- flags
 
-// The slots whose port is fed, those fed by a driven member, and those fed by one that may be. Three arrays, as `SlotFlags` has three
-// lists.
-#[derive(Drop)]
-struct Slots {
-    fed: [bool; SLOTS],
-    driven: [bool; SLOTS],
-    possible: [bool; SLOTS],
+// Whether a slot's port is fed, whether by a driven member, and whether by one that may be.
+#[derive(Clone, Copy)]
+struct Slot {
+    fed: bool,
+    driven: bool,
+    possible: bool,
 }
 
 // What is known of what feeds a port, in the order of its numbers in verdict rows.
@@ -76,40 +75,45 @@ fn mark_at(flags: &[bool], i: usize) -> bool
     flags.get(i).is_some_and(|flag| *flag)
 }
 
-impl Slots {
-    // Marks the slots that are fed, and those fed from a marked source; none is marked before.
-    fn mark(&mut self, ports: PortList, ends: &[Ends], drive: &[bool], potential: &[bool])
-        requires signal_ends { SignalEnds component_limit ports.numbers.now (sinks_of ends.now) }
-        requires ends_in_bounds { port_count ports.numbers.now ≤ length ends.now }
-        requires none_marked { Unmarked self.old.fed self.old.driven self.old.possible }
-        ensures room { SlotRoom self.new.fed self.new.driven self.new.possible }
-        ensures marked { let ps = ports.entry.numbers.now in
-            SlotFlags (port_count ps) ps (sources_of ends.now) (sinks_of ends.now) drive.now potential.now
-            self.new.fed self.new.driven self.new.possible }
-    {
-        for k in 0..ports.count() {
-            let Ends { source, sink } = ends[k];
-            if let Some(j) = slot_at(ports, k, sink) {
-                self.fed[j] = true;
-                self.driven[j] |= mark_at(drive, source);
-                self.possible[j] |= mark_at(potential, source);
-            }
+// Marks the slots that are fed, and those fed from a marked source; none is marked before.
+fn mark_slots(
+    ports: PortList,
+    ends: &[Ends],
+    drive: &[bool],
+    potential: &[bool],
+    slots: &mut [Slot; SLOTS],
+)
+    requires signal_ends { SignalEnds component_limit ports.numbers.now (sinks_of ends.now) }
+    requires ends_in_bounds { port_count ports.numbers.now ≤ length ends.now }
+    requires none_marked { slots.old ≡ replicate slot_count unfed }
+    ensures { let ps = ports.entry.numbers.now in
+        SlotFlags (port_count ps) ps (sources_of ends.now) (sinks_of ends.now) drive.now potential.now slots.new }
+{
+    for k in 0..ports.count() {
+        let Ends { source, sink } = ends[k];
+        if let Some(j) = slot_at(ports, k, sink) {
+            let slot = slots[j];
+            slots[j] = Slot {
+                fed: true,
+                driven: slot.driven | mark_at(drive, source),
+                possible: slot.possible | mark_at(potential, source),
+            };
         }
     }
+}
 
-    // The status of a slot.
-    #[tactic(auto, unfolding(crate::specs::Places::status_at))]
-    fn status(&self, j: usize) -> Status
-        requires { j < slot_count }
-        ensures { status_number result ≡ status_at self.now.fed self.now.driven self.now.possible j }
+impl Slot {
+    #[tactic(auto, unfolding(crate::specs::Places::slot_status))]
+    fn status(self) -> Status
+        ensures { status_number result ≡ slot_status self }
     {
-        if !self.fed[j] {
+        if !self.fed {
             return Status::Disconnected;
         }
-        if self.driven[j] {
+        if self.driven {
             return Status::DrivenByKnownSource;
         }
-        if self.possible[j] {
+        if self.possible {
             return Status::AwaitingExternalInput;
         }
         Status::NoKnownSource
@@ -130,16 +134,23 @@ fn put_verdict(out: &mut [u64], at: usize, device: u64, port: u64, status: Statu
 }
 
 // Writes the rows of a device's required ports from a place on, and answers the place after them.
-fn put_ports(id: u64, kind: u64, member: usize, slots: &Slots, out: &mut [u64], at: usize) -> usize
+fn put_ports(
+    id: u64,
+    kind: u64,
+    member: usize,
+    slots: &[Slot; SLOTS],
+    out: &mut [u64],
+    at: usize,
+) -> usize
     requires member_bound { member < component_limit }
     requires at_in_bounds { at + 12 ≤ length out.old }
-    ensures { Put (rows_of id kind (λ port. status_at slots.now.fed slots.now.driven slots.now.possible (slot_of member port)))
+    ensures { Put (rows_of id kind (λ port. status_at slots.now (slot_of member port)))
         at out.old out.new result }
 {
     let ports = required_ports(kind);
     let mut place = at;
     for port in ports.start..ports.end {
-        let status = slots.status(member * PLACES + port);
+        let status = slots[member * PLACES + port].status();
         place = put_verdict(out, place, id, port as u64, status);
     }
     place
@@ -147,11 +158,16 @@ fn put_ports(id: u64, kind: u64, member: usize, slots: &Slots, out: &mut [u64], 
 
 // Writes the rows of all components, in list order, and answers how many there are. Not one with `put_sources`: they share a loop of three
 // lines, and the clauses of a closure that writes a component's rows would be longer.
-fn put_rows(components: ComponentList, members: &[usize], slots: &Slots, out: &mut [u64]) -> usize
+fn put_rows(
+    components: ComponentList,
+    members: &[usize],
+    slots: &[Slot; SLOTS],
+    out: &mut [u64],
+) -> usize
     requires members { Indices (component_count components.numbers.now) component_limit members.now }
     requires out_len { 12 * component_count components.numbers.now ≤ length out.old }
     ensures { Scanned (rows_below components.entry.numbers.now
-        (λ p port. status_at slots.now.fed slots.now.driven slots.now.possible (slot_of (get_or members.now p 0) port))
+        (λ p port. status_at slots.now (slot_of (get_or members.now p 0) port))
         (component_count components.entry.numbers.now)) 3 out.old out.new result }
 {
     let mut at = 0;
@@ -204,11 +220,11 @@ pub fn write_verdicts(
     if !any_required(components) {
         return 0;
     }
-    let mut slots = Slots {
-        fed: [false; SLOTS],
-        driven: [false; SLOTS],
-        possible: [false; SLOTS],
-    };
-    slots.mark(ports, ends, drive, potential);
+    let mut slots = [Slot {
+        fed: false,
+        driven: false,
+        possible: false,
+    }; SLOTS];
+    mark_slots(ports, ends, drive, potential, &mut slots);
     put_rows(components, members, &slots, out)
 }

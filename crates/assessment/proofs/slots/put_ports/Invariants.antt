@@ -8,4 +8,4 @@ use Rattle.assessment.proofs.slots.put_ports.Given as goal
 
 abbrev pub invariant-loop-port : goal.invariant-loop-port
 invariant-loop-port l =
-    PortsPut l.id (first_required l.kind) (λ port. status_at l.slots.fed l.slots.driven l.slots.possible (slot_of l.member port)) l.at l.initial.out l.out l.place (l.port - first_required l.kind)
+    PortsPut l.id (first_required l.kind) (λ port. status_at l.slots (slot_of l.member port)) l.at l.initial.out l.out l.place (l.port - first_required l.kind)

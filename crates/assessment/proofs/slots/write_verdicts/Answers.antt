@@ -19,8 +19,8 @@ returns-then-not-any_required c fs live =
     (sym (no_rows c.args.components.numbers.now c.args.ports.numbers.now fs none _ (omega arith)))
     (record { is = refl; count = refl })
 
-pub mark-requires-clause-signal_ends : goal.mark-requires-clause-signal_ends
-mark-requires-clause-signal_ends c =
+pub mark_slots-requires-clause-signal_ends : goal.mark_slots-requires-clause-signal_ends
+mark_slots-requires-clause-signal_ends c =
     let few = c.args.components.within.few in
     let ends = sink_ends few c.requires.settled.0 c.requires.settled.1 (ends_within _ _ c.requires.ends) (omega (arith, c.requires.ports_in_bounds, sinks_length c.args.ends.now)) in
     record { long = ends.long; below = λ k h signal. omega (arith, ends.below k h signal, few) }
@@ -31,5 +31,5 @@ put_rows-requires-clause-members c = members_within _ c.args.components.within.f
 pub returns : goal.returns
 returns c fs live =
     subst (λ (l : List ℕ). Scanned l 3 c.args.out.now c.put_rows.new.out c.put_rows.result)
-    (verdicts_are c.args.components.within.few c.requires.settled.0 c.requires.settled.1 c.requires.ends c.requires.numbers.0 c.mark.ensures.marked c.mark.ensures.room fs live)
+    (verdicts_are c.args.components.within.few c.requires.settled.0 c.requires.settled.1 c.requires.ends c.requires.numbers.0 c.mark_slots.ensures c.mark_slots.array_long fs live)
     c.put_rows.ensures
