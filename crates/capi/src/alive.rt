@@ -62,9 +62,8 @@ fn put_sets(analysis: Analysis, out: &mut [u8])
     encode_at(&analysis.has_drive.words, out, 3 * WORDS * NUMBER);
 }
 
-// Writes what was found of an accepted scene of so many components: the rows lent have room for the most.
+// Writes what was found of an accepted scene.
 fn write_answer(
-    count: usize,
     analysis: Analysis,
     rows: &Rows,
     regions: &mut [u8],
@@ -73,14 +72,14 @@ fn write_answer(
     sets: &mut [u8],
     stack: &mut [u8],
 ) -> u64
-    requires { WrittenRoom count analysis rows.now.regions.now rows.now.sources.now rows.now.inputs.now
+    requires { WrittenRoom analysis rows.now.regions.now rows.now.sources.now rows.now.inputs.now
         regions.old sources.old inputs.old sets.old }
-    ensures { Written count analysis rows.now.regions.now rows.now.sources.now rows.now.inputs.now
+    ensures { Written analysis rows.now.regions.now rows.now.sources.now rows.now.inputs.now
         regions.old regions.new sources.old sources.new inputs.old inputs.new sets.old sets.new stack.old stack.new result }
 {
-    encode(&rows.regions[..count], regions);
-    encode(&rows.sources[..analysis.sources * 2], sources);
-    encode(&rows.inputs[..analysis.inputs * 3], inputs);
+    encode(rows.regions, regions);
+    encode(rows.sources, sources);
+    encode(rows.inputs, inputs);
     put_sets(analysis, sets);
     wipe(stack);
     pack_counts(analysis.regions, analysis.sources, analysis.inputs)
@@ -118,15 +117,13 @@ fn by_rows(
     match analyzed {
         Err(refusal) => pack(Err(refusal)),
         Ok(analysis) => {
-            let rows = Rows {
-                regions: region_rows,
-                sources: source_rows,
-                inputs: input_rows,
-            };
             let count = lists.components.len() / COMPONENT;
-            write_answer(
-                count, analysis, &rows, regions, sources, inputs, sets, stack,
-            )
+            let rows = Rows {
+                regions: &region_rows[..count],
+                sources: &source_rows[..analysis.sources * 2],
+                inputs: &input_rows[..analysis.inputs * 3],
+            };
+            write_answer(analysis, &rows, regions, sources, inputs, sets, stack)
         }
     }
 }
