@@ -129,7 +129,7 @@ module _ {cs ps fs : List ℤ} {regions regions' sources sources' inputs inputs'
 
   pub accepted_alive : {checks : Result ⊤ Refusal} {out₁ out₁' out₂ out₂' out₃ out₃' out₄ out₄' work work' : List ℕ} {n : ℕ} → checks ≡ Ok tt
       → WordsOfSet r.drive.words → WordsOfSet r.potential.words → WordsOfSet r.cyclic.words → WordsOfSet r.has_drive.words
-      → Written (component_count cs) r regions' sources' inputs' out₁ out₁' out₂ out₂' out₃ out₃' out₄ out₄' work work' n
+      → Written r (take (component_count cs) regions') (take (r.sources * 2) sources') (take (r.inputs * 3) inputs') out₁ out₁' out₂ out₂' out₃ out₃' out₄ out₄' work work' n
       → LivenessLaid checks cs ps fs out₁ out₁' out₂ out₂' out₃ out₃' out₄ out₄' work work' n
   accepted_alive {out₁ = out₁} {out₂ = out₂} {out₃ = out₃} {out₄ = out₄} {n = n} e d p c h w =
       alive_as (sym e) (record {

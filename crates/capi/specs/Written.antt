@@ -4,7 +4,7 @@
 --     Written            they were written
 --     LivenessByPlaces   the answer to lists of numbers, by the bytes of the lent slices
 -- Assumes nothing: these are definitions.
-use Rattle.std.specs.Prelude.{ℕ, ◌+◌, ◌*◌, ◌≤◌, ◌≡◌, List, ◌++◌, length, take, ℤ}
+use Rattle.std.specs.Prelude.{ℕ, ◌+◌, ◌*◌, ◌≤◌, ◌≡◌, List, ◌++◌, length, ℤ}
 use Rattle.sets.specs.Members.{word_count}
 use Rattle.lists.specs.Limits.{component_limit}
 use Rattle.lists.specs.Slices.{laid, cleared}
@@ -21,19 +21,18 @@ pub record RowRoom (region_rows source_rows input_rows regions sources inputs se
   pub sources_few : length source_rows ≤ 4 * component_limit
   pub inputs_few : length input_rows ≤ 12 * component_limit
 
--- the rows that were found stand at the front
-pub record WrittenRoom (count : ℕ) (analysis : Analysis) (region_rows source_rows input_rows regions sources inputs sets : List ℕ) : Type 0 where
+-- the rows that were found: the answer counts no more of them
+pub record WrittenRoom (analysis : Analysis) (region_rows source_rows input_rows regions sources inputs sets : List ℕ) : Type 0 where
   pub rows : RowRoom region_rows source_rows input_rows regions sources inputs sets
-  pub regions_there : count ≤ length region_rows
   pub sources_there : analysis.sources * 2 ≤ length source_rows
   pub inputs_there : analysis.inputs * 3 ≤ length input_rows
   pub regions_few : analysis.regions ≤ component_limit
 
 -- the rows and sets as bytes, the stack zero, and the counts as one number
-pub record Written (count : ℕ) (analysis : Analysis) (region_rows source_rows input_rows regions regions' sources sources' inputs inputs' sets sets' stack stack' : List ℕ) (r : ℕ) : Type 0 where
-  pub regions_are : regions' ≡ laid (bytes_of (take count region_rows)) regions
-  pub sources_are : sources' ≡ laid (bytes_of (take (analysis.sources * 2) source_rows)) sources
-  pub inputs_are : inputs' ≡ laid (bytes_of (take (analysis.inputs * 3) input_rows)) inputs
+pub record Written (analysis : Analysis) (region_rows source_rows input_rows regions regions' sources sources' inputs inputs' sets sets' stack stack' : List ℕ) (r : ℕ) : Type 0 where
+  pub regions_are : regions' ≡ laid (bytes_of region_rows) regions
+  pub sources_are : sources' ≡ laid (bytes_of source_rows) sources
+  pub inputs_are : inputs' ≡ laid (bytes_of input_rows) inputs
   pub sets_are : sets' ≡ laid (bytes_of (analysis.drive.words ++ (analysis.potential.words ++ (analysis.cyclic.words ++ analysis.has_drive.words)))) sets
   pub stack_is : stack' ≡ cleared stack
   pub counts_are : r ≡ 65536 * analysis.regions + 4294967296 * analysis.sources + 281474976710656 * analysis.inputs

@@ -15,7 +15,7 @@ use encoding::bytes::{NUMBER, decode, encode, encode_at, places, wipe};
 use lists::ends::Ends;
 use lists::{COMPONENT, COMPONENTS, CONNECTIONS, FRONTIER, FRONTIERS, PORT};
 use liveness::{Analysis, analyze_signal_liveness};
-use sets::{ComponentSet, WORDS};
+use sets::WORDS;
 
 // The sets of an answer.
 const SETS: usize = 4;
@@ -50,26 +50,20 @@ fn pack_counts(regions: usize, sources: usize, inputs: usize) -> u64
     65536 * regions as u64 + 4294967296 * sources as u64 + 281474976710656 * inputs as u64
 }
 
-// Writes the words of four sets at the front of a slice.
-fn put_sets(
-    drive: ComponentSet,
-    potential: ComponentSet,
-    cyclic: ComponentSet,
-    has_drive: ComponentSet,
-    out: &mut [u8],
-)
+// Writes the words of an answer's four sets at the front of a slice.
+fn put_sets(analysis: Analysis, out: &mut [u8])
     requires { set_count * word_count * number_bytes ≤ length out.old }
-    ensures { out.new ≡ laid (bytes_of (drive.words ++ (potential.words ++ (cyclic.words ++ has_drive.words)))) out.old }
+    ensures { let a = analysis in
+        out.new ≡ laid (bytes_of (a.drive.words ++ (a.potential.words ++ (a.cyclic.words ++ a.has_drive.words)))) out.old }
 {
-    encode(&drive.words, out);
-    encode_at(&potential.words, out, WORDS * NUMBER);
-    encode_at(&cyclic.words, out, 2 * WORDS * NUMBER);
-    encode_at(&has_drive.words, out, 3 * WORDS * NUMBER);
+    encode(&analysis.drive.words, out);
+    encode_at(&analysis.potential.words, out, WORDS * NUMBER);
+    encode_at(&analysis.cyclic.words, out, 2 * WORDS * NUMBER);
+    encode_at(&analysis.has_drive.words, out, 3 * WORDS * NUMBER);
 }
 
-// Writes what was found of an accepted scene of so many components: the rows lent have room for the most.
+// Writes what was found of an accepted scene.
 fn write_answer(
-    count: usize,
     analysis: Analysis,
     rows: &Rows,
     regions: &mut [u8],
@@ -78,21 +72,15 @@ fn write_answer(
     sets: &mut [u8],
     stack: &mut [u8],
 ) -> u64
-    requires { WrittenRoom count analysis rows.now.regions.now rows.now.sources.now rows.now.inputs.now
+    requires { WrittenRoom analysis rows.now.regions.now rows.now.sources.now rows.now.inputs.now
         regions.old sources.old inputs.old sets.old }
-    ensures { Written count analysis rows.now.regions.now rows.now.sources.now rows.now.inputs.now
+    ensures { Written analysis rows.now.regions.now rows.now.sources.now rows.now.inputs.now
         regions.old regions.new sources.old sources.new inputs.old inputs.new sets.old sets.new stack.old stack.new result }
 {
-    encode(&rows.regions[..count], regions);
-    encode(&rows.sources[..analysis.sources * 2], sources);
-    encode(&rows.inputs[..analysis.inputs * 3], inputs);
-    put_sets(
-        analysis.drive,
-        analysis.potential,
-        analysis.cyclic,
-        analysis.has_drive,
-        sets,
-    );
+    encode(rows.regions, regions);
+    encode(rows.sources, sources);
+    encode(rows.inputs, inputs);
+    put_sets(analysis, sets);
     wipe(stack);
     pack_counts(analysis.regions, analysis.sources, analysis.inputs)
 }
@@ -129,15 +117,13 @@ fn by_rows(
     match analyzed {
         Err(refusal) => pack(Err(refusal)),
         Ok(analysis) => {
-            let rows = Rows {
-                regions: region_rows,
-                sources: source_rows,
-                inputs: input_rows,
-            };
             let count = lists.components.len() / COMPONENT;
-            write_answer(
-                count, analysis, &rows, regions, sources, inputs, sets, stack,
-            )
+            let rows = Rows {
+                regions: &region_rows[..count],
+                sources: &source_rows[..analysis.sources * 2],
+                inputs: &input_rows[..analysis.inputs * 3],
+            };
+            write_answer(analysis, &rows, regions, sources, inputs, sets, stack)
         }
     }
 }

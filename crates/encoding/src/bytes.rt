@@ -44,7 +44,7 @@ pub fn encode_at(values: &[u64], out: &mut [u8], at: usize)
     encode(values, &mut out[at..]);
 }
 
-// Sets every byte to 0.
+// Sets every byte to 0. It stands beside `fill`, since its contract says `cleared`, as the contracts of those who call it do.
 pub fn wipe(out: &mut [u8])
     ensures { out.new ≡ cleared out.old }
 {

@@ -36,47 +36,56 @@ const INPUT_ROWS: usize = 12 * COMPONENTS;
 
 const STACK: usize = 2 * COMPONENTS;
 
+// The net and the fragment of each component.
+#[derive(Clone, Copy)]
+struct Groups<'a> {
+    nets: &'a [u64],
+    fragments: &'a [u64],
+}
+
+// What the analysis wrote: the region of each component, the source and the verdict rows.
+#[derive(Clone, Copy)]
+struct Rows<'a> {
+    regions: &'a [u64],
+    sources: &'a [u64],
+    inputs: &'a [u64],
+}
+
+// The rows of the text.
+#[derive(Clone, Copy)]
+struct TextRows<'a> {
+    components: &'a [u64],
+    kept: &'a [u64],
+    regions: &'a [u64],
+    sources: &'a [u64],
+    inputs: &'a [u64],
+}
+
 // ---- the text by its rows
 
 // Writes the report at the front of `out` where it fits, and answers how long it is.
-fn put_whole(
-    out: &mut [u8],
-    asked: &Asked,
-    components: &[u64],
-    kept: &[u64],
-    regions: &[u64],
-    sources: &[u64],
-    inputs: &[u64],
-) -> usize
-    ensures { let a = asked.now in
+fn put_whole(out: &mut [u8], asked: &Asked, rows: &TextRows) -> usize
+    ensures { let a = asked.now in let t = rows.now in
         (ps fs : List ℤ) → AskedOf a ps fs →
-        let text = whole_text a.components.now ps fs components.now kept.now regions.now sources.now inputs.now in
+        let text = whole_text a.components.now ps fs t.components.now t.kept.now t.regions.now t.sources.now t.inputs.now in
         Printed 0 text out.old out.new result }
 {
     let a = put_accepted(out, 0);
-    let b = put_block(out, a, Block::Components, components);
-    let c = put_block(out, b, Block::Connections, kept);
-    let d = put_block(out, c, Block::Regions, regions);
-    let e = put_block(out, d, Block::Sources, sources);
-    put_rows(out, e, asked, inputs)
+    let b = put_block(out, a, Block::Components, rows.components);
+    let c = put_block(out, b, Block::Connections, rows.kept);
+    let d = put_block(out, c, Block::Regions, rows.regions);
+    let e = put_block(out, d, Block::Sources, rows.sources);
+    put_rows(out, e, asked, rows.inputs)
 }
 
 // Prints a report given its rows, where it fits: it is measured by a buffer with no room.
-fn print_rows(
-    asked: &Asked,
-    components: &[u64],
-    kept: &[u64],
-    regions: &[u64],
-    sources: &[u64],
-    inputs: &[u64],
-    out: &mut [u8],
-) -> Result<usize, Refusal>
-    ensures { let a = asked.now in
+fn print_rows(asked: &Asked, rows: &TextRows, out: &mut [u8]) -> Result<usize, Refusal>
+    ensures { let a = asked.now in let t = rows.now in
         (ps fs : List ℤ) → AskedOf a ps fs →
-        let text = whole_text a.components.now ps fs components.now kept.now regions.now sources.now inputs.now in
+        let text = whole_text a.components.now ps fs t.components.now t.kept.now t.regions.now t.sources.now t.inputs.now in
         PrintedBy (fits text (length out.old)) text out.old out.new result }
 {
-    let length = put_whole(&mut [], asked, components, kept, regions, sources, inputs);
+    let length = put_whole(&mut [], asked, rows);
     if out.len() < length {
         return Err(Refusal {
             fault: Fault::ShortSlice,
@@ -84,31 +93,28 @@ fn print_rows(
             item: 0,
         });
     }
-    Ok(put_whole(out, asked, components, kept, regions, sources, inputs))
+    Ok(put_whole(out, asked, rows))
 }
 
 // ---- the rows of a scene
 
-// Prints what the analysis of the kept connections gave: `regions`, `sources` and `inputs` are its rows.
+// Prints what the analysis of the kept connections gave: `rows` is what it wrote.
 fn print_analysis(
     asked: &Asked,
     ports: &[i64],
-    nets: &[u64],
-    fragments: &[u64],
-    regions: &[u64],
-    sources: &[u64],
-    inputs: &[u64],
+    groups: &Groups,
+    rows: &Rows,
     found: Analysis,
     out: &mut [u8],
 ) -> Result<usize, Refusal>
-    requires gathered { (ps : List ℤ) × Gathered asked.now.components.now ps ports.now nets.now fragments.now }
-    requires analyzed { let a = asked.now in
+    requires gathered { let g = groups.now in (ps : List ℤ) × Gathered asked.now.components.now ps ports.now g.nets.now g.fragments.now }
+    requires analyzed { let a = asked.now in let r = rows.now in
         (fs : List ℤ) × (AskedOf a ports.now fs ×
-        Analyzed a.components.now ports.now fs regions.now sources.now inputs.now found) }
-    ensures { let a = asked.now in
-        (ps fs : List ℤ) → Gathered a.components.now ps ports.now nets.now fragments.now →
+        Analyzed a.components.now ports.now fs r.regions.now r.sources.now r.inputs.now found) }
+    ensures { let a = asked.now in let g = groups.now in let r = rows.now in
+        (ps fs : List ℤ) → Gathered a.components.now ps ports.now g.nets.now g.fragments.now →
         AskedOf a ports.now fs →
-        Analyzed a.components.now ports.now fs regions.now sources.now inputs.now found →
+        Analyzed a.components.now ports.now fs r.regions.now r.sources.now r.inputs.now found →
         PrintedBy (fits (report_of a.components.now ps fs) (length out.old)) (report_of a.components.now ps fs) out.old out.new result }
 {
     let n = asked.keys.len();
@@ -122,45 +128,42 @@ fn print_analysis(
     fill_components(
         listed,
         asked.keys,
-        nets,
-        fragments,
-        regions,
+        groups.nets,
+        groups.fragments,
+        rows.regions,
         found.drive,
         found.potential,
         &mut components,
     );
     fill_connections(ports, &mut kept);
     fill_regions(count, found.cyclic, found.has_drive, &mut marks);
-    print_rows(
-        asked,
-        &components[..6 * n],
-        &kept[..ports.len()],
-        &marks[..2 * count],
-        sources,
-        inputs,
-        out,
-    )
+    let text = TextRows {
+        components: &components[..6 * n],
+        kept: &kept[..ports.len()],
+        regions: &marks[..2 * count],
+        sources: rows.sources,
+        inputs: rows.inputs,
+    };
+    print_rows(asked, &text, out)
 }
 
 // Makes the scene of the kept connections ready to be asked, and prints what their analysis gave. The rows of the report are filled only
 // after that, so that the two have no arrays at the same time.
 fn print_ready(
     plot: &Plot,
-    nets: &[u64],
-    fragments: &[u64],
-    regions: &[u64],
-    sources: &[u64],
-    inputs: &[u64],
+    groups: &Groups,
+    rows: &Rows,
     found: Analysis,
     stack: &mut [usize],
     out: &mut [u8],
 ) -> Result<usize, Refusal>
-    requires gathered { let p = plot.now in (ps : List ℤ) × Gathered p.components.now ps p.ports.now nets.now fragments.now }
-    requires analyzed { let p = plot.now in
-        Analyzed p.components.now p.ports.now p.frontiers.now regions.now sources.now inputs.now found }
+    requires gathered { let p = plot.now in let g = groups.now in
+        (ps : List ℤ) × Gathered p.components.now ps p.ports.now g.nets.now g.fragments.now }
+    requires analyzed { let p = plot.now in let r = rows.now in
+        Analyzed p.components.now p.ports.now p.frontiers.now r.regions.now r.sources.now r.inputs.now found }
     requires stack_room { 2 * component_count plot.now.components.now ≤ length stack.old }
-    ensures { let p = plot.now in
-        (ps : List ℤ) → Gathered p.components.now ps p.ports.now nets.now fragments.now →
+    ensures { let p = plot.now in let g = groups.now in
+        (ps : List ℤ) → Gathered p.components.now ps p.ports.now g.nets.now g.fragments.now →
         PrintedBy (fits (report_of p.components.now ps p.frontiers.now) (length out.old)) (report_of p.components.now ps p.frontiers.now)
         out.old out.new result }
 {
@@ -177,9 +180,7 @@ fn print_ready(
         labels: &labels[..n],
         upstream: &upstream,
     };
-    print_analysis(
-        &asked, plot.ports, nets, fragments, regions, sources, inputs, found, out,
-    )
+    print_analysis(&asked, plot.ports, groups, rows, found, out)
 }
 
 // Analyzes the kept connections of a scene and prints its report, given its groups.
@@ -188,13 +189,14 @@ fn print_kept(
     scene: &[i64],
     ports: &[i64],
     frontiers: &[i64],
-    nets: &[u64],
-    fragments: &[u64],
+    groups: &Groups,
     out: &mut [u8],
 ) -> Result<usize, Refusal>
-    requires { (ps : List ℤ) × (Accepts scene.now ps frontiers.now keys.now × Gathered scene.now ps ports.now nets.now fragments.now) }
-    ensures { (ps : List ℤ) → Accepts scene.now ps frontiers.now keys.now →
-        Gathered scene.now ps ports.now nets.now fragments.now →
+    requires { let g = groups.now in
+        (ps : List ℤ) × (Accepts scene.now ps frontiers.now keys.now × Gathered scene.now ps ports.now g.nets.now g.fragments.now) }
+    ensures { let g = groups.now in
+        (ps : List ℤ) → Accepts scene.now ps frontiers.now keys.now →
+        Gathered scene.now ps ports.now g.nets.now g.fragments.now →
         PrintedBy (fits (report_of scene.now ps frontiers.now) (length out.old)) (report_of scene.now ps frontiers.now)
         out.old out.new result }
 {
@@ -213,17 +215,12 @@ fn print_kept(
         ends: &ends,
     };
     let found = analyze(&plot, &mut regions, &mut sources, &mut inputs, &mut stack);
-    print_ready(
-        &plot,
-        nets,
-        fragments,
-        &regions,
-        &sources[..found.sources * 2],
-        &inputs[..found.inputs * 3],
-        found,
-        &mut stack,
-        out,
-    )
+    let rows = Rows {
+        regions: &regions,
+        sources: &sources[..found.sources * 2],
+        inputs: &inputs[..found.inputs * 3],
+    };
+    print_ready(&plot, groups, &rows, found, &mut stack, out)
 }
 
 // Prints the report of an accepted scene, given its table of ids.
@@ -247,15 +244,11 @@ fn print_scene(
     };
     group(keys, connected, &mut nets, &mut fragments);
     let count = keep_all(listed, keys, connected, &mut ports);
-    print_kept(
-        keys,
-        scene,
-        &ports[..count * PORT],
-        frontiers,
-        &nets,
-        &fragments,
-        out,
-    )
+    let groups = Groups {
+        nets: &nets,
+        fragments: &fragments,
+    };
+    print_kept(keys, scene, &ports[..count * PORT], frontiers, &groups, out)
 }
 
 // Checks the three lists of a sheet and prints their report, where it fits.

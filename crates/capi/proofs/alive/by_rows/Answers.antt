@@ -1,9 +1,11 @@
 -- `capi::alive::by_rows` meets its contract: the answer on lists of numbers is packed where it refuses, and written as bytes where it
 -- does not. Assumes nothing.
 use borrow.Author.Rules.{rules}
+use mathlib.Core.Path.{sym}
 use Prim.Native.Nat.{ℕ}
 use native.Mathlib.Omega.{arith}
 use lib.ListN.{length, get_or}
+use lib.Seq.{length-take-le}
 use mir.Val.{Fits}
 use mir.Syntax.{w64}
 use Rattle.checks.specs.Refusals.{liveness_room}
@@ -19,24 +21,34 @@ pack-requires c =
     let small = liveness_small l.components.now l.ports.now l.frontiers.now room in
     rw (refused c.analyze_signal_liveness-analyzed.ensures.by c.in-Err.is) at small
 
+pub slice_bounds-rows-end : goal.slice_bounds-rows-end
+slice_bounds-rows-end c = regions_there (found c.analyze_signal_liveness-analyzed.ensures.by c.in-Ok.is)
+
+pub slice_bounds-rows-end-in-Ok : goal.slice_bounds-rows-end-in-Ok
+slice_bounds-rows-end-in-Ok c =
+    let call = c.analyze_signal_liveness-analyzed in
+    sym (length-take-le _ call.new.regions (regions_there (found call.ensures.by c.in-Ok.is)))
+
 pub write_answer-requires : goal.write_answer-requires
 write_answer-requires c =
     let call = c.analyze_signal_liveness-analyzed in
     let room = c.requires in
     let answer = found call.ensures.by c.in-Ok.is in
     let few = few_regions _ _ _ _ (accepted call.ensures.by c.in-Ok.is) in
+    let regions_long = length-take-le _ call.new.regions (regions_there answer) in
+    let sources_long = length-take-le _ call.new.sources (sources_there answer) in
+    let inputs_long = length-take-le _ call.new.inputs (inputs_there answer) in
     record {
       rows = record {
-        regions_fit = omega (arith, room.regions_fit, call.auto.regions);
-        sources_fit = omega (arith, room.sources_fit, call.auto.sources);
-        inputs_fit = omega (arith, room.inputs_fit, call.auto.inputs);
+        regions_fit = omega (arith, regions_long, regions_there answer, room.regions_fit, call.auto.regions);
+        sources_fit = omega (arith, sources_long, sources_there answer, room.sources_fit, call.auto.sources);
+        inputs_fit = omega (arith, inputs_long, inputs_there answer, room.inputs_fit, call.auto.inputs);
         sets_fit = room.sets_fit;
-        sources_few = omega (arith, room.sources_few, call.auto.sources);
-        inputs_few = omega (arith, room.inputs_few, call.auto.inputs);
+        sources_few = omega (arith, sources_long, sources_there answer, room.sources_few, call.auto.sources);
+        inputs_few = omega (arith, inputs_long, inputs_there answer, room.inputs_few, call.auto.inputs);
       };
-      regions_there = regions_there answer;
-      sources_there = sources_there answer;
-      inputs_there = inputs_there answer;
+      sources_there = omega (arith, sources_long);
+      inputs_there = omega (arith, inputs_long);
       regions_few = omega (arith, few, answer.analysis.region_count_lem);
     }
 

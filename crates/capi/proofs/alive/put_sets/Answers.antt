@@ -18,10 +18,10 @@ pub returns : goal.returns
 returns c =
     let args = c.args in
     let old = args.out.now in
-    let drive = args.drive.words in
-    let potential = args.potential.words in
-    let cyclic = args.cyclic.words in
-    let has_drive = args.has_drive.words in
+    let drive = args.analysis.drive.words in
+    let potential = args.analysis.potential.words in
+    let cyclic = args.analysis.cyclic.words in
+    let has_drive = args.analysis.has_drive.words in
     let one : length drive ≡ word_count = search rules in
     let two : length potential ≡ word_count = search rules in
     let three : length cyclic ≡ word_count = search rules in

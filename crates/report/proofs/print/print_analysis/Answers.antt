@@ -58,8 +58,8 @@ slice_bounds-components-end c =
     let scene = c.requires.analyzed.1.0.fed_scene.scene in
     components_inside c.fill_components.new.rows scene c.args.asked.now.table c.fill_components.auto.rows
 
-pub slice_bounds-print_rows-end : goal.slice_bounds-print_rows-end
-slice_bounds-print_rows-end c =
+pub slice_bounds-text-end : goal.slice_bounds-text-end
+slice_bounds-text-end c =
     let scene = c.requires.analyzed.1.0.fed_scene.scene in
     let rows = c.fill_components.new.rows in
     sym (length-take-le _ rows (components_inside rows scene c.args.asked.now.table c.fill_components.auto.rows))
@@ -70,8 +70,8 @@ overflow_mul-marks c = omega (arith, regions_fit c.requires.analyzed.1.1 c.requi
 pub slice_bounds-marks-end : goal.slice_bounds-marks-end
 slice_bounds-marks-end c = regions_inside c.fill_regions.new.rows c.requires.analyzed.1.1 c.requires.analyzed.1.0.fed_scene.scene c.fill_regions.auto.rows
 
-pub slice_bounds-print_rows-end-3 : goal.slice_bounds-print_rows-end-3
-slice_bounds-print_rows-end-3 c =
+pub slice_bounds-text-end-3 : goal.slice_bounds-text-end-3
+slice_bounds-text-end-3 c =
     let rows = c.fill_regions.new.rows in
     sym (length-take-le _ rows (regions_inside rows c.requires.analyzed.1.1 c.requires.analyzed.1.0.fed_scene.scene c.fill_regions.auto.rows))
 
@@ -94,7 +94,7 @@ returns c ps fs groups ready found =
     let rows = kept_rows cs ps in
     let f = a.found in
     let many = table_long a.asked.now.table in
-    let components-are = components_are cs a.nets.now a.fragments.now a.regions.now f.drive.words f.potential.words _ _ many
+    let components-are = components_are cs a.groups.now.nets.now a.groups.now.fragments.now a.rows.now.regions.now f.drive.words f.potential.words _ _ many
     c.fill_components.ensures in
     let connections-are : take (length a.ports.now) c.fill_connections.new.rows ≡ rows =
     front_is rows _ (c.fill_connections.ensures rows groups.kept_are) _ (ap length groups.kept_are ∙ length-map rows pos) in

@@ -54,8 +54,8 @@ overflow_mul-sources c = omega (arith, sources_inside c.analyze-found.ensures, c
 pub slice_bounds-sources-end : goal.slice_bounds-sources-end
 slice_bounds-sources-end c = sources_inside c.analyze-found.ensures
 
-pub slice_bounds-print_ready-end-2 : goal.slice_bounds-print_ready-end-2
-slice_bounds-print_ready-end-2 c = sym (length-take-le _ c.analyze-found.new.sources (sources_inside c.analyze-found.ensures))
+pub slice_bounds-rows-end-2 : goal.slice_bounds-rows-end-2
+slice_bounds-rows-end-2 c = sym (length-take-le _ c.analyze-found.new.sources (sources_inside c.analyze-found.ensures))
 
 pub overflow_mul-inputs : goal.overflow_mul-inputs
 overflow_mul-inputs c = omega (arith, inputs_inside c.analyze-found.ensures, c.analyze-found.auto.inputs)
@@ -63,8 +63,8 @@ overflow_mul-inputs c = omega (arith, inputs_inside c.analyze-found.ensures, c.a
 pub slice_bounds-inputs-end : goal.slice_bounds-inputs-end
 slice_bounds-inputs-end c = inputs_inside c.analyze-found.ensures
 
-pub slice_bounds-print_ready-end-3 : goal.slice_bounds-print_ready-end-3
-slice_bounds-print_ready-end-3 c = sym (length-take-le _ c.analyze-found.new.inputs (inputs_inside c.analyze-found.ensures))
+pub slice_bounds-rows-end-3 : goal.slice_bounds-rows-end-3
+slice_bounds-rows-end-3 c = sym (length-take-le _ c.analyze-found.new.inputs (inputs_inside c.analyze-found.ensures))
 
 pub print_ready-requires : goal.print_ready-requires
 print_ready-requires c =
