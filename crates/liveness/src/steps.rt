@@ -147,12 +147,12 @@ fn mark(
     flag_alive(plot, has_drive, inferred, drive, potential);
 }
 
-// Writes the region of each of n components, in list order: the arrays lent have room for the most.
-fn put_regions(n: usize, region_at: &[usize], regions: &mut [u64])
-    requires { (n ≤ length region_at.now) × (n ≤ length regions.old) }
-    ensures { regions.new ≡ laid (tabulate (λ p. get_or region_at.now p 0) n) regions.old }
+// Writes the region of each component, in list order: the array lent has room for the most.
+fn put_regions(region_at: &[usize], regions: &mut [u64])
+    requires { length region_at.now ≤ length regions.old }
+    ensures { regions.new ≡ laid (tabulate (λ p. get_or region_at.now p 0) (length region_at.now)) regions.old }
 {
-    for p in 0..n {
+    for p in 0..region_at.len() {
         regions[p] = region_at[p] as u64;
     }
 }
@@ -214,7 +214,7 @@ fn report(
         &mut drive[..n],
         &mut potential[..n],
     );
-    put_regions(n, plot.region_at, regions);
+    put_regions(&plot.region_at[..n], regions);
     let listed = ComponentList {
         numbers: lists.components,
     };
