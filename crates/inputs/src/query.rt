@@ -20,6 +20,7 @@ ghost use Rattle.inputs.specs.Inputs.{Inputs, InputsRoom, SlotOf, Walkable, Upst
 
 use super::InputSources;
 use super::row::row_place;
+use super::slot::slot_keys;
 use assessment::verdicts::slot_fed;
 use lists::ids::member_of;
 use lists::views::{ComponentList, PortList};
@@ -41,12 +42,7 @@ fn immediate_flags(keys: &[u64], slot: usize, flags: &mut [bool])
     ensures { Flags (length flags.old) (λ a. member (pair slot a) keys.now) flags.new }
 {
     flags.fill(false);
-    let first = tables::lower_bound(keys, slot as u64 * SPAN);
-    for at in first..keys.len() {
-        let key = keys[at];
-        if key / SPAN != slot as u64 {
-            return;
-        }
+    for key in slot_keys(keys, slot) {
         flags[(key % SPAN) as usize] = true;
     }
 }
