@@ -99,9 +99,11 @@ module _ {keys : List ℕ} (slot : ℕ) {first past : ℕ} (rising : Ascending k
         let (after, before) = outside keys slot rising low past slot_ordered
         (λ l q. absurd (let w = high.from rising past (omega arith) l in omega arith)) k inside (omega (arith, is)) in
         let l : k - first < past - first = omega arith in
-        let same : first + (k - first) ≡ k = omega arith in
-        (k - first, omega (arith, cut_long keys first past high.within),
-        omega (arith, cut_at keys first past (k - first) high.within l, ap (λ (j : ℕ). get_or keys j 0) same, is));
+        let same : first + (k - first) ≡ k = omega arith in (
+          k - first,
+          omega (arith, cut_long keys first past high.within),
+          omega (arith, cut_at keys first past (k - first) high.within l, ap (λ (j : ℕ). get_or keys j 0) same, is),
+        );
   }
 
 -- a key of the slot is one of its pairs
