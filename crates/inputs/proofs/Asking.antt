@@ -9,15 +9,15 @@ use mathlib.Core.Path.{◌≡◌, refl, sym, ap, subst, ◌∙◌}
 use mathlib.Core.Bool.{Bool, true, false, ◌&&◌, ◌||◌, or-true}
 use mathlib.Core.List.{List}
 use mathlib.Core.Logic.{⊎_elim}
-use Prim.Native.Nat.{ℕ, ◌+◌, ◌*◌, ◌/◌, ◌%◌, ◌≤◌, ◌<◌}
+use Prim.Native.Nat.{ℕ, ◌+◌, ◌%◌, ◌≤◌, ◌<◌}
 use native.Mathlib.Nat.{eq-or-lt_of_le}
 use native.Mathlib.Omega.{arith}
 use lib.Dec.{eqb, ltb}
 use lib.ListN.{length, get_or}
 use lib.IntN.{ℤ}
 use borrow.Author.Tests.{eqb-true, eq-eqb, ltb-true, lt-ltb}
-use Rattle.tables.specs.Order.{Ascending, LowerBound, member}
-use Rattle.tables.specs.Laws.{same?, member_at}
+use Rattle.tables.specs.Order.{member}
+use Rattle.tables.specs.Laws.{same?}
 use Rattle.tables.specs.Pairs.{pair, span}
 use Rattle.sets.specs.declared.ComponentSet.{ComponentSet}
 use Rattle.sets.specs.Members.{member_of, Inserted}
@@ -37,12 +37,11 @@ use Rattle.signals.specs.Flags.{Indices}
 use Rattle.assessment.specs.Upstream.{in_row, UpstreamRows}
 use Rattle.signals.proofs.Tabulated.{tabulated_at}
 use Rattle.lists.proofs.Some.{and_true}
-use Rattle.assessment.proofs.Fed.{here, outside}
 use Rattle.signals.proofs.Tested.{same_truth}
 use Rattle.signals.proofs.Within.{signals_within, scene_regions, labels_count, labels_under}
 use Rattle.liveness.specs.Sets.{SetWhere}
 use Rattle.inputs.specs.Query.{is_immediate, upstream, is_inferred_for, row_place, PortSets}
-use Rattle.inputs.specs.Inputs.{SlotOf, Ready, SlotSets}
+use Rattle.inputs.specs.Inputs.{SlotOf, SlotKeys, Ready, SlotSets}
 use Rattle.inputs.specs.declared.InputSources.{InputSources}
 use Rattle.liveness.proofs.Answers.{set_below}
 use Rattle.inputs.proofs.Inputs.{immediate_at}
@@ -50,28 +49,28 @@ use Rattle.inputs.proofs.Inputs.{immediate_at}
 -- ---- the keys of a slot
 
 -- each key passed is in the one set, and its row in the other; what is in the sets comes from keys of the slot
-pub record Sought (keys : List ℕ) (number : ℕ) (labelled : List ℕ) (rows : List ComponentSet) (first place : ℕ) (immediate inferred : List ℕ) : Type 0 where
-  pub seen : (i : ℕ) → first ≤ i → i < place → member_of immediate (get_or keys i 0 % span) ≡ true
+pub record Sought (keys cut : List ℕ) (number : ℕ) (labelled : List ℕ) (rows : List ComponentSet) (place : ℕ) (immediate inferred : List ℕ) : Type 0 where
+  pub seen : (i : ℕ) → i < place → member_of immediate (get_or cut i 0 % span) ≡ true
   pub held : (a : ℕ) → member_of immediate a ≡ true → (a < length labelled) × (member (pair number a) keys ≡ true)
-  pub rows_seen : (i k : ℕ) → first ≤ i → i < place → in_row rows (at labelled (get_or keys i 0 % span)) k ≡ true → member_of inferred k ≡ true
+  pub rows_seen : (i k : ℕ) → i < place → in_row rows (at labelled (get_or cut i 0 % span)) k ≡ true → member_of inferred k ≡ true
   pub rows_held : (k : ℕ) → member_of inferred k ≡ true
       → (a : ℕ) × (a < length labelled) × (member (pair number a) keys ≡ true) × (in_row rows (at labelled a) k ≡ true)
 
-module _ (keys : List ℕ) (number : ℕ) (labelled : List ℕ) (rows : List ComponentSet) (first : ℕ) where
+module _ (keys cut : List ℕ) (number : ℕ) (labelled : List ℕ) (rows : List ComponentSet) where
   pub sought_none : {immediate inferred : List ℕ} → ((k : ℕ) → member_of immediate k ≡ false) → ((k : ℕ) → member_of inferred k ≡ false)
-      → Sought keys number labelled rows first first immediate inferred
+      → Sought keys cut number labelled rows 0 immediate inferred
   sought_none f g = record {
-    seen = λ i h l. absurd (omega arith);
+    seen = λ i l. absurd (omega arith);
     held = λ a e. never (sym (f a) ∙ e);
-    rows_seen = λ i k h l. absurd (omega arith);
+    rows_seen = λ i k l. absurd (omega arith);
     rows_held = λ k e. never (sym (g k) ∙ e);
   }
 
   -- one key more
-  module _ {place : ℕ} {immediate inferred : List ℕ} (s : Sought keys number labelled rows first place immediate inferred) (h : place < length keys)
-      (e : get_or keys place 0 / span ≡ number) (l : get_or keys place 0 % span < length labelled) where
+  module _ {place : ℕ} {immediate inferred : List ℕ} (s : Sought keys cut number labelled rows place immediate inferred)
+      (h : member (pair number (get_or cut place 0 % span)) keys ≡ true) (l : get_or cut place 0 % span < length labelled) where
     abbrev source : ℕ
-    source = get_or keys place 0 % span
+    source = get_or cut place 0 % span
 
     module _ {immediate' : List ℕ} (inferred' : List ℕ) (put : Inserted immediate source immediate')
         (joined : (k : ℕ) → member_of inferred' k ≡ (member_of inferred k || in_row rows (at labelled source) k)) where
@@ -81,7 +80,7 @@ module _ (keys : List ℕ) (number : ℕ) (labelled : List ℕ) (rows : List Com
       came : (a : ℕ) → member_of immediate' a ≡ true → (a < length labelled) × (member (pair number a) keys ≡ true)
       came a t =
           ⊎_elim
-          (λ (q : a ≡ source). (omega (arith, q), ap (λ (x : ℕ). member (pair number x) keys) q ∙ here keys number place h e))
+          (λ (q : a ≡ source). (omega (arith, q), ap (λ (x : ℕ). member (pair number x) keys) q ∙ h))
           (λ (n : a ≡ source → ⊥). s.held a (sym (put.others a n) ∙ t))
           (same? a source)
 
@@ -98,33 +97,28 @@ module _ (keys : List ℕ) (number : ℕ) (labelled : List ℕ) (rows : List Com
           go : (b : Bool) → member_of inferred k ≡ b → (b || in_row rows (at labelled source) k) ≡ true
               → (a : ℕ) × (a < length labelled) × (member (pair number a) keys ≡ true) × (in_row rows (at labelled a) k ≡ true)
           go true p q = s.rows_held k p
-          go false p q = (source, l, here keys number place h e, q)
+          go false p q = (source, l, h, q)
 
-      pub sought_more : Sought keys number labelled rows first (place + 1) immediate' inferred'
+      pub sought_more : Sought keys cut number labelled rows (place + 1) immediate' inferred'
       sought_more = record {
-        seen = λ i b m. ⊎_elim
-            (λ (q : i ≡ place). ap (λ (x : ℕ). member_of immediate' (get_or keys x 0 % span)) q ∙ put.there)
-            (λ (less : i < place). stays (get_or keys i 0 % span) (s.seen i b less))
+        seen = λ i m. ⊎_elim
+            (λ (q : i ≡ place). ap (λ (x : ℕ). member_of immediate' (get_or cut x 0 % span)) q ∙ put.there)
+            (λ (less : i < place). stays (get_or cut i 0 % span) (s.seen i less))
             (eq-or-lt_of_le (let w : i ≤ place = omega arith in w));
         held = came;
-        rows_seen = λ i k b m t. ⊎_elim
-            (λ (q : i ≡ place). row_new k (ap (λ (x : ℕ). in_row rows (at labelled (get_or keys x 0 % span)) k) (sym q) ∙ t))
-            (λ (less : i < place). rows_stay k (s.rows_seen i k b less t))
+        rows_seen = λ i k m t. ⊎_elim
+            (λ (q : i ≡ place). row_new k (ap (λ (x : ℕ). in_row rows (at labelled (get_or cut x 0 % span)) k) (sym q) ∙ t))
+            (λ (less : i < place). rows_stay k (s.rows_seen i k less t))
             (eq-or-lt_of_le (let w : i ≤ place = omega arith in w));
         rows_held = rows_came;
       }
 
 -- past the last key of the slot
-module _ {keys : List ℕ} {number : ℕ} {labelled : List ℕ} {rows : List ComponentSet} {first place : ℕ} {immediate inferred : List ℕ} (rising : Ascending keys)
-    (low : LowerBound keys (number * span) first) (few : length labelled ≤ component_limit) (s : Sought keys number labelled rows first place immediate inferred)
-    (le : first ≤ place) (past : place < length keys → get_or keys place 0 / span ≡ number → ⊥) where
+module _ {keys cut : List ℕ} {number : ℕ} {labelled : List ℕ} {rows : List ComponentSet} {immediate inferred : List ℕ} (slot : SlotKeys keys number cut)
+    (few : length labelled ≤ component_limit) (s : Sought keys cut number labelled rows (length cut) immediate inferred) where
   -- a node that feeds the slot was passed
-  passed : (a : ℕ) → a < length labelled → member (pair number a) keys ≡ true → (i : ℕ) × (first ≤ i) × (i < place) × (get_or keys i 0 % span ≡ a)
-  passed a h e =
-      let found = member_at (pair number a) keys e in
-      let i = found.0 in
-      let o = outside keys number rising low place le past i found.1 (omega (arith, found.2, few)) in
-      (i, o.0, o.1, omega (arith, found.2, few))
+  passed : (a : ℕ) → a < length labelled → member (pair number a) keys ≡ true → (i : ℕ) × (i < length cut) × (get_or cut i 0 % span ≡ a)
+  passed a h e = slot.all a (omega (arith, few)) e
 
   pub slot_sets : {r : InputSources} → r.immediate.words ≡ immediate → r.inferred.words ≡ inferred
       → SlotSets keys number labelled rows r
@@ -136,12 +130,12 @@ module _ {keys : List ℕ} {number : ℕ} {labelled : List ℕ} {rows : List Com
           (λ t.
           let parts = both (ltb k (length labelled)) (member (pair number k) keys) t in
           let f = passed k (ltb-true k (length labelled) parts.0) parts.1 in
-          ap (member_of immediate) (sym f.3) ∙ s.seen f.0 f.1 f.2);
+          ap (member_of immediate) (sym f.2) ∙ s.seen f.0 f.1);
     };
     from = λ k t. s.rows_held k (sym (ap (λ (w : List ℕ). member_of w k) q) ∙ t);
     all = λ a k h m t.
         let f = passed a h m in
-        ap (λ (w : List ℕ). member_of w k) q ∙ s.rows_seen f.0 k f.1 f.2 (ap (λ (x : ℕ). in_row rows (at labelled x) k) f.3 ∙ t);
+        ap (λ (w : List ℕ). member_of w k) q ∙ s.rows_seen f.0 k f.1 (ap (λ (x : ℕ). in_row rows (at labelled x) k) f.2 ∙ t);
   }
 
 -- ---- the table of a prepared scene

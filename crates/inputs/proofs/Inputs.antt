@@ -1,4 +1,5 @@
 -- The input query: the port asked for, its immediate sources and the inferred inputs.
+--     slot_ordered, slot_cut, ..     the keys of a slot, which stand between two places of the table
 --     Flagged, flagged-..            the flags of a slot's keys, by the keys passed so far
 --     immediate_is                   a slot's keys are the immediate sources of its port
 --     both_flags                     the flags of the nodes reached that are inferred
@@ -16,16 +17,17 @@ use mathlib.Core.Path.{◌≡◌, refl, sym, ap, subst, ◌∙◌}
 use mathlib.Core.Bool.{Bool, true, false, cond, ◌&&◌, ◌||◌}
 use mathlib.Core.List.{List}
 use mathlib.Core.Logic.{⊎_elim}
-use Prim.Native.Nat.{ℕ, zero, suc, ◌+◌, ◌*◌, ◌/◌, ◌%◌, ◌^◌, ◌≤◌, ◌<◌}
+use Prim.Native.Nat.{ℕ, zero, suc, ◌+◌, ◌-◌, ◌*◌, ◌%◌, ◌^◌, ◌≤◌, ◌<◌}
 use native.Mathlib.Nat.{eq-or-lt_of_le}
 use native.Mathlib.Omega.{arith}
 use lib.Dec.{eqb, ltb}
-use lib.ListN.{length, get_or, set, replicate}
+use lib.ListN.{length, get_or, set, replicate, take, drop}
 use lib.Seq.{ext_get_or}
 use lib.IntN.{ℤ}
 use borrow.Author.Tests.{eqb-true, eq-eqb, ltb-true}
+use Rattle.std.proofs.lemmas.Grind.{common_steps}
 use Rattle.tables.specs.Order.{Ascending, LowerBound, member}
-use Rattle.tables.specs.Laws.{member_at}
+use Rattle.tables.specs.Laws.{order?, at_member, member_at}
 use Rattle.tables.specs.Pairs.{pair, span}
 use Rattle.sets.specs.Members.{SetOf}
 use Rattle.lists.specs.Limits.{component_limit}
@@ -54,63 +56,102 @@ use Rattle.assessment.specs.Rows.{SlotWithin, slot_fed}
 use Rattle.inputs.specs.Query.{is_immediate, upstream, is_inferred_for, with_row, row_place, PortSets, InputsBy, Answered}
 use Rattle.liveness.specs.Scene.{Scene, Prepared}
 use Rattle.signals.specs.Stages.{Tables, FedTable}
-use Rattle.inputs.specs.Inputs.{FedScene, SlotOf, Walkable, UpstreamSet}
+use Rattle.inputs.specs.Inputs.{FedScene, SlotOf, SlotKeys, Walkable, UpstreamSet}
 use Rattle.inputs.specs.declared.InputSources.{InputSources}
 use Rattle.signals.proofs.Tabulated.{first_cong, tabulated_length, tabulated_at}
 use Rattle.signals.proofs.Ends.{ends_within, sink_is}
 use Rattle.signals.proofs.Graph.{no_slot, fed_at, edges_back}
 use mathlib.Core.Bool.{and_assoc}
 use Rattle.signals.proofs.Marks.{set_marked}
-use Rattle.assessment.proofs.Fed.{here, outside}
+use Rattle.assessment.proofs.Fed.{outside}
 use Rattle.signals.proofs.Tested.{same_truth}
 use Rattle.assessment.proofs.Statuses.{fed_within}
 use Rattle.liveness.proofs.Answers.{set_where, set_same, set_below}
 
 -- ---- the keys of a slot
 
+-- the part of a list between two places
+cut_at : (keys : List ℕ) (a b i : ℕ) → b ≤ length keys → i < b - a → get_or (take (b - a) (drop a keys)) i 0 ≡ get_or keys (a + i) 0
+cut_at keys a b i h l = grind (arith, common_steps)
+
+cut_long : (keys : List ℕ) (a b : ℕ) → b ≤ length keys → length (take (b - a) (drop a keys)) ≡ b - a
+cut_long keys a b h = grind (arith, common_steps)
+
+-- where the keys of a slot begin and those past them, all its keys stand between
+module _ {keys : List ℕ} (slot : ℕ) {first past : ℕ} (rising : Ascending keys) (low : LowerBound keys (slot * span) first)
+    (high : LowerBound keys (slot * span + span) past) where
+  pub slot_ordered : first ≤ past
+  slot_ordered = ⊎_elim (λ (l : first ≤ past). l)
+      (λ (l : past < first). absurd (let w = low.before rising past l in let u = high.from rising past (omega arith) (omega (arith, low.within)) in omega arith))
+      (order? first past)
+
+  pub slot_cut : SlotKeys keys slot (take (past - first) (drop first keys))
+  slot_cut = record {
+    held = λ i h.
+        let l : i < past - first = omega (arith, cut_long keys first past high.within) in
+        let inside : first + i < length keys = omega (arith, high.within) in
+        let least = low.from rising (first + i) (omega arith) inside in
+        let most = high.before rising (first + i) (omega arith) in
+        let is = cut_at keys first past i high.within l in
+        (first + i, inside, sym is, omega (arith, is, least, most));
+    all = λ a h e.
+        let (k, inside, is) = member_at (pair slot a) keys e in
+        let (after, before) = outside keys slot rising low past slot_ordered
+        (λ l q. absurd (let w = high.from rising past (omega arith) l in omega arith)) k inside (omega (arith, is)) in
+        let l : k - first < past - first = omega arith in
+        let same : first + (k - first) ≡ k = omega arith in (
+          k - first,
+          omega (arith, cut_long keys first past high.within),
+          omega (arith, cut_at keys first past (k - first) high.within l, ap (λ (j : ℕ). get_or keys j 0) same, is),
+        );
+  }
+
+-- a key of the slot is one of its pairs
+pub slot_held : {keys cut : List ℕ} {slot : ℕ} → SlotKeys keys slot cut → (i : ℕ) → i < length cut → member (pair slot (get_or cut i 0 % span)) keys ≡ true
+slot_held {keys} {cut} {slot} s i h = let (k, l, is, e) = s.held i h in at_member (pair slot (get_or cut i 0 % span)) keys k l (omega (arith, is, e))
+
+pub slot_small : {keys cut : List ℕ} {slot m : ℕ} → SlotKeys keys slot cut → SlotWithin keys slot m → (i : ℕ) → i < length cut → get_or cut i 0 % span < m
+slot_small s w i h = let (k, l, is, e) = s.held i h in rw is at (w.below k l (rw is e))
+
 -- each key passed is flagged, and each flag is that of a key
-pub record Flagged (keys : List ℕ) (slot first at : ℕ) (flags : List Bool) : Type 0 where
-  pub seen : (k : ℕ) → first ≤ k → k < at → marked flags (get_or keys k 0 % span) ≡ true
+pub record Flagged (keys cut : List ℕ) (slot at : ℕ) (flags : List Bool) : Type 0 where
+  pub seen : (k : ℕ) → k < at → marked flags (get_or cut k 0 % span) ≡ true
   pub held : (a : ℕ) → marked flags a ≡ true → member (pair slot a) keys ≡ true
 
-pub flagged_none : (keys : List ℕ) (slot first n : ℕ) → Flagged keys slot first first (replicate n false)
-flagged_none keys slot first n = record { seen = λ k h l. absurd (omega arith); held = λ a e. never (sym (dark n a) ∙ e) }
+pub flagged_none : (keys cut : List ℕ) (slot n : ℕ) → Flagged keys cut slot 0 (replicate n false)
+flagged_none keys cut slot n = record { seen = λ k l. absurd (omega arith); held = λ a e. never (sym (dark n a) ∙ e) }
   where
     dark : (n a : ℕ) → marked (replicate n false) a ≡ false
     dark zero a = refl
     dark (suc n) zero = refl
     dark (suc n) (suc a) = dark n a
 
-pub flagged_more : {keys : List ℕ} {slot first at : ℕ} {flags : List Bool} → Flagged keys slot first at flags → at < length keys → get_or keys at 0 / span ≡ slot
-    → get_or keys at 0 % span < length flags → Flagged keys slot first (at + 1) (set flags (get_or keys at 0 % span) true)
-flagged_more {keys} {slot} {first} {at} {flags} f h e l =
-    let one = get_or keys at 0 % span in
+pub flagged_more : {keys cut : List ℕ} {slot at : ℕ} {flags : List Bool} → Flagged keys cut slot at flags → member (pair slot (get_or cut at 0 % span)) keys ≡ true
+    → get_or cut at 0 % span < length flags → Flagged keys cut slot (at + 1) (set flags (get_or cut at 0 % span) true)
+flagged_more {keys} {cut} {slot} {at} {flags} f h l =
+    let one = get_or cut at 0 % span in
     let now : (a : ℕ) → marked (set flags one true) a ≡ (marked flags a || eqb one a) = λ a. set_marked flags one a l in
     record {
-      seen = λ k b m. ⊎_elim
-          (λ (same : k ≡ at). now (get_or keys k 0 % span) ∙ ap (λ (t : Bool). marked flags (get_or keys k 0 % span) || t) (eq-eqb one (get_or keys k 0 % span) (ap (λ (j : ℕ). get_or keys j 0 % span) (sym same))) ∙ sym (or_true (marked flags (get_or keys k 0 % span))))
-          (λ (less : k < at). now (get_or keys k 0 % span) ∙ rw (f.seen k b less))
+      seen = λ k m. ⊎_elim
+          (λ (same : k ≡ at). now (get_or cut k 0 % span) ∙ ap (λ (t : Bool). marked flags (get_or cut k 0 % span) || t) (eq-eqb one (get_or cut k 0 % span) (ap (λ (j : ℕ). get_or cut j 0 % span) (sym same))) ∙ sym (or_true (marked flags (get_or cut k 0 % span))))
+          (λ (less : k < at). now (get_or cut k 0 % span) ∙ rw (f.seen k less))
           (eq-or-lt_of_le (let w : k ≤ at = omega arith in w));
       held = λ a t. go a (marked flags a) refl (sym (now a) ∙ t);
     }
   where
-    go : (a : ℕ) (t : Bool) → marked flags a ≡ t → (t || eqb (get_or keys at 0 % span) a) ≡ true → member (pair slot a) keys ≡ true
+    go : (a : ℕ) (t : Bool) → marked flags a ≡ t → (t || eqb (get_or cut at 0 % span) a) ≡ true → member (pair slot a) keys ≡ true
     go a true m t = f.held a m
-    go a false m t = let same = eqb-true (get_or keys at 0 % span) a t in ap (λ (x : ℕ). member (pair slot x) keys) (sym same) ∙ here keys slot at h e
+    go a false m t = let same = eqb-true (get_or cut at 0 % span) a t in ap (λ (x : ℕ). member (pair slot x) keys) (sym same) ∙ h
 
 -- past the last key of the slot the flags are those of its keys
-module _ {keys : List ℕ} {slot : ℕ} (rising : Ascending keys) {first : ℕ} (low : LowerBound keys (slot * span) first) where
-  pub flagged_all : {flags : List Bool} {n at : ℕ} → Flagged keys slot first at flags → first ≤ at → (at < length keys → get_or keys at 0 / span ≡ slot → ⊥)
-      → length flags ≡ n → n ≤ span → Flags n (λ a. member (pair slot a) keys) flags
-  flagged_all {flags} {n} {at} f le past long small = record {
-    long = omega (arith, long);
-    at = λ a h. same_truth (marked flags a) (member (pair slot a) keys) (f.held a) (λ e.
-        let found = member_at (pair slot a) keys e in
-        let k = found.0 in
-        let o = outside keys slot rising low at le past k found.1 (omega (arith, found.2)) in
-        let is : get_or keys k 0 % span ≡ a = omega (arith, found.2) in
-        ap (marked flags) (sym is) ∙ f.seen k o.0 o.1);
-  }
+pub flagged_all : {keys cut : List ℕ} {slot n : ℕ} {flags : List Bool} → SlotKeys keys slot cut → Flagged keys cut slot (length cut) flags
+    → length flags ≡ n → n ≤ span → Flags n (λ a. member (pair slot a) keys) flags
+flagged_all {keys} {cut} {slot} {n} {flags} s f long small = record {
+  long = omega (arith, long);
+  at = λ a h. same_truth (marked flags a) (member (pair slot a) keys) (f.held a) (λ e.
+      let (i, l, is) = s.all a (omega arith) e in
+      ap (marked flags) (sym is) ∙ f.seen i l);
+}
 
 -- ---- immediate sources
 

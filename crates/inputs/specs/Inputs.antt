@@ -1,11 +1,12 @@
 -- The ports of an input query, by the tables of a prepared scene.
 --     Inputs, FedScene          a prepared scene with its inferred inputs; its edges by the port that they feed
+--     SlotKeys                  the keys of a port
 --     Walkable, UpstreamSet     what one port is asked by, and what a walk from its sources gives
 --     Ready, SlotSets           what many ports are asked by, and what the rows of their sources give
 -- Assumes nothing: these are definitions.
-use Rattle.std.specs.Prelude.{ℕ, ◌*◌, ◌≤◌, ◌<◌, ◌≡◌, Bool, true, ◌&&◌, List, length, ℤ}
+use Rattle.std.specs.Prelude.{ℕ, ◌*◌, ◌/◌, ◌%◌, ◌≤◌, ◌<◌, ◌≡◌, Bool, true, ◌&&◌, List, length, get_or, ℤ}
 use Rattle.tables.specs.Order.{Ascending, member}
-use Rattle.tables.specs.Pairs.{pair}
+use Rattle.tables.specs.Pairs.{pair, span}
 use Rattle.sets.specs.declared.ComponentSet.{ComponentSet}
 use Rattle.sets.specs.Members.{member_of}
 use Rattle.lists.specs.Limits.{component_limit}
@@ -60,6 +61,11 @@ pub record SlotOf (cs ps : List ℤ) (p port : ℕ) (fed : List ℕ) (number : �
   pub place : p < component_count cs
   pub port_small : port < ports
   pub slot_is : number ≡ slot (Ids.member_of cs p) port
+
+-- the keys of a slot in a table, each of them and no other
+pub record SlotKeys (keys : List ℕ) (number : ℕ) (cut : List ℕ) : Type 0 where
+  pub held : (i : ℕ) → i < length cut → (k : ℕ) × (k < length keys) × (get_or keys k 0 ≡ get_or cut i 0) × (get_or cut i 0 / span ≡ number)
+  pub all : (a : ℕ) → a < span → member (pair number a) keys ≡ true → (i : ℕ) × (i < length cut) × (get_or cut i 0 % span ≡ a)
 
 -- ---- one port, by a walk
 

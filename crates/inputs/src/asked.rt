@@ -16,6 +16,7 @@ ghost use Rattle.inputs.specs.Inputs.{Ready, SlotSets};
 use super::InputSources;
 use super::query::find_inputs;
 use super::row::row_place;
+use super::slot::slot_keys;
 use assessment::upstream::upstream_rows;
 use lists::ids::member_of;
 use lists::views::{ComponentList, PortList};
@@ -88,12 +89,7 @@ fn slot_sources(
 {
     let mut immediate = ComponentSet::empty();
     let mut inferred = ComponentSet::empty();
-    let first = tables::lower_bound(fed, slot as u64 * SPAN);
-    for at in first..fed.len() {
-        let key = fed[at];
-        if key / SPAN != slot as u64 {
-            break;
-        }
+    for key in slot_keys(fed, slot) {
         let source = (key % SPAN) as usize;
         immediate = immediate.insert(source);
         inferred = inferred.union(upstream[labels[source]]);

@@ -5,6 +5,7 @@
 pub mod asked;
 mod query;
 mod row;
+mod slot;
 
 ghost use Rattle.std.specs.Prelude.{List, ℕ, ℤ, None};
 ghost use Rattle.inputs.specs.Query.{Answered, PortSets};

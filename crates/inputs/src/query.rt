@@ -20,12 +20,13 @@ ghost use Rattle.inputs.specs.Inputs.{Inputs, InputsRoom, SlotOf, Walkable, Upst
 
 use super::InputSources;
 use super::row::row_place;
+use super::slot::slot_keys;
 use assessment::verdicts::slot_fed;
 use lists::ids::member_of;
 use lists::views::{ComponentList, PortList};
 use lists::{COMPONENT, COMPONENTS, CONNECTIONS, Fault, PORT, Refusal};
 use liveness::plot::{Plot, PreparedPlot, Workspace};
-use liveness::steps::{flag_drive, flag_inferred};
+use liveness::steps::flag_inputs;
 use sets::ComponentSet;
 use signals::edges::PORTS;
 use signals::flags::{combine_flags, gather};
@@ -41,12 +42,7 @@ fn immediate_flags(keys: &[u64], slot: usize, flags: &mut [bool])
     ensures { Flags (length flags.old) (λ a. member (pair slot a) keys.now) flags.new }
 {
     flags.fill(false);
-    let first = tables::lower_bound(keys, slot as u64 * SPAN);
-    for at in first..keys.len() {
-        let key = keys[at];
-        if key / SPAN != slot as u64 {
-            return;
-        }
+    for key in slot_keys(keys, slot) {
         flags[(key % SPAN) as usize] = true;
     }
 }
@@ -122,33 +118,11 @@ pub(crate) fn inferred_members(plot: &PreparedPlot, inferred: &mut [bool])
     ensures { let p = plot.now.plot in
         inferred.new ≡ members_where p.components.now (is_inferred p.components.now p.ports.now p.frontiers.now) }
 {
-    let lists = plot.plot;
     let mut on_frontier = [false; COMPONENTS];
-    let mut drive_at = [false; COMPONENTS];
     let mut has_drive = [false; COMPONENTS];
     let mut inferred_at = [false; COMPONENTS];
-    let listed = ComponentList {
-        numbers: lists.components,
-    };
-    flag_drive(
-        listed,
-        lists.frontiers,
-        plot.region_at,
-        &mut on_frontier,
-        &mut drive_at,
-        &mut has_drive,
-    );
-    flag_inferred(
-        listed,
-        plot.forward,
-        plot.backward,
-        plot.labels,
-        plot.members,
-        plot.region_at,
-        &has_drive,
-        &mut inferred_at,
-    );
-    let count = lists.components.len() / COMPONENT;
+    flag_inputs(plot, &mut on_frontier, &mut has_drive, &mut inferred_at);
+    let count = plot.plot.components.len() / COMPONENT;
     gather(&plot.members[..count], &inferred_at, inferred);
 }
 

@@ -15,8 +15,7 @@ use lists::views::ComponentList;
 fn has_row(kind: u64, port: u64) -> bool
     ensures { result ≡ (leb (first_required kind) port && ltb port (first_required kind + required_count kind)) }
 {
-    let ports = required_ports(kind);
-    (ports.start as u64 <= port) & (port < ports.end as u64)
+    required_ports(kind).contains(&(port as usize))
 }
 
 // The place, where the port of its component has a verdict row.

@@ -13,20 +13,19 @@ use lists::{COMPONENTS, CONNECTIONS};
 use signals::crossings::{carry_marks, find_crossings};
 use signals::flags::{combine_flags, gather};
 
-// Flags the regions that hold a drive source or an inferred input. The first n components count: the arrays lent have room for the most.
+// Flags the regions that hold a drive source or an inferred input.
 fn possible_regions(
-    n: usize,
     region_at: &[usize],
     inferred: &[bool],
     has_drive: &[bool],
     possible: &mut [bool],
 )
-    requires indices { Indices n component_limit region_at.now × (n ≤ length inferred.now) }
+    requires indices { let n = length region_at.now in Indices n component_limit region_at.now × (n ≤ length inferred.now) }
     requires regions_len { (length has_drive.now ≡ component_limit) × (length possible.old ≡ component_limit) }
-    ensures { Flags component_limit
-        (λ r. marked has_drive.now r || some (λ p. marked inferred.now p && eqb (get_or region_at.now p 0) r) n) possible.new }
+    ensures { Flags component_limit (λ r. marked has_drive.now r
+        || some (λ p. marked inferred.now p && eqb (get_or region_at.now p 0) r) (length region_at.now)) possible.new }
 {
-    gather(&region_at[..n], inferred, possible);
+    gather(region_at, inferred, possible);
     combine_flags(possible, has_drive, |waits, drives| drives | waits);
 }
 
@@ -50,7 +49,7 @@ pub(crate) fn flag_alive(
     let mut possible = [false; COMPONENTS];
     let crossings = find_crossings(plot.forward.keys, plot.labels, &mut keys);
     driven.copy_from_slice(has_drive);
-    possible_regions(n, plot.region_at, inferred, has_drive, &mut possible);
+    possible_regions(&plot.region_at[..n], inferred, has_drive, &mut possible);
     carry_marks(
         crossings,
         plot.labels,

@@ -6,6 +6,7 @@ ghost use Rattle.lists.specs.Records.{component_count, port_count};
 ghost use Rattle.lists.specs.First.{tabulate};
 ghost use Rattle.lists.specs.Slices.{laid};
 ghost use Rattle.regions.specs.Search.{Zeros};
+ghost use Rattle.signals.specs.Sources.{is_on_frontier};
 ghost use Rattle.signals.specs.Regions.{region_of_place, holds_drive, is_inferred};
 ghost use Rattle.signals.specs.Flags.{Flags, Numbers};
 ghost use Rattle.liveness.specs.Entry.{AnalyzedBy};
@@ -88,18 +89,22 @@ pub fn flag_inferred(
     );
 }
 
-// All marks of a plot.
-fn mark(
+// Flags the components on frontiers, the regions that hold a drive source, and the inferred inputs by list place.
+pub fn flag_inputs(
     plot: &PreparedPlot,
     on_frontier: &mut [bool],
-    inferred: &mut [bool],
     has_drive: &mut [bool],
-    drive: &mut [bool],
-    potential: &mut [bool],
+    inferred: &mut [bool],
 )
-    requires { MarkRoom plot.now.plot.components.now on_frontier.old inferred.old has_drive.old drive.old potential.old }
-    ensures { let p = plot.now.plot in
-        Marked p.components.now p.ports.now p.frontiers.now on_frontier.new inferred.new has_drive.new drive.new potential.new }
+    requires components_in_bounds { let n = component_count plot.now.plot.components.now in
+        (n ≤ length on_frontier.old) × (n ≤ length inferred.old) }
+    requires has_drive_len { length has_drive.old ≡ component_limit }
+    ensures frontier_flags { let p = plot.now.plot in
+        Flags (component_count p.components.now) (is_on_frontier p.components.now p.frontiers.now) on_frontier.new }
+    ensures region_flags { let p = plot.now.plot in
+        Flags component_limit (holds_drive p.components.now p.ports.now p.frontiers.now) has_drive.new }
+    ensures inferred_flags { let p = plot.now.plot in
+        Flags (component_count p.components.now) (is_inferred p.components.now p.ports.now p.frontiers.now) inferred.new }
 {
     let mut drive_at = [false; COMPONENTS];
     let listed = ComponentList {
@@ -123,15 +128,31 @@ fn mark(
         has_drive,
         inferred,
     );
+}
+
+// All marks of a plot.
+fn mark(
+    plot: &PreparedPlot,
+    on_frontier: &mut [bool],
+    inferred: &mut [bool],
+    has_drive: &mut [bool],
+    drive: &mut [bool],
+    potential: &mut [bool],
+)
+    requires { MarkRoom plot.now.plot.components.now on_frontier.old inferred.old has_drive.old drive.old potential.old }
+    ensures { let p = plot.now.plot in
+        Marked p.components.now p.ports.now p.frontiers.now on_frontier.new inferred.new has_drive.new drive.new potential.new }
+{
+    flag_inputs(plot, on_frontier, has_drive, inferred);
     flag_alive(plot, has_drive, inferred, drive, potential);
 }
 
-// Writes the region of each of n components, in list order: the arrays lent have room for the most.
-fn put_regions(n: usize, region_at: &[usize], regions: &mut [u64])
-    requires { (n ≤ length region_at.now) × (n ≤ length regions.old) }
-    ensures { regions.new ≡ laid (tabulate (λ p. get_or region_at.now p 0) n) regions.old }
+// Writes the region of each component, in list order: the array lent has room for the most.
+fn put_regions(region_at: &[usize], regions: &mut [u64])
+    requires { length region_at.now ≤ length regions.old }
+    ensures { regions.new ≡ laid (tabulate (λ p. get_or region_at.now p 0) (length region_at.now)) regions.old }
 {
-    for p in 0..n {
+    for p in 0..region_at.len() {
         regions[p] = region_at[p] as u64;
     }
 }
@@ -193,7 +214,7 @@ fn report(
         &mut drive[..n],
         &mut potential[..n],
     );
-    put_regions(n, plot.region_at, regions);
+    put_regions(&plot.region_at[..n], regions);
     let listed = ComponentList {
         numbers: lists.components,
     };

@@ -50,6 +50,7 @@ fn see_row(graph: &Graph, labels: &[usize], m: usize, seen: Seen) -> Seen
 {
     let at = graph.first_key(m);
     let mut found = seen;
+    // Stops at the first key of another node: to cut the row first would need a second search.
     for key in &graph.keys[at..] {
         if key / SPAN != m as u64 {
             return found;

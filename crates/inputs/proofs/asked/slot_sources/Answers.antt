@@ -1,32 +1,33 @@
 -- Answers for the goals that the search leaves.
-use mathlib.Core.Path.{refl}
+use mathlib.Core.Path.{◌≡◌, refl}
 use Prim.Native.Nat.{◌%◌, ◌<◌}
 use native.Mathlib.Omega.{arith}
 use lib.ListN.{length, get_or}
 use Rattle.tables.specs.Pairs.{span}
+use Rattle.inputs.proofs.Inputs.{slot_held, slot_small}
 use Rattle.inputs.proofs.Asking.{sought_more, slot_sets}
 use Rattle.inputs.proofs.asked.slot_sources.Goals as goal
-use Rattle.inputs.proofs.asked.slot_sources.Goals.{Else-key-slot}
+use Rattle.inputs.proofs.asked.slot_sources.Goals.{In-loop-key}
 
 -- a key of the slot names a node
-node : (c : Else-key-slot)
-    → get_or c.args.fed.now c.loop-at.at 0 % span < length c.args.labels.now
-node c =
-    c.requires.ascending.1.1.below c.loop-at.at c.loop-at-test.true c.if-key-slot.false
+node : (c : In-loop-key) → get_or c.slot_keys-key-items.result.now c.loop-key.key-index 0 % span < length c.args.labels.now
+node c = slot_small c.slot_keys-key-items.ensures c.requires.ascending.1.1 c.loop-key.key-index c.loop-key-test.true
 
-pub loop-at-preserved : goal.loop-at-preserved
-loop-at-preserved c =
-    let l = c.loop-at in
+pub loop-key-preserved : goal.loop-key-preserved
+loop-key-preserved c =
+    let l = c.loop-key in
     let a = c.args in
-    sought_more a.fed.now a.slot a.labels.now a.upstream.now _ l.invariant c.loop-at-test.true c.if-key-slot.false
-    (node (goal.at.loop-at-preserved c).Else-key-slot) _ c.insert-immediate.ensures c.union-inferred.ensures
+    sought_more a.fed.now c.slot_keys-key-items.result.now a.slot a.labels.now a.upstream.now l.invariant
+    (slot_held c.slot_keys-key-items.ensures l.key-index c.loop-key-test.true)
+    (node (goal.at.loop-key-preserved c).In-loop-key) _ c.insert-immediate.ensures c.union-inferred.ensures
 
-pub returns-then-key-slot : goal.returns-then-key-slot
-returns-then-key-slot c =
-    slot_sets c.requires.ascending.0 c.lower_bound-first.ensures c.requires.indices.1 c.loop-at.invariant c.loop-at.auto.at
-    (λ h. c.if-key-slot.true) refl refl
+pub returns : goal.returns
+returns c =
+    let all : c.loop-key.key-index ≡ length c.slot_keys-key-items.result.now = omega arith in
+    slot_sets c.slot_keys-key-items.ensures c.requires.indices.1 (rw all at c.loop-key.invariant) refl refl
 
-pub returns-after-loop-at : goal.returns-after-loop-at
-returns-after-loop-at c =
-    slot_sets c.requires.ascending.0 c.lower_bound-first.ensures c.requires.indices.1 c.loop-at.invariant c.loop-at.auto.at
-    (λ h. absurd (omega (arith, c.loop-at-test.false))) refl refl
+pub bounds-labels-source : goal.bounds-labels-source
+bounds-labels-source c = node (goal.at.bounds-labels-source c).In-loop-key
+
+pub insert-immediate-requires : goal.insert-immediate-requires
+insert-immediate-requires c = omega (arith, node (goal.at.insert-immediate-requires c).In-loop-key, c.requires.indices.1)

@@ -3,5 +3,5 @@
 use Rattle.inputs.proofs.Asking.{Sought}
 use Rattle.inputs.proofs.asked.slot_sources.Given as goal
 
-abbrev pub invariant-loop-at : goal.invariant-loop-at
-invariant-loop-at l = Sought l.fed l.slot l.labels l.upstream l.first l.at l.immediate.words l.inferred.words
+abbrev pub invariant-loop-key : goal.invariant-loop-key
+invariant-loop-key l = Sought l.fed l.key-items l.slot l.labels l.upstream l.key-index l.immediate.words l.inferred.words

@@ -1,31 +1,31 @@
 -- Answers for the goals that the search leaves.
-use mathlib.Core.Path.{◌∙◌}
+use mathlib.Core.Path.{◌≡◌, ◌∙◌}
 use Prim.Native.Nat.{◌%◌, ◌<◌}
 use native.Mathlib.Omega.{arith}
 use lib.ListN.{length, get_or}
 use Rattle.tables.specs.Pairs.{span}
-use Rattle.inputs.proofs.Inputs.{flagged_more, flagged_all}
+use Rattle.inputs.proofs.Inputs.{slot_held, slot_small, flagged_more, flagged_all}
 use Rattle.inputs.proofs.query.immediate_flags.Goals as goal
-use Rattle.inputs.proofs.query.immediate_flags.Goals.{Else-key-slot}
+use Rattle.inputs.proofs.query.immediate_flags.Goals.{In-loop-key}
 
 -- a key of the slot has a flag
-room : (c : Else-key-slot) → get_or c.args.keys.now c.loop-at.at 0 % span < length c.loop-at.flags
+room : (c : In-loop-key) → get_or c.slot_keys-key-items.result.now c.loop-key.key-index 0 % span < length c.loop-key.flags
 room c =
     omega (
       arith,
-      c.loop-at.auto.flags ∙ c.fill.auto.self,
-      c.requires.slot_within.0.below c.loop-at.at c.loop-at-test.true c.if-key-slot.false,
+      c.loop-key.auto.flags ∙ c.fill.auto.self,
+      slot_small c.slot_keys-key-items.ensures c.requires.slot_within.0 c.loop-key.key-index c.loop-key-test.true,
     )
 
-pub loop-at-preserved : goal.loop-at-preserved
-loop-at-preserved c = flagged_more c.loop-at.invariant c.loop-at-test.true c.if-key-slot.false (room c)
-
-pub returns-then-key-slot : goal.returns-then-key-slot
-returns-then-key-slot c =
-    flagged_all c.requires.ascending.0 c.lower_bound-first.ensures c.loop-at.invariant c.loop-at.auto.at (λ h. c.if-key-slot.true)
-    (c.loop-at.auto.flags ∙ c.fill.auto.self) c.requires.slot_within.1
+pub loop-key-preserved : goal.loop-key-preserved
+loop-key-preserved c =
+    flagged_more c.loop-key.invariant (slot_held c.slot_keys-key-items.ensures c.loop-key.key-index c.loop-key-test.true)
+    (room (goal.at.loop-key-preserved c).In-loop-key)
 
 pub returns : goal.returns
 returns c =
-    flagged_all c.requires.ascending.0 c.lower_bound-first.ensures c.loop-at.invariant c.loop-at.auto.at
-    (λ h. absurd (omega (arith, c.loop-at-test.false))) (c.loop-at.auto.flags ∙ c.fill.auto.self) c.requires.slot_within.1
+    let all : c.loop-key.key-index ≡ length c.slot_keys-key-items.result.now = omega arith in
+    flagged_all c.slot_keys-key-items.ensures (rw all at c.loop-key.invariant) (c.loop-key.auto.flags ∙ c.fill.auto.self) c.requires.slot_within.1
+
+pub bounds-flags-key : goal.bounds-flags-key
+bounds-flags-key c = room (goal.at.bounds-flags-key c).In-loop-key

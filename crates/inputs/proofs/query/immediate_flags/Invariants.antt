@@ -3,5 +3,5 @@
 use Rattle.inputs.proofs.Inputs.{Flagged}
 use Rattle.inputs.proofs.query.immediate_flags.Given as goal
 
-abbrev pub invariant-loop-at : goal.invariant-loop-at
-invariant-loop-at l = Flagged l.keys l.slot l.first l.at l.flags
+abbrev pub invariant-loop-key : goal.invariant-loop-key
+invariant-loop-key l = Flagged l.keys l.key-items l.slot l.key-index l.flags

@@ -5,17 +5,15 @@ use mathlib.Core.Path.{ap, ◌∙◌}
 use mathlib.Core.Bool.{◌||◌}
 use native.Mathlib.Omega.{arith}
 use Rattle.regions.specs.Graph.{marked}
-use Rattle.signals.proofs.Lent.{gathered_front}
 use Rattle.liveness.proofs.alive.possible_regions.Goals as goal
 
 pub returns : goal.returns
 returns c =
-    let gathered = gathered_front c.args.region_at.now c.requires.indices.0.long c.gather.ensures in
     let joined = c.combine_flags.ensures in
     let a = c.args in
     record {
       long = omega (arith, joined.long, c.gather.auto.out, c.requires.regions_len.1);
       at = λ r h.
           joined.at r (omega (arith, c.gather.auto.out, c.requires.regions_len.1))
-          ∙ ap (λ t. marked a.has_drive.now r || t) (gathered.at r (omega (arith, c.gather.auto.out, c.requires.regions_len.1)));
+          ∙ ap (λ t. marked a.has_drive.now r || t) (c.gather.ensures.at r (omega (arith, c.gather.auto.out, c.requires.regions_len.1)));
     }

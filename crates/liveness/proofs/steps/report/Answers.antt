@@ -8,6 +8,7 @@ use native.Mathlib.Omega.{arith}
 use lib.ListN.{length, get_or, take, drop, replicate}
 use lib.Seq.{length-take-le}
 use lib.IntN.{ℤ}
+use Rattle.std.proofs.lemmas.List.{get_or-take}
 use Rattle.lists.proofs.EndLaws.{sources_length}
 use Rattle.lists.specs.Limits.{component_limit}
 use Rattle.lists.specs.Records.{component_count}
@@ -91,10 +92,17 @@ marks_lent : (s : Start) (marks : List Bool) → length marks ≡ length (take (
 marks_lent s marks e = ap length (marks_front s marks e) ∙ marks_long s marks e
 
 -- ---- rows
+-- the regions of the components, at the front of their array
+abbrev regions : Start → List ℕ
+regions s = take (nodes s) s.args.plot.now.region_at.now
+
+regions_lent : (s : Start) → length (regions s) ≡ nodes s
+regions_lent s = length-take-le _ _ (omega (arith, all s, s.args.plot.now.prepared.regions_are.long))
+
 pub put_regions-requires : goal.put_regions-requires
 put_regions-requires c =
     let s = (goal.at.put_regions-requires c).Start in
-    (omega (arith, all s, c.args.plot.now.prepared.regions_are.long), omega (arith, all s, c.requires.rows_room.regions_room))
+    omega (arith, regions_lent s, all s, c.requires.rows_room.regions_room)
 
 pub invariant_of-listed : goal.invariant_of-listed
 invariant_of-listed c = record { within = c.args.plot.now.plot.accepted.scene.components }
@@ -141,10 +149,11 @@ returns c =
     let t = p.tables in
     let e = c.mark.ensures in
     let n = component_count (cs s) in
-    let region_rows_lem : tabulate (λ q. get_or c.args.plot.now.region_at.now q 0) (nodes s) ≡ regions_of (cs s) (ps s) =
-    tabulated_same (λ q. get_or c.args.plot.now.region_at.now q 0) (region_of_place (cs s) (ps s)) (nodes s)
-    (λ q h. p.regions_are.at q (omega (arith, all s)))
-    ∙ ap (tabulate (region_of_place (cs s) (ps s))) (all s) in
+    let region_rows_lem : tabulate (λ q. get_or (regions s) q 0) (length (regions s)) ≡ regions_of (cs s) (ps s) =
+    tabulated_same (λ q. get_or (regions s) q 0) (region_of_place (cs s) (ps s)) (length (regions s))
+    (λ q h. get_or-take (nodes s) c.args.plot.now.region_at.now q 0 (omega (arith, regions_lent s))
+    ∙ p.regions_are.at q (omega (arith, regions_lent s, all s)))
+    ∙ ap (tabulate (region_of_place (cs s) (ps s))) (regions_lent s ∙ all s) in
     let source-rows : sources_below (cs s) c.mark.new.on_frontier c.mark.new.inferred n ≡ source_rows_below (cs s) (ps s) (fs s) n =
     sources_are (cs s) (ps s) (fs s) e.frontier_flags e.inferred_flags n (omega arith) in
     let live : take (nodes s) (c.mark.new.drive ++ rest s) ≡ drive (cs s) (ps s) (fs s) = marks_front s c.mark.new.drive
@@ -238,3 +247,6 @@ shape_of-sources c = c.put_sources.auto.out
 
 pub shape_of-inputs : goal.shape_of-inputs
 shape_of-inputs c = c.write_verdicts.auto.out
+
+pub slice_bounds-put_regions-end : goal.slice_bounds-put_regions-end
+slice_bounds-put_regions-end c = sym (regions_lent (goal.at.slice_bounds-put_regions-end c).Start)
