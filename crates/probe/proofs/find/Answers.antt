@@ -1,6 +1,7 @@
 -- `probe::find` meets its contract.
 -- Assumes nothing.
 use mathlib.Core.Path.{sym}
+use native.Mathlib.Omega.{arith}
 use Rattle.checks.proofs.Accepted.{id_past}
 use Rattle.probe.proofs.Table.{Tabled, tabled, is_place}
 use Rattle.probe.proofs.find.Goals as goal
@@ -9,10 +10,10 @@ use Rattle.probe.proofs.find.Goals.{In_ok-count}
 table : (c : In_ok-count) → Tabled c.args.components.now c.accepted_ids.new.keys c.in_ok-count.count
 table c = tabled c.accepted_ids.ensures.count c.accepted_ids.ensures.table c.accepted_ids.array_long c.in_ok-count.was
 
-pub returns-then-id-gt-GREATEST_ID : goal.returns-then-id-gt-GREATEST_ID
-returns-then-id-gt-GREATEST_ID c =
-    let t = table (goal.at.returns-then-id-gt-GREATEST_ID c).In_ok-count in
-    record { value = rw t.accepted (sym (id_past _ t.scene.components _ c.if-id-gt-GREATEST_ID.true)); place = tt }
+pub returns-then-id-ge-IDS : goal.returns-then-id-ge-IDS
+returns-then-id-ge-IDS c =
+    let t = table (goal.at.returns-then-id-ge-IDS c).In_ok-count in
+    record { value = rw t.accepted (sym (id_past _ t.scene.components _ (omega (arith, c.if-id-ge-IDS.true)))); place = tt }
 
 pub slice_bounds-keys-end : goal.slice_bounds-keys-end
 slice_bounds-keys-end c = (table (goal.at.slice_bounds-keys-end c).In_ok-count).few
