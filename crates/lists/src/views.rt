@@ -36,7 +36,11 @@ impl ComponentList<'_> {
         ensures { let c = component self.entry.numbers.now k in (result.0 ≡ c.x) × ((result.1 ≡ c.y) × (result.2 ≡ c.z)) }
     {
         let at = k * COMPONENT;
-        (self.numbers[at + 1], self.numbers[at + 2], self.numbers[at + 3])
+        (
+            self.numbers[at + 1],
+            self.numbers[at + 2],
+            self.numbers[at + 3],
+        )
     }
 
     pub fn kind(self, k: usize) -> u64
