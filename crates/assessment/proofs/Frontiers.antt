@@ -1,5 +1,6 @@
 -- The components on frontiers, a frontier at a time.
 --     first_below                              the first component at a position is one of the list
+--     first_flagged                            what it flags, by a position of equal numbers
 --     on_first                                  component p is the first at one of the first n frontiers
 --     frontier_none, frontier_more             its flags: one frontier more
 -- Assumes nothing.
@@ -24,6 +25,10 @@ unfolding first_at
 first_below cs position p e = omega (arith, (found_at (λ q. same_position (component cs q) position) 0 (component_count cs) p e).below)
 
 -- ---- flags
+
+pub first_flagged : (cs : List ℤ) (position : Position) {x y z : ℤ} {flags flags' : List Bool} → x ≡ position.x → y ≡ position.y → z ≡ position.z
+    → FirstFlagged (first_at cs (record { x = x; y = y; z = z })) flags flags' → FirstFlagged (first_at cs position) flags flags'
+first_flagged cs position e f g s = rw (← e, ← f, ← g) s
 
 flag_found_lem : (found : Option ℕ) (flags : List Bool) → ((q : ℕ) → found ≡ Some q → q < length flags) → (p : ℕ) → marked (flag_found found flags) p ≡ (marked flags p || is_at p found)
 flag_found_lem (Some q) flags h p = set_marked flags q p (h q refl)

@@ -2,7 +2,8 @@
 --     before_then                     a component stands before a position, or at it and `rest` decides
 --     earlier                        so does each that is listed earlier
 --     equal_tuples, less_tuples      the tuples of a position compare so
---     records_part, parted_at        where the records of a list part, as arrays
+--     field_of                       a number of a list's records, as arrays
+--     records_part, parted_at        where those of an accepted list part
 --     found_first, found_past,       the first component at a position, where they part
 --     found_none
 -- Assumes nothing.
@@ -97,14 +98,15 @@ less_tuples a b c x y z = less_three a b c x y z ∙ ap (λ (t : Bool). less_the
 -- ---- a record as an array
 
 -- field f of the k-th of m arrays of n
-field_of : (n m : ℕ) (xs : List ℤ) (k f : ℕ) (d : List ℤ) → k < m → f < n → at (get_or (first_chunks n m xs) k d) f ≡ at xs (k * n + f)
-field_of n zero xs k f d h l = absurd (omega arith)
-field_of n (suc m) xs zero f d h l =
+pub field_of : {X : Type 0} (e : X) (n m : ℕ) (xs : List X) (k f : ℕ) (d : List X) → k < m → f < n
+    → get_or (get_or (first_chunks n m xs) k d) f e ≡ get_or xs (k * n + f) e
+field_of e n zero xs k f d h l = absurd (omega arith)
+field_of e n (suc m) xs zero f d h l =
     let place : f ≡ 0 * n + f = omega arith in
-    get_or-take n xs f (pos 0) l ∙ ap (at xs) place
-field_of n (suc m) xs (suc k) f d h l =
+    get_or-take n xs f e l ∙ ap (λ (i : ℕ). get_or xs i e) place
+field_of e n (suc m) xs (suc k) f d h l =
     let place : n + (k * n + f) ≡ suc k * n + f = omega (arith, suc-mul k n) in
-    field_of n m (drop n xs) k f d (omega arith) l ∙ get_or-drop n xs (k * n + f) (pos 0) ∙ ap (at xs) place
+    field_of e n m (drop n xs) k f d (omega arith) l ∙ get_or-drop n xs (k * n + f) e ∙ ap (λ (i : ℕ). get_or xs i e) place
 
 same_before : {a b c x y z : ℤ} (position : Position) → a ≡ x → b ≡ y → c ≡ z
     → less_then a position.x (less_then b position.y (lt_z c position.z)) ≡ less_then x position.x (less_then y position.y (lt_z z position.z))
@@ -139,7 +141,7 @@ module _ (cs : List ℤ) (ascending : first_not_ascending component_order compon
   module _ {records : List (List ℤ)} (split : records ≡ first_chunks component_width (component_count cs) cs) where
     before_record : (k : ℕ) (d : List ℤ) → k < component_count cs → before_position (component (get_or records k d) 0) position ≡ before_position (component cs k) position
     before_record k d h =
-        let field = λ (f : ℕ) (l : f < component_width). ap (λ (rs : List (List ℤ)). at (get_or rs k d) f) split ∙ field_of component_width (component_count cs) cs k f d h l in
+        let field = λ (f : ℕ) (l : f < component_width). ap (λ (rs : List (List ℤ)). at (get_or rs k d) f) split ∙ field_of (pos 0) component_width (component_count cs) cs k f d h l in
         same_before position (field 1 (omega arith)) (field 2 (omega arith)) (field 3 (omega arith))
 
     pub records_part : length records ≡ component_count cs → IsPartitionedBy (λ r. before_position (component r 0) position) records

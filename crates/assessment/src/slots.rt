@@ -147,9 +147,8 @@ fn put_ports(
     ensures { Put (rows_of id kind (λ port. status_at slots.now (slot_of member port)))
         at out.old out.new result }
 {
-    let ports = required_ports(kind);
     let mut place = at;
-    for port in ports.start..ports.end {
+    for port in required_ports(kind) {
         let status = slots[member * PLACES + port].status();
         place = put_verdict(out, place, id, port as u64, status);
     }

@@ -48,59 +48,62 @@ pub fn source_kind(kind: u64) -> Option<SourceKind>
     }
 }
 
-// Whether component p stands at the position of frontier j.
-fn same_position(components: &[i64], frontiers: &[i64], p: usize, j: usize) -> bool
-    requires { (p < component_count components.now) × (j < frontier_count frontiers.now) }
-    ensures { result ≡ same_position (component components.now p) (frontier frontiers.now j) }
+// The position of frontier j.
+fn position_at(frontiers: &[i64], j: usize) -> (i64, i64, i64)
+    requires { j < frontier_count frontiers.now }
+    ensures { let there = frontier frontiers.now j in (result.0 ≡ there.x) × ((result.1 ≡ there.y) × (result.2 ≡ there.z)) }
+{
+    let b = j * FRONTIER;
+    (frontiers[b], frontiers[b + 1], frontiers[b + 2])
+}
+
+// Whether component p stands at a position.
+fn same_position(components: &[i64], p: usize, there: (i64, i64, i64)) -> bool
+    requires { p < component_count components.now }
+    ensures { result ≡ same_position (component components.now p) (record { x = there.0; y = there.1; z = there.2 }) }
 {
     let a = p * COMPONENT;
-    let b = j * FRONTIER;
-    (components[a + 1], components[a + 2], components[a + 3])
-        == (frontiers[b], frontiers[b + 1], frontiers[b + 2])
+    (components[a + 1], components[a + 2], components[a + 3]) == there
 }
 
-// Whether a component stands before the position of frontier j, by x, then y, then z.
-fn before_position(here: &[i64; COMPONENT], frontiers: &[i64], j: usize) -> bool
-    requires { j < frontier_count frontiers.now }
-    ensures { result ≡ before_position (component here.now 0) (frontier frontiers.now j) }
+// Whether a component stands before a position, by x, then y, then z.
+fn before_position(here: &[i64; COMPONENT], there: (i64, i64, i64)) -> bool
+    ensures { result ≡ before_position (component here.now 0) (record { x = there.0; y = there.1; z = there.2 }) }
 {
-    let b = j * FRONTIER;
-    (here[1], here[2], here[3]) < (frontiers[b], frontiers[b + 1], frontiers[b + 2])
+    (here[1], here[2], here[3]) < there
 }
 
-// The first component that does not stand before the position of frontier j, or their number. The components ascend.
-fn position_bound(components: &[i64], frontiers: &[i64], j: usize) -> usize
-    requires components_value { first_not_ascending component_order component_width components.now ≡ None }
-    requires j_bound { j < frontier_count frontiers.now }
-    ensures { Parted components.now (frontier frontiers.now j) result }
+// The first component that does not stand before a position, or their number. The components ascend.
+fn position_bound(components: &[i64], there: (i64, i64, i64)) -> usize
+    requires { first_not_ascending component_order component_width components.now ≡ None }
+    ensures { Parted components.now (record { x = there.0; y = there.1; z = there.2 }) result }
 {
     let (records, _) = components.as_chunks::<COMPONENT>();
-    records.partition_point(|here| before_position(here, frontiers, j))
+    records.partition_point(|here| before_position(here, there))
 }
 
-// The first listed component at the position of frontier j.
-fn first_at(components: &[i64], frontiers: &[i64], j: usize) -> Option<usize>
-    requires components_value { first_not_ascending component_order component_width components.now ≡ None }
-    requires j_bound { j < frontier_count frontiers.now }
-    ensures { result ≡ first_at components.now (frontier frontiers.now j) }
+// The first listed component at a position.
+fn first_at(components: &[i64], there: (i64, i64, i64)) -> Option<usize>
+    requires { first_not_ascending component_order component_width components.now ≡ None }
+    ensures { result ≡ first_at components.now (record { x = there.0; y = there.1; z = there.2 }) }
 {
-    let p = position_bound(components, frontiers, j);
+    let p = position_bound(components, there);
     if components.len() / COMPONENT <= p {
         return None;
     }
-    if same_position(components, frontiers, p, j) {
+    if same_position(components, p, there) {
         return Some(p);
     }
     None
 }
 
-// Flags the component that is the first at the position of frontier j.
-fn flag_first(components: &[i64], frontiers: &[i64], j: usize, flags: &mut [bool])
+// Flags the component that is the first at a position.
+fn flag_first(components: &[i64], there: (i64, i64, i64), flags: &mut [bool])
     requires components_value { first_not_ascending component_order component_width components.now ≡ None }
-    requires j_bound { (j < frontier_count frontiers.now) × (component_count components.now ≤ length flags.old) }
-    ensures { FirstFlagged (first_at components.now (frontier frontiers.now j)) flags.old flags.new }
+    requires components_in_bounds { component_count components.now ≤ length flags.old }
+    ensures { FirstFlagged (first_at components.now (record { x = there.0; y = there.1; z = there.2 })) flags.old flags.new }
 {
-    if let Some(p) = first_at(components, frontiers, j) {
+    if let Some(p) = first_at(components, there) {
         flags[p] = true;
     }
 }
@@ -113,7 +116,7 @@ pub fn frontier_flags(components: &[i64], frontiers: &[i64], flags: &mut [bool])
 {
     flags.fill(false);
     for j in 0..frontiers.len() / FRONTIER {
-        flag_first(components, frontiers, j, flags);
+        flag_first(components, position_at(frontiers, j), flags);
     }
 }
 

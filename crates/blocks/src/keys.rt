@@ -1,5 +1,5 @@
 // The keys of a report, and the lines that have them.
-ghost use Rattle.std.specs.Prelude.{◌≡◌, [], ◌<◌, length, get_or, pos};
+ghost use Rattle.std.specs.Prelude.{◌≡◌, [], ◌<◌, length, get_or, map, pos};
 ghost use Rattle.lines.specs.Decimal.{line_of};
 ghost use Rattle.sheet.specs.Keys.{field_key};
 ghost use Rattle.blocks.specs.Blocks.{block_keys, count_name};
@@ -32,30 +32,32 @@ const SOURCE_KEYS: [&[u8]; 2] = [b"id", b"kind"];
 
 const INPUT_KEYS: [&[u8]; 3] = [b"device", b"port", b"status"];
 
+// The keys of a block's rows.
+fn block_keys(block: Block) -> &'static [&'static [u8]]
+    ensures { map (λ k. k.now) result.now ≡ block_keys block }
+{
+    match block {
+        Block::Components => &COMPONENT_KEYS,
+        Block::Connections => &CONNECTION_KEYS,
+        Block::Regions => &REGION_KEYS,
+        Block::Sources => &SOURCE_KEYS,
+        Block::Inputs => &INPUT_KEYS,
+    }
+}
+
 // How many numbers a row has.
 pub fn width(block: Block) -> usize
     ensures { (result ≡ length (block_keys block)) × (0 < result) }
 {
-    match block {
-        Block::Components => COMPONENT_KEYS.len(),
-        Block::Connections => CONNECTION_KEYS.len(),
-        Block::Regions => REGION_KEYS.len(),
-        Block::Sources => SOURCE_KEYS.len(),
-        Block::Inputs => INPUT_KEYS.len(),
-    }
+    block_keys(block).len()
 }
 
 // The key of line k of a block's rows.
 fn field_key(block: Block, k: usize) -> &'static [u8]
     ensures { result.now ≡ field_key (block_keys block) k }
 {
-    match block {
-        Block::Components => COMPONENT_KEYS[k % COMPONENT_KEYS.len()],
-        Block::Connections => CONNECTION_KEYS[k % CONNECTION_KEYS.len()],
-        Block::Regions => REGION_KEYS[k % REGION_KEYS.len()],
-        Block::Sources => SOURCE_KEYS[k % SOURCE_KEYS.len()],
-        Block::Inputs => INPUT_KEYS[k % INPUT_KEYS.len()],
-    }
+    let keys = block_keys(block);
+    keys[k % keys.len()]
 }
 
 // The key of a block's count.

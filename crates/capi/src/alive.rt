@@ -10,7 +10,7 @@ ghost use Rattle.encoding.specs.Bytes.{number_bytes, numbers, bytes_of};
 ghost use Rattle.capi.specs.Liveness.{set_count, liveness_whole, LivenessLaid, LivenessByBytes};
 ghost use Rattle.capi.specs.Written.{Written, WrittenRoom, RowRoom, LivenessByPlaces};
 
-use checks::refusals::{liveness_lists, pack, room_for};
+use checks::refusals::{liveness_lists, pack, pack_refusal, room_for};
 use encoding::bytes::{NUMBER, decode, encode, encode_at, places, wipe};
 use lists::ends::Ends;
 use lists::{COMPONENT, COMPONENTS, CONNECTIONS, FRONTIER, FRONTIERS, PORT};
@@ -115,7 +115,7 @@ fn by_rows(
         pairs,
     );
     match analyzed {
-        Err(refusal) => pack(Err(refusal)),
+        Err(refusal) => pack_refusal(refusal),
         Ok(analysis) => {
             let count = lists.components.len() / COMPONENT;
             let rows = Rows {

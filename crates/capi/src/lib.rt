@@ -13,7 +13,7 @@ ghost use Rattle.encoding.specs.Bytes.{number_bytes};
 ghost use Rattle.encoding.specs.Entry.{groups_whole, GroupsByBytes};
 ghost use Rattle.capi.specs.Liveness.{liveness_whole, LivenessByBytes};
 
-use checks::refusals::{not_whole, pack, refuse_at};
+use checks::refusals::{not_whole, pack_refusal, refuse_at};
 use encoding::bytes::NUMBER;
 use lists::{
     COMPONENT, COMPONENTS, CONNECTION, CONNECTIONS, FRONTIER, FRONTIERS, Fault, PORT, Refusal,
@@ -69,7 +69,7 @@ pub extern "C" fn dustroute_groups(
     ensures { GroupsByBytes components.now connections.now nets.old nets.new fragments.old fragments.new result }
 {
     match whole_groups(components, connections) {
-        Err(refusal) => pack(Err(refusal)),
+        Err(refusal) => pack_refusal(refusal),
         Ok(()) => encoding::groups::of_bytes(components, connections, nets, fragments),
     }
 }
@@ -90,7 +90,7 @@ pub extern "C" fn dustroute_liveness(
         regions.old regions.new sources.old sources.new inputs.old inputs.new sets.old sets.new stack.old stack.new result }
 {
     match whole_scene(components, ports, frontiers) {
-        Err(refusal) => pack(Err(refusal)),
+        Err(refusal) => pack_refusal(refusal),
         Ok(()) => alive::of_bytes(
             components, ports, frontiers, regions, sources, inputs, sets, stack,
         ),

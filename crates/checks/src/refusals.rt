@@ -219,16 +219,21 @@ pub fn liveness_lists(
     )
 }
 
-// An answer as one number: 0 where the checks accept, else the number, the list and the item, from the lowest digits on.
-// An entry whose accepted answer is another number packs its refusal in an arm: a function of both would be no shorter at its callers.
+// A refusal as one number: its number, the list and the item, from the lowest digits on.
+pub fn pack_refusal(refusal: Refusal) -> u64
+    requires { Small (Err refusal) }
+    ensures { result ≡ packed (Err refusal) }
+{
+    u64::from(refusal.fault) + 256 * list_number(refusal.list) + 65536 * refusal.item as u64
+}
+
+// An answer as one number: 0 where the checks accept, else the refusal's.
 pub fn pack(checked: Result<(), Refusal>) -> u64
     requires { Small checked }
     ensures { result ≡ packed checked }
 {
     match checked {
         Ok(()) => 0,
-        Err(refusal) => {
-            u64::from(refusal.fault) + 256 * list_number(refusal.list) + 65536 * refusal.item as u64
-        }
+        Err(refusal) => pack_refusal(refusal),
     }
 }

@@ -2,4 +2,3 @@ pub mod Forest
 pub mod Connected
 pub mod Groups
 pub mod Topology
-pub mod Settled

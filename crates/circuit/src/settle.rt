@@ -1,17 +1,14 @@
-// The list place of each endpoint is settled once; both forests are built from the settled places.
-ghost use Rattle.std.specs.Prelude.{◌≡◌, cond, List, ◌≤◌, length, ℤ};
+// The places of each connection's ends are looked up once, and joined in both forests.
+ghost use Rattle.std.specs.Prelude.{Option, Some};
+ghost use Rattle.std.specs.Prelude.{◌≡◌, cond, ℕ, List, ◌≤◌, ◌<◌, leb, length, ℤ};
 ghost use Rattle.lists.specs.Limits.{component_limit};
-ghost use Rattle.lists.specs.Records.{component_count, connection_count};
 ghost use Rattle.lists.specs.Ids.{IdTable, IsIdTable};
 ghost use Rattle.circuit.specs.Forest.{unite_all};
-ghost use Rattle.circuit.specs.Topology.{GroupedBy};
-ghost use Rattle.circuit.specs.Settled.{settled_ends, Settled, settled_join, settled_joins, SettledGroups, EndsBelow, AllBelow};
+ghost use Rattle.circuit.specs.Topology.{GroupedBy, join_of, joins_of, net_kinds, fragment_kinds};
 
 use super::Counts;
 use super::forest::UnionFind;
-use lists::CONNECTIONS;
-use lists::ends::Ends;
-use lists::hints::{HINTS, hint_ids, place_near};
+use lists::hints::{SLOTS, hint_ids, place_near};
 use lists::kinds::ConnectionKind;
 use lists::views::ConnectionList;
 
@@ -19,30 +16,6 @@ use lists::views::ConnectionList;
 const NET_KINDS: u64 = ConnectionKind::StrongPower as u64;
 
 const FRAGMENT_KINDS: u64 = ConnectionKind::Control as u64;
-
-// Both ends of a connection, where both are components.
-fn both(source: Option<usize>, sink: Option<usize>) -> Option<Ends>
-    ensures { result ≡ settled_ends source sink }
-{
-    Some(Ends {
-        source: source?,
-        sink: sink?,
-    })
-}
-
-// Settles the ends of each connection.
-fn settle(keys: &[u64], connections: ConnectionList, settled: &mut [Option<Ends>])
-    requires { connection_count connections.numbers.now ≤ length settled.old }
-    ensures { (cs : List ℤ) → IdTable cs keys.now → Settled cs connections.entry.numbers.now settled.new }
-{
-    let mut hints = [0u16; HINTS];
-    hint_ids(keys, &mut hints);
-    for k in 0..connections.count() {
-        let source = place_near(keys, &hints, connections.source(k));
-        let sink = place_near(keys, &hints, connections.sink(k));
-        settled[k] = both(source, sink);
-    }
-}
 
 // The sink, or where the connection does not count the source: joined with itself it changes nothing. Kinds come in no order
 // that a processor could foresee, and so there is no branch on them.
@@ -52,43 +25,56 @@ fn sink_or_source(counts: bool, source: usize, sink: usize) -> usize
     if counts { sink } else { source }
 }
 
-// Joins the settled ends of a connection, where it counts and both are components.
-fn join_one(counts: bool, settled: Option<Ends>, forest: &mut UnionFind)
-    requires { EndsBelow component_limit settled }
-    ensures { forest.new ≡ unite_all forest.old (settled_join counts settled) }
+// Joins two places, where their connection counts.
+fn join_one(counts: bool, source: usize, sink: usize, forest: &mut UnionFind)
+    requires { (source < component_limit) × (sink < component_limit) }
+    ensures { forest.new ≡ unite_all forest.old (join_of counts (Some source) (Some sink)) }
 {
-    if let Some(ends) = settled {
-        let other = sink_or_source(counts, ends.source, ends.sink);
-        forest.union(ends.source, other);
+    let other = sink_or_source(counts, source, sink);
+    forest.union(source, other);
+}
+
+// Joins what a connection joins, in the forest of nets and in that of fragments.
+fn join_both(
+    kind: u64,
+    source: Option<usize>,
+    sink: Option<usize>,
+    nets: &mut UnionFind,
+    fragments: &mut UnionFind,
+)
+    requires source { (p : ℕ) → source ≡ Some p → p < component_limit }
+    requires sink { (p : ℕ) → sink ≡ Some p → p < component_limit }
+    ensures nets { nets.new ≡ unite_all nets.old (join_of (leb kind net_kinds) source sink) }
+    ensures fragments { fragments.new ≡ unite_all fragments.old (join_of (leb kind fragment_kinds) source sink) }
+{
+    if let Some(a) = source {
+        if let Some(b) = sink {
+            join_one(kind <= NET_KINDS, a, b, nets);
+            join_one(kind <= FRAGMENT_KINDS, a, b, fragments);
+        }
     }
 }
 
-// Joins the settled ends of each connection of kinds 0 to `top`, in order.
-fn join_all(connections: ConnectionList, settled: &[Option<Ends>], top: u64, forest: &mut UnionFind)
-    requires { AllBelow component_limit (connection_count connections.numbers.now) settled.now }
-    ensures { let ps = connections.entry.numbers.now in
-        forest.new ≡ unite_all forest.old (settled_joins ps settled.now top (connection_count ps)) }
-{
-    for k in 0..connections.count() {
-        let counts = connections.kind(k) <= top;
-        join_one(counts, settled[k], forest);
-    }
-}
-
-// The groups of the first places, one for each number, by the settled ends of the connections of kinds 0 to `top`.
-fn groups(
+// Joins the ends of each connection, in order. Each end is looked up once.
+fn join_all(
+    keys: &[u64],
     connections: ConnectionList,
-    settled: &[Option<Ends>],
-    top: u64,
-    numbers: &mut [u64],
-) -> usize
-    requires room { length numbers.old ≤ component_limit }
-    requires settled { AllBelow (length numbers.old) (connection_count connections.numbers.now) settled.now }
-    ensures { SettledGroups connections.entry.numbers.now settled.now top numbers.new result }
+    nets: &mut UnionFind,
+    fragments: &mut UnionFind,
+)
+    requires id_table { IsIdTable keys.now × (length keys.now ≤ component_limit) }
+    ensures nets { (cs : List ℤ) → IdTable cs keys.now →
+        nets.new ≡ unite_all nets.old (joins_of cs connections.entry.numbers.now net_kinds) }
+    ensures fragments { (cs : List ℤ) → IdTable cs keys.now →
+        fragments.new ≡ unite_all fragments.old (joins_of cs connections.entry.numbers.now fragment_kinds) }
 {
-    let mut forest = UnionFind::new();
-    join_all(connections, settled, top, &mut forest);
-    forest.number_groups(numbers)
+    let mut hints = [[0u16; 2]; SLOTS];
+    hint_ids(keys, &mut hints);
+    for k in 0..connections.count() {
+        let source = place_near(keys, &hints, connections.source(k));
+        let sink = place_near(keys, &hints, connections.sink(k));
+        join_both(connections.kind(k), source, sink, nets, fragments);
+    }
 }
 
 // The nets and fragments of an accepted scene, whose table of ids is `keys`.
@@ -105,10 +91,11 @@ pub fn group(
         GroupedBy cs connections.entry.numbers.now nets.old nets.new fragments.old fragments.new result }
 {
     let n = keys.len();
-    let mut settled = [None; CONNECTIONS];
-    settle(keys, connections, &mut settled);
+    let mut net_forest = UnionFind::new();
+    let mut fragment_forest = UnionFind::new();
+    join_all(keys, connections, &mut net_forest, &mut fragment_forest);
     Counts {
-        nets: groups(connections, &settled, NET_KINDS, &mut nets[..n]),
-        fragments: groups(connections, &settled, FRAGMENT_KINDS, &mut fragments[..n]),
+        nets: net_forest.number_groups(&mut nets[..n]),
+        fragments: fragment_forest.number_groups(&mut fragments[..n]),
     }
 }

@@ -8,7 +8,7 @@ ghost use Rattle.encoding.specs.Bytes.{number_bytes, numbers};
 ghost use Rattle.encoding.specs.Entry.{groups_whole, GroupsLaid, GroupsByBytes};
 
 use super::bytes::{NUMBER, decode, encode, places};
-use checks::refusals::pack;
+use checks::refusals::pack_refusal;
 use circuit::from_parts;
 use lists::{COMPONENT, COMPONENTS, CONNECTION, CONNECTIONS};
 
@@ -34,7 +34,7 @@ fn by_rows(
         components.now connections.now nets.old nets.new fragments.old fragments.new result }
 {
     match from_parts(components, connections, net_rows, fragment_rows) {
-        Err(refusal) => pack(Err(refusal)),
+        Err(refusal) => pack_refusal(refusal),
         Ok(counts) => {
             let count = components.len() / COMPONENT;
             encode(&net_rows[..count], nets);

@@ -32,11 +32,11 @@ use Rattle.tables.specs.Pairs.{pair, span}
 use Rattle.sets.specs.Members.{SetOf}
 use Rattle.lists.specs.Limits.{component_limit}
 use Rattle.lists.specs.Records.{component, port_connection, component_count, port_count}
-use Rattle.lists.specs.First.{first_from, is_found, some, tabulate}
+use Rattle.lists.specs.First.{is_found, tabulate}
 use Rattle.lists.specs.Ids.{place_below, place_of, smaller_ids, member_of, first_end_missing}
 use Rattle.lists.specs.Within.{Components, PortConnections}
 use Rattle.checks.specs.Refusals.{refuse, too_short, ◌or_else◌, query_refusal}
-use Rattle.lists.proofs.Search.{never, both, or_true, none_found, found_at}
+use Rattle.lists.proofs.Search.{never, both, or_true, found_at}
 use Rattle.lists.proofs.Members.{member_below}
 use Rattle.lists.proofs.Fields.{first_most}
 use Rattle.faces.specs.Ports.{ports_of}
@@ -52,7 +52,7 @@ use Rattle.lists.specs.Ends.{Settled}
 use Rattle.signals.specs.Keys.{Slots, KeysOf, slot, ports}
 use Rattle.signals.specs.Flags.{Flags}
 use Rattle.liveness.specs.Sets.{SetWhere}
-use Rattle.assessment.specs.Rows.{SlotWithin, slot_fed}
+use Rattle.assessment.specs.Rows.{SlotWithin}
 use Rattle.inputs.specs.Query.{is_immediate, upstream, is_inferred_for, with_row, row_place, PortSets, InputsBy, Answered}
 use Rattle.liveness.specs.Scene.{Scene, Prepared}
 use Rattle.signals.specs.Stages.{Tables, FedTable}
@@ -208,14 +208,7 @@ flags_long cs P = tabulated_length _ (component_count cs)
 pub walk_nodes : {cs ps fs : List ℤ} {fed backward : List ℕ} {inferred : List Bool} → Walkable cs ps fs fed backward inferred → length inferred ≡ component_count cs
 walk_nodes {cs} r = ap length r.inferred_are ∙ flags_long cs _
 
--- ---- tests that hold nowhere
-
-some_none : (test : ℕ → Bool) (n : ℕ) → some test n ≡ false → (k : ℕ) → k < n → test k ≡ false
-some_none test n e k h = go (first_from test 0 n) refl e
-  where
-    go : (found : Option ℕ) → first_from test 0 n ≡ found → is_found found ≡ false → test k ≡ false
-    go (Some p) f g = never (sym g)
-    go None f g = none_found test 0 n f k (omega arith) (omega arith)
+-- ---- a mark that there cannot be
 
 not_marked : (t : Bool) → (t ≡ true → ⊥) → t ≡ false
 not_marked true h = absurd (h refl)
@@ -256,11 +249,11 @@ module _ {cs ps fs : List ℤ} {p port : ℕ} {fed backward : List ℕ} {number 
 
   -- ---- a slot that no key has
 
-  module _ (none : slot_fed fed number ≡ false) where
+  module _ {cut : List ℕ} (keys : SlotKeys fed number cut) (none : length cut ≡ 0) where
     none_immediate : (a : ℕ) → a < component_count cs → is_immediate cs ps p port a ≡ false
-    unfolding slot_fed
     none_immediate a h =
-        sym (immediate_at q a (omega (arith, nodes_small))) ∙ some_none (λ k. member (pair number k) fed) span none a (omega (arith, nodes_small))
+        let small : a < span = omega (arith, nodes_small) in
+        sym (immediate_at q a small) ∙ not_marked (member (pair number a) fed) (λ e. let (i, l, is) = keys.all a small e in absurd (omega (arith, l, none)))
 
     none_upstream : (a : ℕ) → marked (upstream cs ps p port) a ≡ false
     unfolding upstream

@@ -1,8 +1,8 @@
 // The input query: the immediate sources of a port, and the inferred inputs among these and all upstream of them.
 ghost use Rattle.lists.specs.declared.Fault.{Fault};
 ghost use Rattle.std.specs.Prelude.{Some, None, Ok};
-ghost use Rattle.std.specs.Prelude.{◌≡◌, ◌&&◌, List, ℕ, ◌*◌, ◌^◌, ◌≤◌, ◌<◌, length, ℤ};
-ghost use Rattle.tables.specs.Order.{Ascending, member};
+ghost use Rattle.std.specs.Prelude.{◌≡◌, ◌&&◌, List, ℕ, ◌*◌, ◌%◌, ◌^◌, ◌≤◌, ◌<◌, length, get_or, ℤ};
+ghost use Rattle.tables.specs.Order.{member};
 ghost use Rattle.tables.specs.Pairs.{pair, span};
 ghost use Rattle.lists.specs.Records.{component_count, port_count};
 ghost use Rattle.lists.specs.First.{is_found};
@@ -15,13 +15,11 @@ ghost use Rattle.signals.specs.Regions.{is_inferred};
 ghost use Rattle.signals.specs.Drive.{members_where};
 ghost use Rattle.inputs.specs.Query.{row_place, PortSets, InputsBy};
 ghost use Rattle.signals.specs.Flags.{Flags};
-ghost use Rattle.assessment.specs.Rows.{slot_fed, SlotWithin};
-ghost use Rattle.inputs.specs.Inputs.{Inputs, InputsRoom, SlotOf, Walkable, UpstreamRoom, UpstreamSet};
+ghost use Rattle.inputs.specs.Inputs.{Inputs, InputsRoom, SlotKeys, SlotOf, Walkable, UpstreamRoom, UpstreamSet};
 
 use super::InputSources;
 use super::row::row_place;
 use super::slot::slot_keys;
-use assessment::verdicts::slot_fed;
 use lists::ids::member_of;
 use lists::views::{ComponentList, PortList};
 use lists::{COMPONENT, COMPONENTS, CONNECTIONS, Fault, PORT, Refusal};
@@ -36,13 +34,14 @@ use tables::SPAN;
 // ---- one port
 
 // Flags the second numbers of the keys of a slot, and clears the others.
-fn immediate_flags(keys: &[u64], slot: usize, flags: &mut [bool])
-    requires ascending { Ascending keys.now × (slot < 2 ^ 32) }
-    requires slot_within { SlotWithin keys.now slot (length flags.old) × (length flags.old ≤ span) }
-    ensures { Flags (length flags.old) (λ a. member (pair slot a) keys.now) flags.new }
+fn immediate_flags(keys: &[u64], flags: &mut [bool])
+    requires flags_in_bounds { (i : ℕ) → i < length keys.now → get_or keys.now i 0 % span < length flags.old }
+    requires flags_len { length flags.old ≤ span }
+    ensures { (fed : List ℕ) (slot : ℕ) → SlotKeys fed slot keys.now →
+        Flags (length flags.old) (λ a. member (pair slot a) fed) flags.new }
 {
     flags.fill(false);
-    for key in slot_keys(keys, slot) {
+    for key in keys {
         flags[(key % SPAN) as usize] = true;
     }
 }
@@ -75,14 +74,6 @@ fn upstream_inputs(
     ComponentSet::of_flags(&upstream[..n])
 }
 
-// Whether some key has the slot.
-fn is_fed(keys: &[u64], slot: usize) -> bool
-    requires { Ascending keys.now × (slot < 2 ^ 32) }
-    ensures { result ≡ slot_fed keys.now slot }
-{
-    slot_fed(keys, slot, tables::lower_bound(keys, slot as u64 * SPAN))
-}
-
 // The sets of one port, given the tables of the scene by the ports that are fed and backward, the port's slot, and the inferred inputs by
 // member. The stack is zero before and after.
 pub(crate) fn row_sources(
@@ -98,12 +89,13 @@ pub(crate) fn row_sources(
     ensures { (cs ps fs : List ℤ) (p port : ℕ) → Walkable cs ps fs fed.now backward.now inferred.now → SlotOf cs ps p port fed.now slot →
         PortSets cs ps fs (Some p) port result × Zeros stack.new }
 {
-    if !is_fed(fed, slot) {
+    let keys = slot_keys(fed, slot);
+    if keys.is_empty() {
         return InputSources::none();
     }
     let n = inferred.len();
     let mut immediate = [false; COMPONENTS];
-    immediate_flags(fed, slot, &mut immediate[..n]);
+    immediate_flags(keys, &mut immediate[..n]);
     InputSources {
         immediate: ComponentSet::of_flags(&immediate[..n]),
         inferred: upstream_inputs(backward, &immediate[..n], inferred, stack),

@@ -7,16 +7,16 @@
 -- Assumes nothing.
 use Rattle.std.specs.Prelude.{Option, Some, None}
 use mathlib.Core.Path.{◌≡◌, refl, sym, ap, ◌∙◌, subst}
-use mathlib.Core.Bool.{Bool, false}
+use mathlib.Core.Bool.{Bool}
 use mathlib.Core.Logic.{⊎_elim}
 use mathlib.Core.List.{List}
 use Prim.Native.Nat.{ℕ, ◌*◌, ◌/◌, ◌≤◌, ◌<◌}
 use native.Mathlib.Nat.{add-zero}
 use native.Mathlib.Omega.{arith}
-use lib.Dec.{eqb, leb}
+use lib.Dec.{eqb, leb, ltb}
 use lib.ListN.{length, get_or, get_or-map, length-map}
 use lib.IntN.{ℤ}
-use borrow.Author.Tests.{leb-true, leb-false, eq-eqb, ne_eqb}
+use borrow.Author.Tests.{leb-true, leb-false, eq-eqb, ne_eqb, le-ltb}
 use Rattle.tables.specs.Order.{LowerBound}
 use Rattle.tables.specs.Laws.{same?}
 use Rattle.tables.specs.Pairs.{span}
@@ -88,10 +88,10 @@ module _ {cs : List ℤ} {keys : List ℕ} (t : IdTable cs keys) (m id : ℕ) (e
   pub member_stands : m < length keys → eqb (get_or keys m 0 / span) id ≡ has_component cs id
   member_stands h =
       ⊎_elim
-      (λ (same : get_or keys m 0 / span ≡ id). eq-eqb _ id same ∙ sym (ap is_found (place_found cs t id member_bound h same)))
-      (λ differ. ne_eqb _ id differ ∙ sym (ap is_found (place_none cs t id member_bound (λ _. differ))))
+      (λ (same : get_or keys m 0 / span ≡ id). eq-eqb _ id same ∙ ap is_found (place_found cs t id member_bound h same))
+      (λ differ. ne_eqb _ id differ ∙ ap is_found (place_none cs t id member_bound (λ _. differ)))
       (same? (get_or keys m 0 / span) id)
 
   -- past the table there is none
-  pub member_past : length keys ≤ m → false ≡ has_component cs id
-  member_past h = sym (ap is_found (place_none cs t id member_bound (λ l. absurd (omega arith))))
+  pub member_past : length keys ≤ m → ltb m (length keys) ≡ has_component cs id
+  member_past h = le-ltb _ _ h ∙ ap is_found (place_none cs t id member_bound (λ l. absurd (omega arith)))

@@ -116,26 +116,26 @@ module _ (cs : List ℤ) {keys : List ℕ} (t : IdTable cs keys) (id : ℕ) {i :
       let q : get_or keys m.0 0 ≡ id * span + k = m.2 ∙ ap (λ (x : ℕ). x * span + k) e in
       (m.0, ⊎_elim (λ l. l) (λ l. absurd (omega (arith, s.before (table_rising t) m.0 l, q))) (order? i m.0), m.1, q)
 
-  pub place_found : i < length keys → get_or keys i 0 / span ≡ id → place_of cs id ≡ Some (get_or keys i 0 % span)
+  pub place_found : i < length keys → get_or keys i 0 / span ≡ id → Some (get_or keys i 0 % span) ≡ place_of cs id
   unfolding place_below
   place_found h e =
-      first_is (λ k. eqb (component cs k).id id) 0 (component_count cs) (get_or keys i 0 % span) (omega arith) (omega (arith, table_place t i h))
+      sym (first_is (λ k. eqb (component cs k).id id) 0 (component_count cs) (get_or keys i 0 % span) (omega arith) (omega (arith, table_place t i h))
       (eq-eqb _ id (table_id t i h ∙ e))
       (λ k a b. ne_eqb (component cs k).id id (λ q.
       let f = key_from k (omega (arith, table_place t i h)) q in
       let up = (table_rising t).at i f.0 f.1 f.2 in
-      omega (arith, f.3, t.few)))
+      omega (arith, f.3, t.few))))
 
-  pub place_none : (i < length keys → get_or keys i 0 / span ≡ id → ⊥) → place_of cs id ≡ None
+  pub place_none : (i < length keys → get_or keys i 0 / span ≡ id → ⊥) → None ≡ place_of cs id
   unfolding place_below
   place_none none =
-      first_nothing (λ k. eqb (component cs k).id id) 0 (component_count cs)
+      sym (first_nothing (λ k. eqb (component cs k).id id) 0 (component_count cs)
       (λ k a b. ne_eqb (component cs k).id id (λ q.
       let f = key_from k (omega arith) q in
       let h : i < length keys = omega (arith, f.1, f.2) in
       let up = (table_rising t).at i f.0 f.1 f.2 in
       let low = s.from (table_rising t) i (omega arith) h in
-      none h (omega (arith, f.3, t.few))))
+      none h (omega (arith, f.3, t.few)))))
 
 -- ---- whether an earlier component has it
 

@@ -4,7 +4,7 @@ ghost use Rattle.lists.specs.Records.{port_count};
 ghost use Rattle.lists.specs.Ids.{has_component, end_missing, first_end_missing, IdTable, smaller_ids};
 ghost use Rattle.lists.specs.Ends.{SettledEnds, sources_of, sinks_of};
 
-use super::hints::{HINTS, hint_ids, member_near};
+use super::hints::{SLOTS, hint_ids, member_near};
 use super::ids::SUPPORT;
 use super::views::PortList;
 use tables::SPAN;
@@ -21,7 +21,7 @@ pub fn settle_ends(keys: &[u64], ports: PortList, ends: &mut [Ends])
     requires { port_count ports.numbers.now ≤ length ends.old }
     ensures { (cs : List ℤ) → IdTable cs keys.now → SettledEnds cs ports.entry.numbers.now (sources_of ends.new) (sinks_of ends.new) }
 {
-    let mut hints = [0u16; HINTS];
+    let mut hints = [[0u16; 2]; SLOTS];
     hint_ids(keys, &mut hints);
     for k in 0..ports.count() {
         ends[k] = Ends {
@@ -32,13 +32,11 @@ pub fn settle_ends(keys: &[u64], ports: PortList, ends: &mut [Ends])
 }
 
 // Whether a component has the id, given the member that would stand for it. No plainer by `get`: it was tried, and takes a law more.
+#[tactic(auto, using(crate::proofs::EndLaws::member_stands, crate::proofs::EndLaws::member_past))]
 fn stands_at(keys: &[u64], m: usize, id: u64) -> bool
     ensures { (cs : List ℤ) → IdTable cs keys.now → m ≡ smaller_ids cs id → result ≡ has_component cs id }
 {
-    if m < keys.len() {
-        return keys[m] / SPAN == id;
-    }
-    false
+    m < keys.len() && keys[m] / SPAN == id
 }
 
 // Whether port connection k is no support and has an end that is no component.

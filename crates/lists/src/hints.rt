@@ -9,45 +9,44 @@ use super::IDS;
 use super::ids::found_at;
 use tables::SPAN;
 
-const SLOTS: usize = 1 << 12;
-
 // Four times as many slots as components: one id of a hundred finds its slot taken twice.
-pub const HINTS: usize = 2 * SLOTS;
+pub const SLOTS: usize = 1 << 12;
+
+// The two hints of each slot.
+pub type Hints = [[u16; 2]; SLOTS];
 
 // Spreads ids that are near each other: 2^32 over the golden ratio, by Knuth.
 const SPREAD: u64 = 2654435769;
 
 // The slot of an id.
 fn slot_of(id: u64) -> usize
-    ensures { 2 * result + 1 < 8192 }
+    ensures { result < 4096 }
 {
     ((id % IDS * SPREAD >> 20) % SLOTS as u64) as usize
 }
 
 // Fills in the hints of a table of ids.
-pub fn hint_ids(keys: &[u64], hints: &mut [u16; HINTS])
+pub fn hint_ids(keys: &[u64], hints: &mut Hints)
     ensures { length hints.new ≡ length hints.old }
 {
     for (k, key) in keys.iter().enumerate() {
         let slot = slot_of(*key / SPAN);
-        hints[2 * slot + 1] = hints[2 * slot];
-        hints[2 * slot] = (k % SPAN as usize) as u16;
+        let [first, _] = hints[slot];
+        hints[slot] = [(k % SPAN as usize) as u16, first];
     }
 }
 
 // The first position of the table whose key is of the id or above it.
-fn position_of(keys: &[u64], hints: &[u16; HINTS], id: u64) -> usize
+fn position_of(keys: &[u64], hints: &Hints, id: u64) -> usize
     requires { id < 4294967296 }
     ensures { LowerBound keys.now (id * span) result }
 {
-    let slot = slot_of(id);
-    let first = usize::from(hints[2 * slot]);
-    let second = usize::from(hints[2 * slot + 1]);
-    tables::lower_bound_near(keys, id * SPAN, first, second)
+    let [first, second] = hints[slot_of(id)];
+    tables::lower_bound_near(keys, id * SPAN, usize::from(first), usize::from(second))
 }
 
 // What `place_of` gives, by the hints. Keys and hints go to two functions alone; where more stands on them, `scene`'s `Scene` holds both.
-pub fn place_near(keys: &[u64], hints: &[u16; HINTS], id: u64) -> Option<usize>
+pub fn place_near(keys: &[u64], hints: &Hints, id: u64) -> Option<usize>
     requires { id < 4294967296 }
     ensures { (cs : List ℤ) → IdTable cs keys.now → result ≡ place_of cs id }
 {
@@ -55,7 +54,7 @@ pub fn place_near(keys: &[u64], hints: &[u16; HINTS], id: u64) -> Option<usize>
 }
 
 // What `member_of` gives, by the hints.
-pub fn member_near(keys: &[u64], hints: &[u16; HINTS], id: u64) -> usize
+pub fn member_near(keys: &[u64], hints: &Hints, id: u64) -> usize
     requires { id < 4294967296 }
     ensures { (cs : List ℤ) → IdTable cs keys.now → result ≡ smaller_ids cs id }
 {

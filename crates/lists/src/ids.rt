@@ -31,17 +31,17 @@ pub fn id_table(components: ComponentList, keys: &mut [u64], spare: &mut [u64])
 }
 
 // The list place of an id, given the first position of its key or of one above it.
+#[tactic(auto, using(crate::proofs::Table::place_found, crate::proofs::Table::place_none))]
 pub(crate) fn found_at(keys: &[u64], i: usize, id: u64) -> Option<usize>
     requires { (id < 4294967296) × LowerBound keys.now (id * span) i }
     ensures { (cs : List ℤ) → IdTable cs keys.now → result ≡ place_of cs id }
 {
-    if i < keys.len() {
-        let key = keys[i];
-        if key / SPAN == id {
-            return Some((key % SPAN) as usize);
-        }
+    let key = *keys.get(i)?;
+    if key / SPAN == id {
+        Some((key % SPAN) as usize)
+    } else {
+        None
     }
-    None
 }
 
 // The list place of an id.

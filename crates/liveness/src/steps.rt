@@ -21,7 +21,7 @@ use assessment::slots::write_verdicts;
 use assessment::sources::{drive_flags, frontier_flags};
 use assessment::verdicts::put_sources;
 use lists::views::{ComponentList, PortList};
-use lists::{COMPONENT, COMPONENTS, CONNECTIONS, PORT};
+use lists::{COMPONENTS, CONNECTIONS, PORT};
 use regions::Graph;
 use sets::ComponentSet;
 use signals::flags::gather;
@@ -54,8 +54,7 @@ pub fn flag_drive(
 {
     frontier_flags(components.numbers, frontiers, on_frontier);
     drive_flags(components, on_frontier, drive_at);
-    let n = components.numbers.len() / COMPONENT;
-    gather(&region_at[..n], drive_at, has_drive);
+    gather(&region_at[..components.count()], drive_at, has_drive);
 }
 
 // Flags the inferred inputs, by list place. A prepared plot for its slices would ask more.
@@ -152,8 +151,8 @@ fn put_regions(region_at: &[usize], regions: &mut [u64])
     requires { length region_at.now ≤ length regions.old }
     ensures { regions.new ≡ laid (tabulate (λ p. get_or region_at.now p 0) (length region_at.now)) regions.old }
 {
-    for p in 0..region_at.len() {
-        regions[p] = region_at[p] as u64;
+    for (p, region) in region_at.iter().enumerate() {
+        regions[p] = *region as u64;
     }
 }
 

@@ -4,7 +4,7 @@ ghost use Rattle.faces.specs.Ports.{ports_for};
 ghost use Rattle.faces.specs.Step.{facing_between};
 ghost use Rattle.probe.specs.Ports.{place_code, Sent};
 
-use checks::refusals::pack;
+use checks::refusals::pack_refusal;
 use faces::face::Face;
 use faces::ports::{PORTS, port_count, ports_for};
 use faces::step::facing_between;
@@ -65,6 +65,6 @@ pub extern "C" fn probe_port_connections(
 {
     match port_connections(components, connections, out) {
         Ok(count) => 65536 * count as u64,
-        Err(refusal) => pack(Err(refusal)),
+        Err(refusal) => pack_refusal(refusal),
     }
 }

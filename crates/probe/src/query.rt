@@ -6,7 +6,7 @@ ghost use Rattle.lists.specs.Slices.{work_of};
 ghost use Rattle.inputs.specs.Query.{input_refusal, is_immediate, is_inferred_for};
 ghost use Rattle.probe.specs.Inputs.{WordOf};
 
-use checks::refusals::pack;
+use checks::refusals::pack_refusal;
 use inputs::required_input;
 use sets::{ComponentSet, WORDS};
 
@@ -25,7 +25,7 @@ pub extern "C" fn probe_input_refusal(
 {
     match required_input(components, ports, frontiers, id, port, stack) {
         Ok(_) => 0,
-        Err(refusal) => pack(Err(refusal)),
+        Err(refusal) => pack_refusal(refusal),
     }
 }
 

@@ -14,11 +14,13 @@ use lib.IntN.{ℤ}
 use lib.ListN.{length, get_or, drop, length-append, length-drop}
 use lib.Seq.{drop-cons}
 use borrow.Author.Tests.{eq-eqb, ne_eqb, lt-ltb}
+use Rattle.std.specs.Simd.{first_chunks}
 use Rattle.lists.specs.Records.{component, component_count}
 use Rattle.lists.specs.Ids.{IdTable, place_below, place_of, first_repeated}
 use Rattle.lists.proofs.Search.{first_is}
 use Rattle.lists.proofs.Members.{ids_distinct}
 use Rattle.faces.specs.Ports.{ports_of}
+use Rattle.assessment.proofs.Positions.{field_of}
 use Rattle.assessment.specs.Verdicts.{status_of, is_required, port_rows, verdict_rows, input_rows}
 use Rattle.inputs.specs.Query.{row_place, PortSets}
 use Rattle.inputs.specs.declared.InputSources.{InputSources}
@@ -34,9 +36,9 @@ use Rattle.report.proofs.Shown.{ids_are}
 abbrev pub lines_from : (ℕ → ℕ → ℕ → List ℕ) → List ℕ → ℕ → List ℕ
 lines_from text rows k = row_lines text (drop k rows)
 
--- the lines of row k
-abbrev pub row_text : (ℕ → ℕ → ℕ → List ℕ) → List ℕ → ℕ → List ℕ
-row_text text rows k = text (get_or rows (3 * k) 0) (get_or rows (3 * k + 1) 0) (get_or rows (3 * k + 2) 0)
+-- the lines of a row
+abbrev pub row_text : (ℕ → ℕ → ℕ → List ℕ) → List ℕ → List ℕ
+row_text text row = text (get_or row 0 0) (get_or row 1 0) (get_or row 2 0)
 
 module _ (text : ℕ → ℕ → ℕ → List ℕ) where
   lines_one : (rows : List ℕ) (k : ℕ) → k + 2 < length rows
@@ -58,12 +60,16 @@ module _ (text : ℕ → ℕ → ℕ → List ℕ) where
   lines_none : (rows : List ℕ) (k : ℕ) → length rows ≤ k + 2 → lines_from text rows k ≡ []
   lines_none rows k h = few (drop k rows) (omega (arith, length-drop k rows))
 
-  -- row k of all, and behind the last one
-  pub lines_at : (rows : List ℕ) (k : ℕ) → k < length rows / 3
-      → lines_from text rows (3 * k) ≡ row_text text rows k ++ lines_from text rows (3 * (k + 1))
-  lines_at rows k h =
+  -- row k of all, as an array, and behind the last one
+  pub lines_at : (rows : List ℕ) {arrays : List (List ℕ)} → arrays ≡ first_chunks 3 (length rows / 3) rows → (k : ℕ) (d : List ℕ) → k < length rows / 3
+      → lines_from text rows (3 * k) ≡ row_text text (get_or arrays k d) ++ lines_from text rows (3 * (k + 1))
+  lines_at rows {arrays} split k d h =
       let next : 3 * (k + 1) ≡ 3 * k + 3 = omega arith in
-      rw next (lines_one rows (3 * k) (omega (arith, h)))
+      rw (next, number 0 (3 * k) (omega arith) (omega arith), number 1 (3 * k + 1) (omega arith) (omega arith), number 2 (3 * k + 2) (omega arith) (omega arith))
+      (lines_one rows (3 * k) (omega (arith, h)))
+    where
+      number : (f i : ℕ) → f < 3 → k * 3 + f ≡ i → get_or (get_or arrays k d) f 0 ≡ get_or rows i 0
+      number f i l e = rw split (field_of 0 3 (length rows / 3) rows k f d h l ∙ ap (λ (j : ℕ). get_or rows j 0) e)
 
   pub lines_end : (rows : List ℕ) (k : ℕ) → length rows / 3 ≤ k → lines_from text rows (3 * k) ≡ []
   lines_end rows k h = lines_none rows (3 * k) (omega (arith, h))

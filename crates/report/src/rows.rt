@@ -25,13 +25,13 @@ pub fn put_rows(out: &mut [u8], at: usize, asked: &Asked, rows: &[u64]) -> usize
         (ps fs : List ℤ) → AskedOf a ps fs →
         Printed at (inputs_text a.components.now ps fs rows.now) out.old out.new result }
 {
-    let count = rows.len() / 3;
-    let mut p = put_count(out, at, Block::Inputs, count as u64);
-    for k in 0..count {
+    let (rows, _) = rows.as_chunks::<3>();
+    let mut p = put_count(out, at, Block::Inputs, rows.len() as u64);
+    for &[device, port, status] in rows {
         let row = VerdictRow {
-            device: rows[3 * k],
-            port: rows[3 * k + 1],
-            status: rows[3 * k + 2],
+            device,
+            port,
+            status,
         };
         p = put_asked(out, p, asked, row);
     }

@@ -16,7 +16,7 @@ use faces::face::Face;
 use faces::ports::ports_for;
 use faces::select::{select_port, transfer_of};
 use faces::step::facing_between;
-use lists::hints::{HINTS, hint_ids, place_near};
+use lists::hints::{Hints, SLOTS, hint_ids, place_near};
 use lists::views::{ComponentList, ConnectionList};
 use lists::{COMPONENT, COMPONENTS, CONNECTION, PORT, Refusal};
 
@@ -26,7 +26,7 @@ struct Scene<'a> {
     components: ComponentList<'a>,
     connections: ConnectionList<'a>,
     keys: &'a [u64],
-    hints: &'a [u16; HINTS],
+    hints: &'a Hints,
     ghost id_table: { IdTable components.numbers.now keys.now },
 }
 
@@ -120,7 +120,7 @@ pub fn keep_all(
     requires port_width_in_bounds { connection_count connections.numbers.now * port_width ≤ length out.old }
     ensures { AllKept components.entry.numbers.now connections.entry.numbers.now out.old out.new result }
 {
-    let mut hints = [0u16; HINTS];
+    let mut hints = [[0u16; 2]; SLOTS];
     hint_ids(keys, &mut hints);
     let scene = Scene {
         components,

@@ -1,5 +1,5 @@
 // The keys of a sheet, and the lines that have them.
-ghost use Rattle.std.specs.Prelude.{◌≡◌, ◌≤◌, length, drop};
+ghost use Rattle.std.specs.Prelude.{◌≡◌, ◌≤◌, length, drop, map};
 ghost use Rattle.lines.specs.Line.{Accepted, read_line, natural, taken_in};
 ghost use Rattle.sheet.specs.Keys.{field_key, count_key, keys_of};
 
@@ -23,15 +23,22 @@ const CONNECTION_KEYS: [&[u8]; CONNECTION] = [b"source", b"sink", b"kind"];
 
 const FRONTIER_KEYS: [&[u8]; FRONTIER] = [b"x", b"y", b"z"];
 
+// The keys of a list's fields.
+fn keys_of(section: Section) -> &'static [&'static [u8]]
+    ensures { map (λ k. k.now) result.now ≡ keys_of section }
+{
+    match section {
+        Section::Components => &COMPONENT_KEYS,
+        Section::Connections => &CONNECTION_KEYS,
+        Section::Frontiers => &FRONTIER_KEYS,
+    }
+}
+
 // How many numbers a record has.
 pub fn width(section: Section) -> usize
     ensures { result ≡ length (keys_of section) }
 {
-    match section {
-        Section::Components => COMPONENT_KEYS.len(),
-        Section::Connections => CONNECTION_KEYS.len(),
-        Section::Frontiers => FRONTIER_KEYS.len(),
-    }
+    keys_of(section).len()
 }
 
 // The key of a list's count.
@@ -49,11 +56,8 @@ fn count_key(section: Section) -> &'static [u8]
 fn field_key(section: Section, k: usize) -> &'static [u8]
     ensures { result.now ≡ field_key (keys_of section) k }
 {
-    match section {
-        Section::Components => COMPONENT_KEYS[k % COMPONENT_KEYS.len()],
-        Section::Connections => CONNECTION_KEYS[k % CONNECTION_KEYS.len()],
-        Section::Frontiers => FRONTIER_KEYS[k % FRONTIER_KEYS.len()],
-    }
+    let keys = keys_of(section);
+    keys[k % keys.len()]
 }
 
 // The line of a list's count.

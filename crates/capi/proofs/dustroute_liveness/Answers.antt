@@ -5,8 +5,8 @@ use Rattle.capi.specs.Liveness.{liveness_whole}
 use Rattle.capi.proofs.LivenessLaws.{three_fit}
 use Rattle.capi.proofs.dustroute_liveness.Goals as goal
 
-pub pack-requires : goal.pack-requires
-pack-requires c =
+pub pack_refusal-requires : goal.pack_refusal-requires
+pack_refusal-requires c =
     let args = c.args in
     let small : Small (liveness_whole args.components.now args.ports.now args.frontiers.now) = three_fit args.components.now args.ports.now args.frontiers.now in
     rw (sym c.whole_scene.ensures ∙ c.in-Err.is) at small

@@ -14,8 +14,8 @@ use Rattle.capi.proofs.LivenessLaws.{WordsOfSet, refused, accepted, found, few_r
 use Rattle.capi.proofs.alive.by_rows.Goals as goal
 use Rattle.capi.proofs.alive.by_rows.Goals.{In-Ok}
 
-pub pack-requires : goal.pack-requires
-pack-requires c =
+pub pack_refusal-requires : goal.pack_refusal-requires
+pack_refusal-requires c =
     let l = c.args.lists.now in
     let room = liveness_room l.components.now (length c.args.region_rows.now) (length c.args.source_rows.now) (length c.args.input_rows.now) (length c.args.pairs.now) in
     let small = liveness_small l.components.now l.ports.now l.frontiers.now room in

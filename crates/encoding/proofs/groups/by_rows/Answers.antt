@@ -56,8 +56,8 @@ module _ {cs ps : List ℤ} {nets nets' fragments fragments' : List ℕ} {r : Re
     fragments_are : take count fragments' ≡ fragments_of cs ps
     fragments_are = rows_front checked _ _ _ count (length_groups (forest_of cs ps fragment_kinds) count) accepted.accepted g.fragments_left
 
-pub pack-requires : goal.pack-requires
-pack-requires c =
+pub pack_refusal-requires : goal.pack_refusal-requires
+pack_refusal-requires c =
     let small : Small (checked c.from_parts.ensures) = grouping_small _ _ _ _ in
     rw (refused c.from_parts.ensures c.in-Err.is) at small
 

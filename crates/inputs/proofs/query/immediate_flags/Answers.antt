@@ -4,28 +4,22 @@ use Prim.Native.Nat.{◌%◌, ◌<◌}
 use native.Mathlib.Omega.{arith}
 use lib.ListN.{length, get_or}
 use Rattle.tables.specs.Pairs.{span}
-use Rattle.inputs.proofs.Inputs.{slot_held, slot_small, flagged_more, flagged_all}
+use Rattle.inputs.proofs.Inputs.{slot_held, flagged_more, flagged_all}
 use Rattle.inputs.proofs.query.immediate_flags.Goals as goal
 use Rattle.inputs.proofs.query.immediate_flags.Goals.{In-loop-key}
 
 -- a key of the slot has a flag
-room : (c : In-loop-key) → get_or c.slot_keys-key-items.result.now c.loop-key.key-index 0 % span < length c.loop-key.flags
-room c =
-    omega (
-      arith,
-      c.loop-key.auto.flags ∙ c.fill.auto.self,
-      slot_small c.slot_keys-key-items.ensures c.requires.slot_within.0 c.loop-key.key-index c.loop-key-test.true,
-    )
+room : (c : In-loop-key) → get_or c.args.keys.now c.loop-key.key-index 0 % span < length c.loop-key.flags
+room c = omega (arith, c.loop-key.auto.flags ∙ c.fill.auto.self, c.requires.flags_in_bounds c.loop-key.key-index c.loop-key-test.true)
 
 pub loop-key-preserved : goal.loop-key-preserved
-loop-key-preserved c =
-    flagged_more c.loop-key.invariant (slot_held c.slot_keys-key-items.ensures c.loop-key.key-index c.loop-key-test.true)
-    (room (goal.at.loop-key-preserved c).In-loop-key)
+loop-key-preserved c fed slot s =
+    flagged_more (c.loop-key.invariant fed slot s) (slot_held s c.loop-key.key-index c.loop-key-test.true) (room (goal.at.loop-key-preserved c).In-loop-key)
 
 pub returns : goal.returns
-returns c =
-    let all : c.loop-key.key-index ≡ length c.slot_keys-key-items.result.now = omega arith in
-    flagged_all c.slot_keys-key-items.ensures (rw all at c.loop-key.invariant) (c.loop-key.auto.flags ∙ c.fill.auto.self) c.requires.slot_within.1
+returns c fed slot s =
+    let all : c.loop-key.key-index ≡ length c.args.keys.now = omega arith in
+    flagged_all s (rw all at c.loop-key.invariant fed slot s) (c.loop-key.auto.flags ∙ c.fill.auto.self) c.requires.flags_len
 
 pub bounds-flags-key : goal.bounds-flags-key
 bounds-flags-key c = room (goal.at.bounds-flags-key c).In-loop-key

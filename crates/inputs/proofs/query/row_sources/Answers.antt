@@ -8,10 +8,11 @@ use Prim.Native.Nat.{ℕ, ◌≤◌}
 use native.Mathlib.Omega.{arith}
 use lib.ListN.{length, take, drop, replicate}
 use lib.Seq.{length-take-le}
+use borrow.Author.Tests.{eqb-true}
 use Rattle.lists.specs.Limits.{component_limit}
 use Rattle.signals.proofs.Lent.{front, front_long}
 use Rattle.inputs.specs.Inputs.{SlotOf, Walkable}
-use Rattle.inputs.proofs.Inputs.{walk_nodes, slot_asked, none_fed, immediate_set, inferred_set}
+use Rattle.inputs.proofs.Inputs.{slot_small, walk_nodes, slot_asked, none_fed, immediate_set, inferred_set}
 use Rattle.inputs.proofs.query.row_sources.Goals as goal
 use Rattle.inputs.proofs.query.row_sources.Goals.{Start}
 
@@ -34,9 +35,9 @@ lent : (s : Start) → length (take (nodes s) (replicate component_limit false))
 lent s = length-take-le _ _ (small s)
 
 -- nothing feeds the slot
-pub returns-then-not-is_fed : goal.returns-then-not-is_fed
-returns-then-not-is_fed c cs ps fs p port w q =
-    (none_fed w q (sym c.is_fed.ensures ∙ c.if-not-is_fed.true) (c.none.ensures cs ps fs port), c.requires.inferred_in_bounds.1)
+pub returns-then-is_empty : goal.returns-then-is_empty
+returns-then-is_empty c cs ps fs p port w q =
+    (none_fed w q c.slot_keys-keys.ensures (eqb-true _ 0 (sym c.is_empty.ensures ∙ c.if-is_empty.true)) (c.none.ensures cs ps fs port), c.requires.inferred_in_bounds.1)
 
 -- the flags of the nodes, lent from the front of an array
 abbrev rest : Start → List Bool
@@ -73,7 +74,7 @@ pub returns : goal.returns
 returns c cs ps fs p port w q =
     let s = (goal.at.returns c).Start in
     let u = c.upstream_inputs in
-    let given = rw (lent s) at c.immediate_flags.ensures in (
+    let given = rw (lent s) at c.immediate_flags.ensures c.args.fed.now c.args.slot c.slot_keys-keys.ensures in (
       record {
         immediate_set = immediate_set w q (long s c.immediate_flags.new.flags c.immediate_flags.auto.flags) given
             (front_is s c.immediate_flags.new.flags c.immediate_flags.auto.flags)
@@ -84,9 +85,9 @@ returns c cs ps fs p port w q =
       u.ensures.stack_zeros,
     )
 
-pub is_fed-requires : goal.is_fed-requires
-is_fed-requires c =
-    let s = (goal.at.is_fed-requires c).Start in
+pub slot_keys-keys-requires : goal.slot_keys-keys-requires
+slot_keys-keys-requires c =
+    let s = (goal.at.slot_keys-keys-requires c).Start in
     (slot_asked (asked s) _ (walk_nodes (walk s))).0
 
 pub slice_bounds-immediate-end : goal.slice_bounds-immediate-end
@@ -103,7 +104,7 @@ pub immediate_flags-requires : goal.immediate_flags-requires
 immediate_flags-requires c =
     let s = (goal.at.immediate_flags-requires c).Start in
     let q = slot_asked (asked s) _ (lent s ∙ walk_nodes (walk s)) in
-    record { ascending = q.0; slot_within = q.1 }
+    record { flags_in_bounds = slot_small c.slot_keys-keys.ensures q.1.0; flags_len = q.1.1 }
 
 pub slice_bounds-immediate-end-2 : goal.slice_bounds-immediate-end-2
 slice_bounds-immediate-end-2 c =

@@ -33,7 +33,8 @@ regions_small cs ps scene numbers e = places_under cs ps scene.ends _ (omega (ar
 pub gather-requires-clause-indices : goal.gather-requires-clause-indices
 gather-requires-clause-indices c =
     let (ps, (scene, numbers)) = c.requires.scene in
-    indices_front c.args.region_at.now (regions_small c.args.components.numbers.now ps scene numbers c.requires.components_in_bounds.1.1)
+    rw c.count.ensures.0
+    (indices_front c.args.region_at.now (regions_small c.args.components.numbers.now ps scene numbers c.requires.components_in_bounds.1.1))
 
 -- a component on a frontier is a drive source
 drives_too : (cs fs : List ℤ) {frontier driven : List Bool} → Flags (component_count cs) (is_on_frontier cs fs) frontier
@@ -62,7 +63,7 @@ returns c ps placed =
       frontier_flags = c.frontier_flags.ensures;
       drive_flags = drives;
       region_flags = regions_driven c.args.components.numbers.now ps fs (c.gather.auto.out ∙ c.requires.components_in_bounds.1.1) placed drives
-          (gathered_front c.args.region_at.now placed.long c.gather.ensures);
+          (gathered_front c.args.region_at.now placed.long (rw c.count.ensures.0 at c.gather.ensures));
     }
 
 pub frontier_flags-requires : goal.frontier_flags-requires

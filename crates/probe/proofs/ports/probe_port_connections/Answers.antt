@@ -40,9 +40,9 @@ few c m e =
 pub overflow_mul-result : goal.overflow_mul-result
 overflow_mul-result c = omega (arith, few (goal.at.overflow_mul-result c).After-port_connections _ c.in-Ok.is)
 
-pub pack-requires : goal.pack-requires
-pack-requires c =
-    (when-refused (goal.at.pack-requires c).After-port_connections _ c.in-Err.is).small (grouping_small c.args.components.now c.args.connections.now [] _)
+pub pack_refusal-requires : goal.pack_refusal-requires
+pack_refusal-requires c =
+    (when-refused (goal.at.pack_refusal-requires c).After-port_connections _ c.in-Err.is).small (grouping_small c.args.components.now c.args.connections.now [] _)
 
 pub returns-in-Ok : goal.returns-in-Ok
 returns-in-Ok c =
@@ -52,4 +52,4 @@ returns-in-Ok c =
 pub returns-in-Err : goal.returns-in-Err
 returns-in-Err c =
     let w = when-refused (goal.at.returns-in-Err c).After-port_connections _ c.in-Err.is in
-    record { answer = c.pack.ensures ∙ w.packs _; left = c.port_connections.ensures.left }
+    record { answer = c.pack_refusal.ensures ∙ w.packs _; left = c.port_connections.ensures.left }

@@ -7,8 +7,8 @@ use Rattle.checks.specs.Refusals.{Small, packed}
 use Rattle.probe.proofs.Asking.{input_small}
 use Rattle.probe.proofs.query.probe_input_refusal.Goals as goal
 
-pub pack-requires : goal.pack-requires
-pack-requires c =
+pub pack_refusal-requires : goal.pack_refusal-requires
+pack_refusal-requires c =
     let a = c.args in
     let refused = rw c.in-Err.is at c.required_input.ensures.by.answer in
     subst (λ (x : Result ⊤ Refusal). Small x) (sym refused) (input_small a.components.now a.ports.now a.frontiers.now a.id a.port _)
@@ -21,4 +21,4 @@ returns-in-Ok c =
 pub returns-in-Err : goal.returns-in-Err
 returns-in-Err c =
     let refused = rw c.in-Err.is at c.required_input.ensures.by.answer in
-    record { value = c.pack.ensures ∙ ap packed refused; stack_after = c.required_input.ensures.by.stack_left }
+    record { value = c.pack_refusal.ensures ∙ ap packed refused; stack_after = c.required_input.ensures.by.stack_left }

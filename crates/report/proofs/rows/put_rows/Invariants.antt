@@ -1,4 +1,4 @@
--- `report::rows::put_rows` meets its contract: before row k, the lines of the rows from k on are still to be written.
+-- `report::rows::put_rows` meets its contract: before a row, its lines and those of the rows after it are still to be written.
 -- Assumes nothing.
 use mathlib.Core.List.{List}
 use Prim.Native.Nat.{◌*◌}
@@ -10,9 +10,9 @@ use Rattle.report.proofs.VerdictText.{lines_from}
 use Rattle.report.proofs.rows.put_rows.Given as goal
 
 -- of every scene that the tables are of
-abbrev pub invariant-loop-k : goal.invariant-loop-k
-invariant-loop-k l =
+abbrev pub invariant-loop-device : goal.invariant-loop-device
+invariant-loop-device l =
     let a = l.asked in
     (ps fs : List ℤ) → Ready a.components.now ps fs a.fed.now a.labels.now a.upstream.now
-    → Going (inputs_text a.components.now ps fs l.rows) l.fn.at l.fn.out
-    (lines_from (asked_text a.components.now ps fs) l.rows (3 * l.k)) l.out l.p
+    → Going (inputs_text a.components.now ps fs l.fn.rows) l.fn.at l.fn.out
+    (lines_from (asked_text a.components.now ps fs) l.fn.rows (3 * l.device-index)) l.out l.p
