@@ -2,11 +2,11 @@
 ghost use Rattle.std.specs.Prelude.{◌≡◌, Bool, List, map, cond, ℕ, ◌+◌, ◌*◌, ◌/◌, ◌^◌, ◌≤◌, ◌<◌, length, get_or, take};
 ghost use Rattle.tables.specs.Pairs.{pair, span, KeysBelow};
 ghost use Rattle.tables.specs.Order.{Ascending, Sorted};
-ghost use Rattle.lists.specs.Records.{port_count};
+ghost use Rattle.lists.specs.Records.{port_connection, port_count};
 ghost use Rattle.lists.specs.Limits.{component_limit};
 ghost use Rattle.lists.specs.Ends.{sources_of, sinks_of};
 ghost use Rattle.signals.specs.Signals.{is_signal};
-ghost use Rattle.signals.specs.Keys.{Slots, signal_key, signal_keys, turned, KeysOf, Sortable};
+ghost use Rattle.signals.specs.Keys.{Slots, slot, signal_key, signal_keys, turned, KeysOf, Sortable};
 ghost use Rattle.signals.specs.Flags.{Flags, Indices};
 ghost use Rattle.signals.specs.Seen.{Rows, EdgeKeys, some_edge_into};
 
@@ -19,19 +19,26 @@ use tables::SPAN;
 // A port of a member: ports are 0 to 255.
 pub const PORTS: usize = 1 << 8;
 
-// The port that each port connection feeds, as one number, its sink's member and then the port; and the member that feeds it. As `Ends`,
-// of which keys are made.
-pub fn settle_slots(ports: PortList, ends: &[Ends], fed: &mut [Ends])
+// The port that port connection k feeds, as one number: its sink's member, then the port.
+pub fn fed_port(ports: PortList, k: usize, sink: usize) -> usize
+    requires { (k < port_count ports.numbers.now) × (sink ≤ component_limit) }
+    ensures { result ≡ slot sink (port_connection ports.entry.numbers.now k).sink_port_of }
+{
+    sink * PORTS + ports.sink_port(k) as usize
+}
+
+// For each port connection the port that it feeds, and the member that feeds it: as `Ends`, of which keys are made.
+pub(crate) fn settle_slots(ports: PortList, ends: &[Ends], fed: &mut [Ends])
     requires ports_in_bounds { (port_count ports.numbers.now ≤ length ends.now) × (port_count ports.numbers.now ≤ length fed.old) }
     requires by_index { (k : ℕ) → k < port_count ports.numbers.now → get_or (sinks_of ends.now) k 0 ≤ component_limit }
     ensures slots { Slots ports.entry.numbers.now (sinks_of ends.now) (sources_of fed.new) }
     ensures sources { (k : ℕ) → k < port_count ports.entry.numbers.now → get_or (sinks_of fed.new) k 0 ≡ get_or (sources_of ends.now) k 0 }
 {
     for k in 0..ports.count() {
-        let port = ports.sink_port(k) as usize;
+        let Ends { source, sink } = ends[k];
         fed[k] = Ends {
-            source: ends[k].sink * PORTS + port,
-            sink: ends[k].source,
+            source: fed_port(ports, k, sink),
+            sink: source,
         };
     }
 }

@@ -18,10 +18,6 @@ use tables::SPAN;
 // A component's number is compared with the kind's own: to turn it into a kind for one test is longer.
 const WIRE: u64 = BlockKind::RedstoneWire as u64;
 
-const SOLID: u64 = BlockKind::Solid as u64;
-
-const TRANSPARENT: u64 = BlockKind::Transparent as u64;
-
 // The distinct neighbours seen so far.
 #[derive(Clone, Copy)]
 pub enum Seen {
@@ -50,7 +46,7 @@ fn see_row(graph: &Graph, labels: &[usize], m: usize, seen: Seen) -> Seen
 {
     let at = graph.first_key(m);
     let mut found = seen;
-    // Stops at the first key of another node: to cut the row first would need a second search.
+    // Stops at the first key of another node: to cut the row first, its end would have to be looked up as well.
     for key in &graph.keys[at..] {
         if key / SPAN != m as u64 {
             return found;
@@ -69,11 +65,18 @@ fn few_neighbours(network: &Network, m: usize) -> bool
     ensures { result ≡ few_near network.now.forward.keys.now network.now.backward.keys.now network.now.labels.now m }
 {
     let first = see_row(&network.forward, network.labels, m, Seen::None);
-    match see_row(&network.backward, network.labels, m, first) {
-        Seen::None => true,
-        Seen::One(_) => true,
-        Seen::Many => false,
-    }
+    let both = see_row(&network.backward, network.labels, m, first);
+    !matches!(both, Seen::Many)
+}
+
+// Whether a component's kind is Solid or Transparent.
+fn is_passive(kind: u64) -> bool
+    ensures { result ≡ is_passive kind }
+{
+    matches!(
+        BlockKind::try_from(kind),
+        Ok(BlockKind::Solid | BlockKind::Transparent)
+    )
 }
 
 // Flags the Solid and Transparent components, by list place.
@@ -82,8 +85,7 @@ pub fn passive_flags(components: ComponentList, flags: &mut [bool])
     ensures { let cs = components.entry.numbers.now in Flags (component_count cs) (λ p. is_passive (component cs p).kind) flags.new }
 {
     for p in 0..components.count() {
-        let kind = components.kind(p);
-        flags[p] = (kind == SOLID) | (kind == TRANSPARENT);
+        flags[p] = is_passive(components.kind(p));
     }
 }
 

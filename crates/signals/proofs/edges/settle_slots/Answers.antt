@@ -9,11 +9,9 @@ use Rattle.signals.proofs.edges.settle_slots.Goals.{In-loop-k}
 sink_small : (c : In-loop-k) → (get_or c.args.ends.now c.loop-k.k none).sink ≤ component_limit
 sink_small c = rw (sink_of c.args.ends.now c.loop-k.k) at (c.requires.by_index c.loop-k.k (omega (arith, c.loop-k-test.true)))
 
-pub overflow_mul-fed : goal.overflow_mul-fed
-overflow_mul-fed c = omega (arith, sink_small (goal.at.overflow_mul-fed c).In-loop-k)
-
-pub overflow_add-fed : goal.overflow_add-fed
-overflow_add-fed c = omega (arith, sink_small (goal.at.overflow_add-fed c).In-loop-k, c.sink_port-port.ensures.1)
+pub fed_port-requires : goal.fed_port-requires
+fed_port-requires c =
+    (omega (arith, c.loop-k-test.true), sink_small (goal.at.fed_port-requires c).In-loop-k)
 
 pub returns : goal.returns
 returns c =

@@ -9,6 +9,7 @@ use Rattle.signals.specs.declared.inferred.Seen.{Seen}
 use Rattle.signals.specs.declared.inferred.Seen.TheVariants.{None, One, Many}
 use Rattle.signals.proofs.Neighbours.{both_rows, few_none, few_one, few_many}
 use Rattle.signals.proofs.inferred.few_neighbours.Goals as goal
+use Rattle.signals.proofs.inferred.few_neighbours.Goals.{in-Many, in_default}
 
 -- what was seen in both rows tells whether few are near
 module _ (forward backward labels : List ℕ) (m : ℕ) where
@@ -33,17 +34,18 @@ module _ (forward backward labels : List ℕ) (m : ℕ) where
   many : Both Many → false ≡ few
   many h = few_many (length labels) (near forward backward labels m) (seen Many h)
 
-pub returns-in-None : goal.returns-in-None
-returns-in-None c =
-    let net = c.args.network.now in
-    none net.forward.keys.now net.backward.keys.now net.labels.now c.args.m (c.in-None.ensures _ (c.see_row-first.ensures (λ j. false) (λ j h. refl)))
+  -- what is not many is none or one
+  others : (s : Seen) → (s ≡ Many → ⊥) → Both s → true ≡ few
+  others None other h = none h
+  others (One i) other h = one i h
+  others Many other h = absurd (other refl)
 
-pub returns-in-One : goal.returns-in-One
-returns-in-One c =
+pub returns : goal.returns
+returns c =
     let net = c.args.network.now in
-    one net.forward.keys.now net.backward.keys.now net.labels.now c.args.m _ (c.in-One.ensures _ (c.see_row-first.ensures (λ j. false) (λ j h. refl)))
-
-pub returns-in-Many : goal.returns-in-Many
-returns-in-Many c =
-    let net = c.args.network.now in
-    many net.forward.keys.now net.backward.keys.now net.labels.now c.args.m (c.in-Many.ensures _ (c.see_row-first.ensures (λ j. false) (λ j h. refl)))
+    let nothing = c.see_row-first.ensures (λ j. false) (λ j h. refl) in
+    elim c.match-matches.branch [
+      | in-Many b ↦ rw b.matches-is (many net.forward.keys.now net.backward.keys.now net.labels.now c.args.m (b.in-Many.ensures _ nothing))
+      | in_default b ↦ rw b.matches-is
+          (others net.forward.keys.now net.backward.keys.now net.labels.now c.args.m _ b.in_default.not-Many (c.see_row-both.ensures _ nothing))
+    ]
