@@ -1,12 +1,11 @@
 -- Rows written one after the other into a slice.
---     one_put, two_puts, ..     a row, stored number by number
+--     one_put                   a row of one number, stored
 --     put_nothing, put_more     no row changes nothing; rows after rows
 -- Assumes nothing.
 use mathlib.Core.Path.{◌≡◌, sym, ap, ◌∙◌}
 use mathlib.Core.List.{List, [], ◌∷◌, ◌++◌, append_assoc}
 use Prim.Native.Nat.{ℕ, ◌+◌, ◌≤◌}
 use native.Mathlib.Nat.{add-zero}
-use native.Mathlib.Numerals.{add-one, add-two}
 use native.Mathlib.Omega.{arith}
 use lib.ListN.{length, set, take, drop, length-append, length-take, take-append-drop}
 use lib.Seq.{sets-eq, take_at, drop-append-add, drop-drop}
@@ -14,12 +13,6 @@ use Rattle.assessment.specs.Rows.{Put}
 
 pub one_put : (a : ℕ) (l : List ℕ) (i : ℕ) → i + 1 ≤ length l → Put (a ∷ []) i l (set l i a) (i + 1)
 one_put a l i h = record { place = omega arith; is = sets-eq (a ∷ []) l i h ∙ append_assoc (take i l) (a ∷ []) (drop (i + 1) l) }
-
-pub two_puts : (a b : ℕ) (l : List ℕ) (i : ℕ) → i + 2 ≤ length l → Put (a ∷ b ∷ []) i l (set (set l i a) (i + 1) b) (i + 2)
-two_puts a b l i h = record { place = omega arith; is = rw (add-one i) (sets-eq (a ∷ b ∷ []) l i h ∙ append_assoc (take i l) (a ∷ b ∷ []) (drop (i + 2) l)) }
-
-pub three_puts : (a b c : ℕ) (l : List ℕ) (i : ℕ) → i + 3 ≤ length l → Put (a ∷ b ∷ c ∷ []) i l (set (set (set l i a) (i + 1) b) (i + 2) c) (i + 3)
-three_puts a b c l i h = record { place = omega arith; is = rw (add-one i, add-two i) (sets-eq (a ∷ b ∷ c ∷ []) l i h ∙ append_assoc (take i l) (a ∷ b ∷ c ∷ []) (drop (i + 3) l)) }
 
 pub put_nothing : (l : List ℕ) (i : ℕ) → Put [] i l l i
 put_nothing l i = record { place = sym (add-zero i); is = rw add-zero (sym (take-append-drop i l)) }

@@ -13,7 +13,7 @@ ghost use Rattle.assessment.specs.Verdicts.{input_rows};
 ghost use Rattle.assessment.specs.Rows.{Put, Scanned, NoneRequired, rows_of, rows_below};
 ghost use Rattle.assessment.specs.Places.{slot_of, slot_count, slot_at, unfed, SlotFlags, LiveMarks, slot_status, status_at, status_number};
 
-use super::verdicts::required_ports;
+use super::verdicts::{put_row, required_ports};
 use lists::COMPONENTS;
 use lists::ends::Ends;
 use lists::ids::SUPPORT;
@@ -122,17 +122,6 @@ impl Slot {
 
 // ---- rows
 
-// Writes a verdict row at a place, and answers the place after it.
-fn put_verdict(out: &mut [u64], at: usize, device: u64, port: u64, status: Status) -> usize
-    requires { at + 3 ≤ length out.old }
-    ensures { Put (device ∷ port ∷ status_number status ∷ []) at out.old out.new result }
-{
-    out[at] = device;
-    out[at + 1] = port;
-    out[at + 2] = u64::from(status);
-    at + 3
-}
-
 // Writes the rows of a device's required ports from a place on, and answers the place after them.
 fn put_ports(
     id: u64,
@@ -150,7 +139,7 @@ fn put_ports(
     let mut place = at;
     for port in required_ports(kind) {
         let status = slots[member * PLACES + port].status();
-        place = put_verdict(out, place, id, port as u64, status);
+        place = put_row(out, place, &[id, port as u64, u64::from(status)]);
     }
     place
 }

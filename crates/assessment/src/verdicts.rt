@@ -38,6 +38,16 @@ pub fn slot_fed(keys: &[u64], slot: usize, at: usize) -> bool
     at < keys.len() && keys[at] / SPAN == slot as u64
 }
 
+// Writes a row at a place, and answers the place after it.
+pub fn put_row(out: &mut [u64], at: usize, row: &[u64]) -> usize
+    requires { at + length row.now ≤ length out.old }
+    ensures { Put row.now at out.old out.new result }
+{
+    let end = at + row.len();
+    out[at..end].copy_from_slice(row);
+    end
+}
+
 // Writes a source row at a place where there is a kind, and answers the place after it.
 fn put_source(out: &mut [u64], at: usize, id: u64, kind: Option<SourceKind>) -> usize
     requires { at + length (kind_row id (option_map source_number kind)) ≤ length out.old }
@@ -46,9 +56,7 @@ fn put_source(out: &mut [u64], at: usize, id: u64, kind: Option<SourceKind>) -> 
     let Some(kind) = kind else {
         return at;
     };
-    out[at] = id;
-    out[at + 1] = u64::from(kind);
-    at + 2
+    put_row(out, at, &[id, u64::from(kind)])
 }
 
 // Writes the source rows of one component from a place on, and answers the place after them.

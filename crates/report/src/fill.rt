@@ -7,20 +7,11 @@ ghost use Rattle.assessment.specs.Rows.{Put};
 ghost use Rattle.report.specs.Report.{all_rows};
 ghost use Rattle.report.specs.Printing.{component_row_by, region_row_by, AllNatural};
 
+use assessment::verdicts::put_row;
 use lists::ids::member_of;
 use lists::numbers::natural_at;
 use lists::views::ComponentList;
 use sets::ComponentSet;
-
-// Writes a row at a place, and answers the place after it.
-fn put_row(rows: &mut [u64], at: usize, row: &[u64]) -> usize
-    requires { at + length row.now ≤ length rows.old }
-    ensures { Put row.now at rows.old rows.new result }
-{
-    let end = at + row.len();
-    rows[at..end].copy_from_slice(row);
-    end
-}
 
 // Fills the rows of the components, in list order, given the table of ids, the numbers of their groups and
 // regions, and two sets of members.

@@ -20,5 +20,5 @@ loop-port-preserved c =
     let (within, put) = c.loop-port.invariant in (
       (omega (arith, within.0, next), (omega (arith, end, more, next), end ∙ within.1.1)),
       ports_more _ _ _ _ _ (omega (arith, c.requires.at_in_bounds)) put (omega (arith, within.0, here)) (omega (arith, within.0, next))
-          c.status-status.ensures c.put_verdict-place.ensures c.put_verdict-place.auto.out,
+          c.status-status.ensures (rw c.from.ensures at c.put_row-place.ensures) c.put_row-place.auto.out,
     )

@@ -27,4 +27,4 @@ loop-p-preserved c =
     (flag_read c.args.drive.words c.from-driven.ensures c.contains.ensures m)
     (flag_read c.args.potential.words c.from-potent.ensures c.contains-in-loop-p.ensures m)
     c.put_row-at.ensures)
-    c.put_row-at.auto.rows
+    c.put_row-at.auto.out

@@ -21,4 +21,4 @@ loop-r-preserved c =
     (pair_read (flag_read c.args.cyclic.words c.from-first.ensures c.contains.ensures refl)
     (flag_read c.args.has_drive.words c.from-second.ensures c.contains-in-loop-r.ensures refl)
     c.put_row-at.ensures)
-    c.put_row-at.auto.rows
+    c.put_row-at.auto.out
