@@ -19,7 +19,8 @@ use lists::ends::Ends;
 use lists::ids::SUPPORT;
 use lists::views::{ComponentList, PortList};
 
-// A member has a slot for each port below this: no port past them has a verdict row.
+// A member has a slot for each port below this: no port past them has a verdict row. One row of all slots: a port connection is
+// turned into one place of it, or none, once.
 const PLACES: usize = 8;
 
 const SLOTS: usize = PLACES * COMPONENTS;

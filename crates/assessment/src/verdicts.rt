@@ -29,7 +29,8 @@ pub fn required_ports(kind: u64) -> Range<usize>
     }
 }
 
-// Whether some key has the slot, given where its keys begin.
+// Whether some key has the slot, given where its keys begin. The product cuts the keys of a slot itself (`inputs`); this is for who only
+// asks whether there are any.
 pub fn slot_fed(keys: &[u64], slot: usize, at: usize) -> bool
     requires ascending { Ascending keys.now × (slot < 2 ^ 32) }
     requires lower_bound { LowerBound keys.now (slot * span) at }

@@ -1,6 +1,7 @@
 // The text of a report, block by block: lines, lines of ids, verdict rows, refusals, and here the blocks of rows, all of one form: the
 // count, and a line for each number. Nothing is known of scenes. Each writer takes a position in a buffer of any length, writes where its
 // text fits, and answers where the text ends, so that the same call on an empty buffer measures it.
+// Buffer and position stay two parameters: a struct of both, with a `&mut` field, would owe a ghost name for what the buffer is left as.
 #![tactic(auto)]
 
 pub mod answer;

@@ -40,7 +40,8 @@ impl PortRecord {
     }
 }
 
-// Copies the numbers of the records to the front of the flat list.
+// Copies the numbers of the records to the front of the flat list. Not one with `encode`, of bytes: a function over both would take the
+// width and a closure with a clause of its own, for a loop of two lines.
 fn copy_records(records: &[PortRecord], flat: &mut [i64])
     requires { length records.now * port_width ≤ length flat.old }
     ensures { flat.new ≡ laid (flatten records.now) flat.old }
