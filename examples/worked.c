@@ -161,6 +161,7 @@ static int is_refusal(uint64_t answer, unsigned number, unsigned list, uint64_t 
 static void refusals(void)
 {
     const int64_t missing[] = {1, 1, 2, 1, 4, 2, 0, 9, 0, 0};
+    const int64_t from_missing[] = {1, 1, 2, 1, 4, 9, 0, 1, 0, 0};
     const int64_t falling[] = {1, 2, 5, 1, 2, 4};
     size_t length = put_all(components, lever_and_repeater, 16);
     size_t twice = put_all(connections, falling, 6);
@@ -176,7 +177,9 @@ static void refusals(void)
     hold(is_refusal(grouped(length, twice), 5, 0, 1), "5: an id twice");
     put(components, 8, 2);
     hold(is_refusal(grouped(length, twice), 6, 1, 1), "6: connections fall");
-    hold(is_refusal(analyzed(length, fed, 0, sizeof stack), 7, 1, 1), "7: a cleared block");
+    hold(is_refusal(analyzed(length, fed, 0, sizeof stack), 7, 1, 1), "7: a cleared sink");
+    fed = put_all(ports, from_missing, 10);
+    hold(is_refusal(analyzed(length, fed, 0, sizeof stack), 7, 1, 1), "7: a cleared source");
 }
 
 /* A ring of wires through as many components as there may be, four connections
@@ -211,7 +214,7 @@ static void full_plot(void)
     hold(grouped(wires, joined) == one_and_one, "one net, one fragment");
     hold(analyzed(wires, fed, seen, sizeof stack) == one_and_one, "one region, one source, no input");
     hold(is_filled(sets, 0, 256, 0xff), "all driven");
-    hold(get(sets, 32) == 1 && get(sets, 48) == 1, "a loop that holds a drive source");
+    hold(get(sets, 32) == 1 && get(sets, 48) == 1, "a cyclic region that holds a drive source");
     hold(is_refusal(grouped(sizeof components, joined), 1, 0, DUSTROUTE_COMPONENTS), "1: a component too many");
     hold(is_refusal(grouped(wires, sizeof connections), 1, 1, DUSTROUTE_CONNECTIONS), "1: a connection too many");
     hold(is_refusal(analyzed(wires, sizeof ports, seen, sizeof stack), 1, 1, DUSTROUTE_CONNECTIONS), "1: a port connection too many");

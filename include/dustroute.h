@@ -150,7 +150,10 @@ uint64_t dustroute_groups(
  *           2 Disconnected, 3 NoKnownSource
  * sets      four sets of sixteen words of 64 bits: the components that are
  *           driven; those that would be if inferred inputs were; the regions
- *           that are cyclic; those that hold a drive source. k is in a set when
+ *           that are cyclic; those that hold a drive source. A region is
+ *           cyclic when its components feed each other, or its one feeds
+ *           itself: a straight row of two wires that run both ways is, so
+ *           that it says nothing of a ring. k is in a set when
  *           bit k % 64 of its word k / 64 is set; of components k stands for
  *           the one with the k-th smallest id, from 0, of regions for its
  *           number.

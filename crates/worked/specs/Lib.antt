@@ -1,3 +1,4 @@
 -- What the theorems say.
 pub mod Plots
+pub mod Founding
 pub mod Example

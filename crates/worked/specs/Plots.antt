@@ -14,7 +14,7 @@ use Rattle.lists.specs.Records.{component, component_count}
 use Rattle.checks.specs.Refusals.{grouping_lists, liveness_lists, packed}
 use Rattle.lines.specs.Text.{ascii}
 use Rattle.circuit.specs.Topology.{nets_of, net_count, fragment_count}
-use Rattle.faces.specs.Ports.{Input, Output, Control, Support, RedstoneSignal, Structural, NoFace, North, East, South, West, Up, Down, ports_for}
+use Rattle.faces.specs.Ports.{ports_for}
 use Rattle.faces.specs.Rows.{row_of}
 use Rattle.faces.specs.Step.{facing_between}
 use Rattle.faces.specs.Select.{select_port}
@@ -108,27 +108,27 @@ three = wire 0 ++ wire 1 ++ wire 2
 abbrev pub w2 : Answers
 w2 = grouping_checks three (dust 2 0) ∷ nets three (dust 2 0)
 
--- W3 step 1,-1,0 is East; 1,1,1 and 0,0,0 have no face
+-- W3 step 1,-1,0 is East (2); 1,1,1 and 0,0,0 have no face (0)
 abbrev pub w3 : Answers
 w3 = face (pos 1) (negsuc 0) (pos 0) ∷ face (pos 1) (pos 1) (pos 1) ∷ face (pos 0) (pos 0) (pos 0) ∷ []
 
--- W4 Torch, support East: in from East is port 4, out to East port 1. Then Torch 1 and wire 2 to the East of it, connected both ways
+-- W4 Torch, support East (2): in from East is port 4, out to East port 1. Then Torch 1 and wire 2 to the East of it, connected both ways
 abbrev pub east_torch : List ℤ
 east_torch =
-    pos 1 ∷ pos 0 ∷ pos 0 ∷ pos 0 ∷ pos 3 ∷ pos 0 ∷ pos East ∷ pos 0
+    pos 1 ∷ pos 0 ∷ pos 0 ∷ pos 0 ∷ pos 3 ∷ pos 0 ∷ pos 2 ∷ pos 0
     ∷ pos 2 ∷ pos 1 ∷ pos 0 ∷ pos 0 ∷ pos 0 ∷ pos 0 ∷ pos 0 ∷ pos 0 ∷ []
 
 abbrev pub w4 : Answers
 w4 =
-    port_number (select_port (ports_for 3 0 East 0) East false 0)
-    ∷ port_number (select_port (ports_for 3 0 East 0) East true 0)
+    port_number (select_port (ports_for 3 0 2 0) 2 false 0)
+    ∷ port_number (select_port (ports_for 3 0 2 0) 2 true 0)
     ∷ grouping_checks east_torch (dust 1 2 ++ dust 2 1)
     ∷ kept_rows east_torch (dust 1 2 ++ dust 2 1)
     ∷ []
 
--- W5 Repeater facing Up: Up, Down, four Controls, Support 6
+-- W5 Repeater facing Up (5): Up, Down, four Controls, Support 6
 abbrev pub w5 : Answers
-w5 = map row_of (ports_for 1 Up 0 0)
+w5 = map row_of (ports_for 1 5 0 0)
 
 -- W6 lone wire: inferred, not cyclic
 abbrev pub w6 : Answers
@@ -195,20 +195,20 @@ expected =
     -- W2 nets {1}, {0,2}
     ∷ (accepted ∷ (1 ∷ []) ∷ (0 ∷ 2 ∷ []) ∷ [])
     -- W3 East; no face; no face
-    ∷ ((East ∷ []) ∷ (NoFace ∷ []) ∷ (NoFace ∷ []) ∷ [])
+    ∷ ((2 ∷ []) ∷ (0 ∷ []) ∷ (0 ∷ []) ∷ [])
     -- W4 in from East is port 4, out to East port 1
     ∷ ((4 ∷ []) ∷ (1 ∷ [])
     ∷ accepted
     ∷ (1 ∷ 1 ∷ 2 ∷ 3 ∷ 0 ∷ 2 ∷ 3 ∷ 1 ∷ 4 ∷ 0 ∷ [])
     ∷ [])
-    -- W5 Up, Down, four Controls, Support 6
-    ∷ ((Output ∷ Up ∷ RedstoneSignal ∷ [])
-    ∷ (Input ∷ Down ∷ RedstoneSignal ∷ [])
-    ∷ (Control ∷ North ∷ RedstoneSignal ∷ [])
-    ∷ (Control ∷ East ∷ RedstoneSignal ∷ [])
-    ∷ (Control ∷ South ∷ RedstoneSignal ∷ [])
-    ∷ (Control ∷ West ∷ RedstoneSignal ∷ [])
-    ∷ (Support ∷ Down ∷ Structural ∷ [])
+    -- W5 role, face, channel: out Up, in Down, four Controls, Support 6 (channel 4)
+    ∷ ((1 ∷ 5 ∷ 0 ∷ [])
+    ∷ (0 ∷ 6 ∷ 0 ∷ [])
+    ∷ (3 ∷ 1 ∷ 0 ∷ [])
+    ∷ (3 ∷ 2 ∷ 0 ∷ [])
+    ∷ (3 ∷ 3 ∷ 0 ∷ [])
+    ∷ (3 ∷ 4 ∷ 0 ∷ [])
+    ∷ (4 ∷ 6 ∷ 4 ∷ [])
     ∷ [])
     -- W6 inferred, not cyclic
     ∷ (accepted ∷ (0 ∷ []) ∷ (0 ∷ 3 ∷ []) ∷ [])

@@ -6,6 +6,7 @@ use std::io;
 
 use checks::runs::{self, Seeds};
 use checks::{Alive, Counted, LivenessLists};
+use probe::capi::liveness;
 use scenes::limits::{COMPONENT, COMPONENTS, CONNECTIONS, PORT_CONNECTION, SUPPORT};
 use scenes::random::Random;
 use scenes::{Profile, Scene};
@@ -170,13 +171,21 @@ fn on_lines_and_rings() {
     alive.assert_all_accepted("liveness, lines and rings");
 }
 
-/// The cleared block of a saved plot is refused at its connection.
+/// A cleared block of a saved plot is refused at the connection that names it,
+/// as its source, which the old report called a loop, and as its sink.
 #[test]
-fn a_cleared_block_is_refused() {
+fn a_cleared_block_is_refused_at_either_end() {
     let mut alive = Alive::default();
-    let mut scene = line(3, 0, false, true);
-    scene.ports.extend([2, 0, 9, 0, 0]);
-    alive.call(&LivenessLists::of(&scene), &"cleared block");
-    assert_eq!(alive.count_of(7), 1);
-    assert_eq!(scene.components.len(), 3 * COMPONENT);
+    let cleared = [[9, 0, 0, 0, 0], [9, 0, 1, 0, 0], [2, 0, 9, 0, 0]];
+    for connection in cleared {
+        let mut scene = line(3, 0, false, true);
+        assert_eq!(scene.components.len(), 3 * COMPONENT);
+        let before = scene.ports.len() / connection.len();
+        scene.ports.extend(connection);
+        let said = liveness(&scene.components, &scene.ports, &scene.frontiers);
+        let at = said.map_err(|it| (it.number, it.list, it.item)).map(|_| ());
+        assert_eq!(at, Err((7, 1, before as u64)));
+        alive.call(&LivenessLists::of(&scene), &"cleared block");
+    }
+    assert_eq!(alive.count_of(7), cleared.len() as u64);
 }

@@ -38,8 +38,9 @@ pub struct ComponentLiveness {
 /// A region.
 #[derive(Clone, Copy, Debug, Eq, Hash, PartialEq)]
 pub struct Region {
-    /// Whether it is a loop: it has two members or more, or one that is
-    /// connected to itself.
+    /// Whether its members feed each other: it has two or more, or one that
+    /// is connected to itself. No ring is meant: dust runs both ways, so a
+    /// straight row of two wires is such a region too.
     pub cyclic: bool,
     /// Whether a drive source is in it.
     pub has_drive: bool,
@@ -166,9 +167,11 @@ struct Answer {
 /// let found = liveness(&components, &[feed(0, 1), feed(1, 2)], &[Position::new(0, 0, 0)])?;
 /// assert!(found.components.iter().all(|it| it.drive));
 ///
-/// // The same row, saved with a connection to a block that was cleared.
-/// let refused = liveness(&components, &[feed(0, 1), feed(1, 2), feed(2, 9)], &[]);
-/// assert_eq!(refused.map_err(|refusal| refusal.reason), Err(Reason::MissingEndpoint));
+/// // The same row, saved with a connection from a block that was cleared, or to one.
+/// for lost in [feed(9, 0), feed(2, 9)] {
+///     let refused = liveness(&components, &[feed(0, 1), feed(1, 2), lost], &[]);
+///     assert_eq!(refused.map_err(|refusal| refusal.reason), Err(Reason::MissingEndpoint));
+/// }
 /// # Ok::<(), dustroute::Refusal>(())
 /// ```
 pub fn liveness(

@@ -32,6 +32,40 @@ fn repeated_connections_are_dropped() {
     assert_eq!(sorted, [[1, 1, 2, 3, 0], [2, 3, 1, 1, 0]]);
 }
 
+/// The members of each region and whether it is called cyclic: of a row of
+/// three wires, each feeding the next, with one connection more.
+fn regions_with(missing: [i64; 5]) -> Vec<(Vec<i64>, bool)> {
+    let row = [wire(0, 0), wire(1, 1), wire(2, 2)].concat();
+    let along = [0, 1, 1, 3, 0, 1, 1, 2, 3, 0];
+    let answer = liveness(&row, &[&along[..], &missing].concat(), &[]);
+    let regions = answer.regions.into_iter();
+    regions.map(|it| (it.members, it.cyclic)).collect()
+}
+
+/// 7: the founding case. A cleared block named as a *source* is in no order of
+/// the walk forward, so the walk back from what it feeds draws it into that
+/// region: a region of two, and a straight row is called a loop.
+#[test]
+fn a_missing_source_makes_a_loop_of_a_straight_row() {
+    let at_the_head = regions_with([9, 1, 0, 3, 0]);
+    println!("9 to 0: {at_the_head:?}");
+    let alone = |id| (vec![id], false);
+    assert_eq!(at_the_head, [(vec![0, 9], true), alone(1), alone(2)]);
+    let inside = regions_with([9, 1, 1, 3, 0]);
+    println!("9 to 1: {inside:?}");
+    assert_eq!(inside, [alone(0), (vec![1, 9], true), alone(2)]);
+}
+
+/// 7: a cleared block named as a *sink* becomes a region of its own, and
+/// nothing is called a loop.
+#[test]
+fn a_missing_sink_is_a_region_of_its_own() {
+    let behind = regions_with([2, 1, 9, 3, 0]);
+    println!("2 to 9: {behind:?}");
+    let wanted = [0, 1, 2, 9].map(|id| (vec![id], false));
+    assert_eq!(behind, wanted);
+}
+
 /// 7: an id that no component has is drawn into a region and into `drive`.
 #[test]
 fn a_missing_end_becomes_a_region() {
