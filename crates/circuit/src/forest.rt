@@ -6,6 +6,7 @@ ghost use Rattle.circuit.specs.Forest.{root, singletons, unite, IsForest, Found}
 ghost use Rattle.circuit.specs.Groups.{roots_below, groups_of, RootNumbers, RootsWithin};
 
 use lists::COMPONENTS;
+use std::array;
 use std::marker::Model;
 
 // The root of v. Each place on the way to it gets it for a parent. Over the arrays, since a forest does not show its chains.
@@ -62,12 +63,8 @@ impl UnionFind {
     pub(crate) fn new() -> Self
         ensures { result ≡ singletons }
     {
-        let mut parents = [0; COMPONENTS];
-        for (place, parent) in parents.iter_mut().enumerate() {
-            *parent = place;
-        }
         UnionFind {
-            parents,
+            parents: array::from_fn(|place| place),
             ranks: [0; COMPONENTS],
         }
     }

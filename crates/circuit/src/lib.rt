@@ -10,7 +10,7 @@ ghost use Rattle.sets.specs.Members.{member_of};
 ghost use Rattle.lists.specs.Limits.{component_limit};
 ghost use Rattle.circuit.specs.Topology.{Grouped, shares_member};
 
-use checks::refusals::{grouping_lists, room_for};
+use checks::refusals::{grouping_lists, room_for_groups};
 use lists::views::ConnectionList;
 use lists::{COMPONENT, COMPONENTS, Refusal};
 use sets::ComponentSet;
@@ -33,7 +33,7 @@ pub fn from_parts(
 {
     let mut keys = [0u64; COMPONENTS];
     let count = components.len() / COMPONENT;
-    let enough = room_for(count, 1, nets.len()) & room_for(count, 1, fragments.len());
+    let enough = room_for_groups(count, nets.len(), fragments.len());
     grouping_lists(
         components,
         connections,

@@ -12,7 +12,7 @@ pub mod steps;
 
 ghost use Rattle.liveness.specs.Entry.{Analyzed};
 
-use checks::refusals::{liveness_lists, room_for};
+use checks::refusals::{liveness_lists, room_for_rows};
 use lists::ends::Ends;
 use lists::{COMPONENT, COMPONENTS, CONNECTIONS, Refusal};
 use plot::Plot;
@@ -48,9 +48,13 @@ pub fn analyze_signal_liveness(
     let mut keys = [0u64; COMPONENTS];
     let mut ends = [Ends { source: 0, sink: 0 }; CONNECTIONS];
     let count = components.len() / COMPONENT;
-    let enough = room_for(count, 1, regions.len())
-        & (room_for(count * 2, 2, sources.len())
-            & (room_for(count * 4, 3, inputs.len()) & room_for(count, 2, stack.len())));
+    let enough = room_for_rows(
+        count,
+        regions.len(),
+        sources.len(),
+        inputs.len(),
+        stack.len(),
+    );
     liveness_lists(components, ports, frontiers, enough, &mut keys, &mut ends)?;
     let plot = Plot {
         keys: &keys[..count],
