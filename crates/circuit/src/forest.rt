@@ -40,7 +40,8 @@ fn root_of(parents: &mut [usize; COMPONENTS], ranks: &[usize; COMPONENTS], v: us
     find(parents, ranks, v)
 }
 
-// The parent and the rank of each place. A root is its own parent.
+// The parent and the rank of each place, as the paper has them. A root is its own parent. Two arrays: a chain is followed through the
+// parents alone, and `find` changes no rank.
 #[derive(Drop)]
 pub(crate) struct UnionFind {
     parents: [usize; COMPONENTS],

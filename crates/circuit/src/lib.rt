@@ -1,5 +1,6 @@
 // The groups of a scene: nets and fragments, by union-find over the list places of its components.
 // `v < component_limit` stands at each function that takes a place: a number of a list, and what it is below is the forest's.
+// Lent slices stay parameters: a struct of `&mut` fields would owe a ghost name for what each is left as.
 #![tactic(auto)]
 
 mod forest;
