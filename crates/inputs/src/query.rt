@@ -23,7 +23,7 @@ use super::slot::slot_keys;
 use lists::ids::member_of;
 use lists::views::{ComponentList, PortList};
 use lists::{COMPONENT, COMPONENTS, CONNECTIONS, Fault, PORT, Refusal};
-use liveness::plot::{Plot, PreparedPlot, Workspace};
+use liveness::plot::{Plot, PreparedPlot, RowHints};
 use liveness::steps::flag_inputs;
 use sets::ComponentSet;
 use signals::edges::PORTS;
@@ -132,9 +132,21 @@ pub(crate) fn find_inputs(
         Inputs p.components.now p.ports.now p.frontiers.now (sources_of p.ends.now) (sinks_of p.ends.now)
         forward.new backward.new labels.new inferred.new stack.new }
 {
-    let mut work = Workspace::new();
-    let count = plot.prepare(forward, backward, labels, &mut work, stack);
-    let prepared = plot.prepared(forward, backward, labels, &work, count);
+    let mut members = [0usize; COMPONENTS];
+    let mut region_at = [0usize; COMPONENTS];
+    let mut rows = RowHints::new();
+    let count = plot.prepare(
+        forward,
+        backward,
+        labels,
+        &mut members,
+        &mut region_at,
+        &mut rows,
+        stack,
+    );
+    let prepared = plot.prepared(
+        forward, backward, labels, &members, &region_at, &rows, count,
+    );
     inferred_members(&prepared, inferred);
 }
 

@@ -16,7 +16,7 @@ ghost use Rattle.liveness.specs.Scene.{Scene, PreparedScene, Driven, Marked, Mar
 use super::Analysis;
 use super::alive::flag_alive;
 use super::infer::{infer, outside_regions};
-use super::plot::{Plot, PreparedPlot, Workspace};
+use super::plot::{Plot, PreparedPlot, RowHints};
 use assessment::slots::write_verdicts;
 use assessment::sources::{drive_flags, frontier_flags};
 use assessment::verdicts::put_sources;
@@ -253,9 +253,21 @@ fn analyze_in(
         AnalyzedBy (Ok tt) p.components.now p.ports.now p.frontiers.now
         regions.old regions.new sources.old sources.new inputs.old inputs.new stack.old stack.new (Ok result) }
 {
-    let mut work = Workspace::new();
-    let count = plot.prepare(forward, backward, labels, &mut work, stack);
-    let prepared = plot.prepared(forward, backward, labels, &work, count);
+    let mut members = [0usize; COMPONENTS];
+    let mut region_at = [0usize; COMPONENTS];
+    let mut rows = RowHints::new();
+    let count = plot.prepare(
+        forward,
+        backward,
+        labels,
+        &mut members,
+        &mut region_at,
+        &mut rows,
+        stack,
+    );
+    let prepared = plot.prepared(
+        forward, backward, labels, &members, &region_at, &rows, count,
+    );
     report(&prepared, regions, sources, inputs, stack)
 }
 

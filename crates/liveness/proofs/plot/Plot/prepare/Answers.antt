@@ -78,7 +78,7 @@ find_regions-count-requires c =
 
 pub place_members-requires : goal.place_members-requires
 place_members-requires c =
-    ((c.args.self.now.components.now, c.args.self.now.accepted.table), omega (arith, table_long c.args.self.now.accepted.table, few (goal.at.place_members-requires c).Start))
+    ((c.args.self.now.components.now, c.args.self.now.accepted.table), omega (arith, table_long c.args.self.now.accepted.table, c.requires.members_room))
 
 -- the members of all components are nodes
 indices_at : {n m k : ℕ} {index : List ℕ} → n ≡ k → m ≡ k → Indices k k index → Indices n m index
@@ -95,9 +95,9 @@ spread-requires c =
       omega (
         arith,
         long,
-        few s,
+        s.requires.regions_room,
         members.long,
-        length-take-le (length c.find_regions-count.new.labels) c.place_members.new.members (omega (arith, long, few s, c.place_members.auto.members)),
+        length-take-le (length c.find_regions-count.new.labels) c.place_members.new.members (omega (arith, long, s.requires.members_room, c.place_members.auto.members)),
       ),
     )
 
@@ -130,7 +130,7 @@ returns c =
         labels_are = regions.0;
         members_are = numbers;
         regions_are = labels_placed (cs s) numbers (ps s) (numbers_at c.place_members.new.members long regions.0 numbers.long
-            (omega (arith, few s, c.spread.auto.out)) c.spread.ensures.values);
+            (omega (arith, room.regions_room, c.spread.auto.out)) c.spread.ensures.values);
       };
       count = regions.1;
       stack_zeros = c.find_regions-count.ensures.stack_zeros;
