@@ -21,8 +21,7 @@ use super::InputSources;
 use super::row::row_place;
 use super::slot::slot_keys;
 use lists::ids::member_of;
-use lists::views::{ComponentList, PortList};
-use lists::{COMPONENT, COMPONENTS, CONNECTIONS, Fault, PORT, Refusal};
+use lists::{COMPONENT, COMPONENTS, CONNECTIONS, Fault, Refusal};
 use liveness::plot::{Plot, PreparedPlot, RowHints};
 use liveness::steps::flag_inputs;
 use sets::ComponentSet;
@@ -167,10 +166,7 @@ fn walk_tables(
     let n = plot.keys.len();
     let mut labels = [0usize; COMPONENTS];
     find_inputs(plot, fed, backward, &mut labels[..n], inferred, stack);
-    let linked = PortList {
-        numbers: plot.ports,
-    };
-    build_fed(linked, plot.ends, fed);
+    build_fed(plot.port_list(), plot.ends, fed);
 }
 
 // The sets of a port of the component at p.
@@ -181,7 +177,7 @@ fn input_sources(plot: &Plot, p: usize, port: usize, stack: &mut [usize]) -> Inp
         InputsBy (Ok tt) l.components.now l.ports.now l.frontiers.now (Some p) port stack.old stack.new (Ok result) }
 {
     let n = plot.keys.len();
-    let m = plot.ports.len() / PORT;
+    let m = plot.port_list().count();
     let mut fed = [0u64; CONNECTIONS];
     let mut backward = [0u64; CONNECTIONS];
     let mut inferred = [false; COMPONENTS];
@@ -192,10 +188,7 @@ fn input_sources(plot: &Plot, p: usize, port: usize, stack: &mut [usize]) -> Inp
         &mut inferred[..n],
         stack,
     );
-    let listed = ComponentList {
-        numbers: plot.components,
-    };
-    let slot = member_of(plot.keys, listed.id(p)) * PORTS + port;
+    let slot = member_of(plot.keys, plot.component_list().id(p)) * PORTS + port;
     row_sources(&fed[..m], &backward[..m], slot, &inferred[..n], stack)
 }
 
@@ -211,10 +204,7 @@ pub(crate) fn query_plot(
         InputsBy (refuse Fault.NoVerdictRow None (too_short (is_found place)))
         p.components.now p.ports.now p.frontiers.now place port stack.old stack.new result }
 {
-    let listed = ComponentList {
-        numbers: plot.components,
-    };
-    match row_place(plot.keys, listed, id, port) {
+    match row_place(plot.keys, plot.component_list(), id, port) {
         Some(p) => Ok(input_sources(plot, p, port as usize, stack)),
         None => Err(Refusal {
             fault: Fault::NoVerdictRow,

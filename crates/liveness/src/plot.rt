@@ -7,7 +7,7 @@ ghost use Rattle.signals.specs.Regions.{region_count};
 ghost use Rattle.liveness.specs.Scene.{Accepted, Prepared, Prepares, PreparedRoom};
 
 use lists::ends::Ends;
-use lists::views::PortList;
+use lists::views::{ComponentList, PortList};
 use regions::{Graph, HINTED};
 use signals::flags::spread;
 use signals::stages::{build_tables, find_regions, place_members};
@@ -59,6 +59,22 @@ impl RowHints {
 }
 
 impl<'a> Plot<'a> {
+    pub fn component_list(self) -> ComponentList<'a>
+        ensures { result.numbers.now ≡ self.entry.components.now }
+    {
+        ComponentList {
+            numbers: self.components,
+        }
+    }
+
+    pub fn port_list(self) -> PortList<'a>
+        ensures { result.numbers.now ≡ self.entry.ports.now }
+    {
+        PortList {
+            numbers: self.ports,
+        }
+    }
+
     // Builds the graph, with hints of its rows, and finds the regions; answers how many there are. Leaves the stack zero.
     pub fn prepare(
         &self,
@@ -76,11 +92,8 @@ impl<'a> Plot<'a> {
             forward.new backward.new labels.new members.new region_at.new stack.new result }
     {
         stack.fill(0);
-        let linked = PortList {
-            numbers: self.ports,
-        };
         build_tables(
-            linked,
+            self.port_list(),
             self.ends,
             forward,
             backward,

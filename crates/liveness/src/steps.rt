@@ -20,8 +20,8 @@ use super::plot::{Plot, PreparedPlot, RowHints};
 use assessment::slots::write_verdicts;
 use assessment::sources::{drive_flags, frontier_flags};
 use assessment::verdicts::put_sources;
-use lists::views::{ComponentList, PortList};
-use lists::{COMPONENTS, CONNECTIONS, PORT};
+use lists::views::ComponentList;
+use lists::{COMPONENTS, CONNECTIONS};
 use regions::Graph;
 use sets::ComponentSet;
 use signals::flags::gather;
@@ -106,9 +106,7 @@ pub fn flag_inputs(
         Flags (component_count p.components.now) (is_inferred p.components.now p.ports.now p.frontiers.now) inferred.new }
 {
     let mut drive_at = [false; COMPONENTS];
-    let listed = ComponentList {
-        numbers: plot.plot.components,
-    };
+    let listed = plot.plot.component_list();
     flag_drive(
         listed,
         plot.plot.frontiers,
@@ -214,18 +212,13 @@ fn report(
         &mut potential[..n],
     );
     put_regions(&plot.region_at[..n], regions);
-    let listed = ComponentList {
-        numbers: lists.components,
-    };
-    let linked = PortList {
-        numbers: lists.ports,
-    };
+    let listed = lists.component_list();
     let counts = RowCounts {
         sources: put_sources(listed, &on_frontier, &inferred, sources),
         inputs: write_verdicts(
             listed,
             plot.members,
-            linked,
+            lists.port_list(),
             lists.ends,
             &drive[..n],
             &potential[..n],
@@ -285,7 +278,7 @@ pub fn analyze(
         regions.old regions.new sources.old sources.new inputs.old inputs.new stack.old stack.new (Ok result) }
 {
     let n = plot.keys.len();
-    let m = plot.ports.len() / PORT;
+    let m = plot.port_list().count();
     let mut forward = [0u64; CONNECTIONS];
     let mut backward = [0u64; CONNECTIONS];
     let mut labels = [0usize; COMPONENTS];

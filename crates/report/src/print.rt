@@ -122,11 +122,8 @@ fn print_analysis(
     let mut components = [0u64; COMPONENT_ROWS];
     let mut kept = [0u64; KEPT_ROWS];
     let mut marks = [0u64; REGION_ROWS];
-    let listed = ComponentList {
-        numbers: asked.components,
-    };
     fill_components(
-        listed,
+        asked.component_list(),
         asked.keys,
         groups.nets,
         groups.fragments,
@@ -168,7 +165,7 @@ fn print_ready(
         out.old out.new result }
 {
     let n = plot.keys.len();
-    let m = plot.ports.len() / PORT;
+    let m = plot.port_list().count();
     let mut fed = [0u64; CONNECTIONS];
     let mut labels = [0usize; COMPONENTS];
     let mut upstream = [ComponentSet::empty(); COMPONENTS];

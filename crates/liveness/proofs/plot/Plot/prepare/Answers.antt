@@ -24,12 +24,9 @@ use Rattle.signals.proofs.Staged.{regions_are, members_below, labels_placed}
 use Rattle.liveness.proofs.plot.Plot.prepare.Goals as goal
 use Rattle.liveness.proofs.plot.Plot.prepare.Goals.{Start}
 
-pub invariant_of-linked : goal.invariant_of-linked
-invariant_of-linked c = record { within = c.args.self.now.accepted.scene.connections }
-
 pub build_tables-requires : goal.build_tables-requires
 build_tables-requires c =
-    let room = c.requires in record {
+    let room = c.requires in rw c.port_list.ensures record {
       settled = (c.args.self.now.components.now, (c.args.self.now.accepted.scene.components.few, c.args.self.now.accepted.ends));
       forward_len = (room.forward_room, room.backward_room);
     }
@@ -56,7 +53,7 @@ pub find_regions-count-requires : goal.find_regions-count-requires
 find_regions-count-requires c =
     let s = (goal.at.find_regions-count-requires c).Start in
     let room = s.requires in
-    let t = c.build_tables.ensures (cs s) s.args.self.now.accepted.ends in record {
+    let t = (rw c.port_list.ensures at c.build_tables.ensures) (cs s) s.args.self.now.accepted.ends in record {
       ascending = (
         t.forward_keys.sorted.ascending,
         (
@@ -117,7 +114,7 @@ pub returns : goal.returns
 returns c =
     let s = (goal.at.returns c).Start in
     let room = s.requires in
-    let t = c.build_tables.ensures (cs s) s.args.self.now.accepted.ends in
+    let t = (rw c.port_list.ensures at c.build_tables.ensures) (cs s) s.args.self.now.accepted.ends in
     let regions = regions_are (cs s) (ps s) c.build_tables.new.forward (graph s _ _ t)
     (rw room.labels_room at c.find_regions-count.ensures) in
     let numbers = c.place_members.ensures (cs s) s.args.self.now.accepted.table s.args.self.now.accepted.scene.distinct in
