@@ -204,12 +204,10 @@ pub(crate) fn query_plot(
         InputsBy (refuse Fault.NoVerdictRow None (too_short (is_found place)))
         p.components.now p.ports.now p.frontiers.now place port stack.old stack.new result }
 {
-    match row_place(plot.keys, plot.component_list(), id, port) {
-        Some(p) => Ok(input_sources(plot, p, port as usize, stack)),
-        None => Err(Refusal {
-            fault: Fault::NoVerdictRow,
-            list: None,
-            item: 0,
-        }),
-    }
+    let p = row_place(plot.keys, plot.component_list(), id, port).ok_or(Refusal {
+        fault: Fault::NoVerdictRow,
+        list: None,
+        item: 0,
+    })?;
+    Ok(input_sources(plot, p, port as usize, stack))
 }
