@@ -17,9 +17,9 @@ use inputs::asked::{Asked, make_ready};
 use lists::ends::{Ends, settle_ends};
 use lists::views::{ComponentList, ConnectionList, PortList};
 use lists::{COMPONENT, COMPONENTS, CONNECTIONS, Fault, PORT, Refusal};
-use liveness::Analysis;
 use liveness::plot::Plot;
 use liveness::steps::analyze;
+use liveness::{Analysis, Rows};
 use scene::connections::keep_all;
 use sets::ComponentSet;
 
@@ -41,14 +41,6 @@ const STACK: usize = 2 * COMPONENTS;
 struct Groups<'a> {
     nets: &'a [u64],
     fragments: &'a [u64],
-}
-
-// What the analysis wrote: the region of each component, the source and the verdict rows.
-#[derive(Clone, Copy)]
-struct Rows<'a> {
-    regions: &'a [u64],
-    sources: &'a [u64],
-    inputs: &'a [u64],
 }
 
 // The rows of the text.
