@@ -37,8 +37,8 @@ const INPUT_ROWS: usize = 12 * COMPONENTS;
 const STACK: usize = 2 * COMPONENTS;
 
 // The net and the fragment of each component.
-// `Gathered` is no ghost field of it: the functions below are lent no list of the connections that it relates the groups to, so that a field
-// could only say that there are some, and each `ensures` is of the same ones.
+// `Gathered` is no ghost field of it: the functions below are not lent the connections that it relates the groups to, so that a field could
+// only say that there are some, and each `ensures` is of the same ones.
 #[derive(Clone, Copy)]
 struct Groups<'a> {
     nets: &'a [u64],
