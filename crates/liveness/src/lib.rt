@@ -31,6 +31,14 @@ pub struct Analysis {
     pub has_drive: ComponentSet,
 }
 
+// The rows of a scene: the region of each component, the source rows and the verdict rows, as numbers.
+#[derive(Clone, Copy)]
+pub struct Rows<'a> {
+    pub regions: &'a [u64],
+    pub sources: &'a [u64],
+    pub inputs: &'a [u64],
+}
+
 // The refusal of the checks, or what is counted and the sets; the region of each component, the source rows and the verdict rows, in list
 // order, at the front of the lent slices. A refusal writes nothing.
 pub fn analyze_signal_liveness(
