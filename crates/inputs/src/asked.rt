@@ -98,6 +98,7 @@ fn slot_sources(
 }
 
 impl<'a> Asked<'a> {
+    // As of a plot. A trait for the two, of one line each, would be longer.
     pub fn component_list(self) -> ComponentList<'a>
         ensures { result.numbers.now ≡ self.entry.components.now }
     {

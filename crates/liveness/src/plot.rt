@@ -59,6 +59,7 @@ impl RowHints {
 }
 
 impl<'a> Plot<'a> {
+    // The components, with what the checks have shown of their numbers.
     pub fn component_list(self) -> ComponentList<'a>
         ensures { result.numbers.now ≡ self.entry.components.now }
     {
