@@ -14,7 +14,7 @@ use checks::refusals::{liveness_lists, pack, pack_refusal, room_for};
 use encoding::bytes::{NUMBER, decode, encode, encode_at, places, wipe};
 use lists::ends::Ends;
 use lists::{COMPONENT, COMPONENTS, CONNECTIONS, FRONTIER, FRONTIERS, PORT};
-use liveness::{Analysis, analyze_signal_liveness};
+use liveness::{Analysis, Rows, analyze_signal_liveness};
 use sets::WORDS;
 
 // The sets of an answer.
@@ -32,14 +32,6 @@ struct Lists<'a> {
     ports: &'a [i64],
     frontiers: &'a [i64],
     ghost few: { component_count components.now ≤ component_limit },
-}
-
-// The rows of a scene as numbers.
-#[derive(Clone, Copy)]
-struct Rows<'a> {
-    regions: &'a [u64],
-    sources: &'a [u64],
-    inputs: &'a [u64],
 }
 
 // The counts of an accepted scene as one number.

@@ -68,19 +68,23 @@ liveness_lists cs ps fs enough =
 -- ---- the entries, given how many numbers each lent slice has
 
 -- nets and fragments: a place per component
+abbrev pub room_for_groups : ℕ → ℕ → ℕ → Bool
+room_for_groups components nets fragments = room_for components 1 nets && room_for components 1 fragments
+
 abbrev pub grouping_refusal : List ℤ → List ℤ → ℕ → ℕ → Result ⊤ Refusal
-grouping_refusal cs ps nets fragments = grouping_lists cs ps [] (room_for (component_count cs) 1 nets && room_for (component_count cs) 1 fragments)
+grouping_refusal cs ps nets fragments = grouping_lists cs ps [] (room_for_groups (component_count cs) nets fragments)
 
 -- port connections: a place per grouping connection
 abbrev pub ports_refusal : List ℤ → List ℤ → ℕ → Result ⊤ Refusal
 ports_refusal cs ps ports = grouping_lists cs ps [] (room_for (connection_count ps) port_width ports)
 
 -- per component one region, two source rows of two numbers, four verdict rows of three, one pair of the walk's stack
+abbrev pub room_for_rows : ℕ → ℕ → ℕ → ℕ → ℕ → Bool
+room_for_rows components regions sources inputs stack =
+    room_for components 1 regions && (room_for (components * 2) 2 sources && (room_for (components * 4) 3 inputs && room_for components 2 stack))
+
 abbrev pub liveness_room : List ℤ → ℕ → ℕ → ℕ → ℕ → Bool
-liveness_room cs regions sources inputs stack =
-    room_for (component_count cs) 1 regions
-    && (room_for (component_count cs * 2) 2 sources
-    && (room_for (component_count cs * 4) 3 inputs && room_for (component_count cs) 2 stack))
+liveness_room cs regions sources inputs stack = room_for_rows (component_count cs) regions sources inputs stack
 
 abbrev pub liveness_refusal : List ℤ → List ℤ → List ℤ → ℕ → ℕ → ℕ → ℕ → Result ⊤ Refusal
 liveness_refusal cs ps fs regions sources inputs stack = liveness_lists cs ps fs (liveness_room cs regions sources inputs stack)

@@ -2,5 +2,5 @@
 // has one of two widths. So does the room for keys: an array in place of the slice would turn callers away that lend longer ones.
 #![tactic(auto)]
 
-mod ranges;
+pub mod ranges;
 pub mod refusals;

@@ -1,33 +1,64 @@
 // What the numbers of each list may be: refusal 3.
 use lists::kinds::{BlockKind, ConnectionKind, TransferKind};
-use lists::ranges::Ranges;
+use lists::ranges::{Bounds, Ranges};
 use lists::{COMPONENT, CONNECTION, FAR, FRONTIER, IDS, PORT};
 
-const GREATEST_ID: i64 = IDS as i64 - 1;
+// Ports are of a byte in the Rust.
+const GREATEST_PORT: i64 = u8::MAX as i64;
 
-// The last kind of a component, face (Down; 0 is for none) and transfer.
-const KIND: i64 = BlockKind::Air as i64;
+// ---- what a field may be
 
-const FACE: i64 = 6;
-
-const TRANSFER: i64 = TransferKind::StructuralSupport as i64;
-
-pub(crate) const COMPONENT_RANGES: Ranges<COMPONENT> = Ranges {
-    low: [0, -FAR, -FAR, -FAR, 0, 0, 0, 0],
-    high: [GREATEST_ID, FAR, FAR, FAR, KIND, FACE, FACE, 1],
+const ID: Bounds = Bounds {
+    low: 0,
+    high: IDS as i64 - 1,
 };
 
-pub(crate) const CONNECTION_RANGES: Ranges<CONNECTION> = Ranges {
-    low: [0, 0, 0],
-    high: [GREATEST_ID, GREATEST_ID, ConnectionKind::Support as i64],
+const COORDINATE: Bounds = Bounds {
+    low: -FAR,
+    high: FAR,
 };
 
-pub(crate) const PORT_RANGES: Ranges<PORT> = Ranges {
-    low: [0, 0, 0, 0, 0],
-    high: [GREATEST_ID, 255, GREATEST_ID, 255, TRANSFER],
+const BLOCK: Bounds = Bounds {
+    low: 0,
+    high: BlockKind::Air as i64,
 };
 
-pub(crate) const FRONTIER_RANGES: Ranges<FRONTIER> = Ranges {
-    low: [-FAR, -FAR, -FAR],
-    high: [FAR, FAR, FAR],
+// The last face is Down; 0 is for none. A number stands here, since enum `Face` stands in crate faces, which is above lists.
+const FACE: Bounds = Bounds { low: 0, high: 6 };
+
+const FLAG: Bounds = Bounds { low: 0, high: 1 };
+
+const CONNECTION_KIND: Bounds = Bounds {
+    low: 0,
+    high: ConnectionKind::Support as i64,
+};
+
+const PORT_NUMBER: Bounds = Bounds {
+    low: 0,
+    high: GREATEST_PORT,
+};
+
+const TRANSFER: Bounds = Bounds {
+    low: 0,
+    high: TransferKind::StructuralSupport as i64,
+};
+
+// ---- the fields of each record
+
+pub const COMPONENT_RANGES: Ranges<COMPONENT> = Ranges {
+    fields: [
+        ID, COORDINATE, COORDINATE, COORDINATE, BLOCK, FACE, FACE, FLAG,
+    ],
+};
+
+pub const CONNECTION_RANGES: Ranges<CONNECTION> = Ranges {
+    fields: [ID, ID, CONNECTION_KIND],
+};
+
+pub const PORT_RANGES: Ranges<PORT> = Ranges {
+    fields: [ID, PORT_NUMBER, ID, PORT_NUMBER, TRANSFER],
+};
+
+pub const FRONTIER_RANGES: Ranges<FRONTIER> = Ranges {
+    fields: [COORDINATE, COORDINATE, COORDINATE],
 };

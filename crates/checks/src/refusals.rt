@@ -1,7 +1,8 @@
 // The refusal of each entry: the lowest number, then the list, then the item.
 ghost use Rattle.std.specs.Prelude.{◌≡◌, ◌≤◌, ◌<◌, length, take};
 ghost use Rattle.lists.specs.Limits.{component_limit, connection_limit, frontier_limit, component_width, frontier_width};
-ghost use Rattle.checks.specs.Refusals.{refuse, ◌or_else◌, not_whole, room_for, too_short, grouping_lists, liveness_lists, Small, packed};
+ghost use Rattle.checks.specs.Refusals.{refuse, ◌or_else◌, not_whole, room_for, room_for_groups, room_for_rows, too_short};
+ghost use Rattle.checks.specs.Refusals.{grouping_lists, liveness_lists, Small, packed};
 ghost use Rattle.checks.specs.Checks.{lengths_of, ranges_of, scene_of, Ordered, CheckedBy, LivenessChecked};
 ghost use Rattle.lists.specs.Records.{component_count};
 ghost use Rattle.lists.specs.Ends.{sources_of, sinks_of};
@@ -47,6 +48,29 @@ pub fn room_for(places: usize, width: usize, len: usize) -> bool
     ensures { result ≡ room_for places width len }
 {
     places <= len / width
+}
+
+// Whether the slices lent to the grouping entry have a place for each component.
+pub fn room_for_groups(components: usize, nets: usize, fragments: usize) -> bool
+    ensures { result ≡ room_for_groups components nets fragments }
+{
+    room_for(components, 1, nets) & room_for(components, 1, fragments)
+}
+
+// Whether the slices lent to the liveness entry have room: of each component a region, two source rows of two numbers, four verdict rows
+// of three, and a pair of the walk's stack. A width is that of all rows of a component: a count of rows could overflow.
+pub fn room_for_rows(
+    components: usize,
+    regions: usize,
+    sources: usize,
+    inputs: usize,
+    stack: usize,
+) -> bool
+    ensures { result ≡ room_for_rows components regions sources inputs stack }
+{
+    room_for(components, 1, regions)
+        & (room_for(components, 2 * 2, sources)
+            & (room_for(components, 4 * 3, inputs) & room_for(components, 2, stack)))
 }
 
 // 2: a lent slice is too short.

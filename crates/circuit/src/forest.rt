@@ -6,6 +6,7 @@ ghost use Rattle.circuit.specs.Forest.{root, singletons, unite, IsForest, Found}
 ghost use Rattle.circuit.specs.Groups.{roots_below, groups_of, RootNumbers, RootsWithin};
 
 use lists::COMPONENTS;
+use std::array;
 use std::marker::Model;
 
 // The root of v. Each place on the way to it gets it for a parent. Over the arrays, since a forest does not show its chains.
@@ -39,7 +40,8 @@ fn root_of(parents: &mut [usize; COMPONENTS], ranks: &[usize; COMPONENTS], v: us
     find(parents, ranks, v)
 }
 
-// The parent and the rank of each place. A root is its own parent.
+// The parent and the rank of each place, as the paper has them. A root is its own parent. Two arrays: a chain is followed through the
+// parents alone, and `find` changes no rank.
 #[derive(Drop)]
 pub(crate) struct UnionFind {
     parents: [usize; COMPONENTS],
@@ -62,12 +64,8 @@ impl UnionFind {
     pub(crate) fn new() -> Self
         ensures { result ≡ singletons }
     {
-        let mut parents = [0; COMPONENTS];
-        for (place, parent) in parents.iter_mut().enumerate() {
-            *parent = place;
-        }
         UnionFind {
-            parents,
+            parents: array::from_fn(|place| place),
             ranks: [0; COMPONENTS],
         }
     }

@@ -1,5 +1,6 @@
 // The groups of a scene: nets and fragments, by union-find over the list places of its components.
 // `v < component_limit` stands at each function that takes a place: a number of a list, and what it is below is the forest's.
+// Lent slices stay parameters: a struct of `&mut` fields would owe a ghost name for what each is left as.
 #![tactic(auto)]
 
 mod forest;
@@ -10,7 +11,7 @@ ghost use Rattle.sets.specs.Members.{member_of};
 ghost use Rattle.lists.specs.Limits.{component_limit};
 ghost use Rattle.circuit.specs.Topology.{Grouped, shares_member};
 
-use checks::refusals::{grouping_lists, room_for};
+use checks::refusals::{grouping_lists, room_for_groups};
 use lists::views::ConnectionList;
 use lists::{COMPONENT, COMPONENTS, Refusal};
 use sets::ComponentSet;
@@ -33,7 +34,7 @@ pub fn from_parts(
 {
     let mut keys = [0u64; COMPONENTS];
     let count = components.len() / COMPONENT;
-    let enough = room_for(count, 1, nets.len()) & room_for(count, 1, fragments.len());
+    let enough = room_for_groups(count, nets.len(), fragments.len());
     grouping_lists(
         components,
         connections,

@@ -19,8 +19,8 @@ use super::row::row_place;
 use super::slot::slot_keys;
 use assessment::upstream::upstream_rows;
 use lists::ids::member_of;
-use lists::views::{ComponentList, PortList};
-use lists::{COMPONENTS, CONNECTIONS, PORT};
+use lists::views::ComponentList;
+use lists::{COMPONENTS, CONNECTIONS};
 use liveness::plot::Plot;
 use sets::ComponentSet;
 use signals::crossings::find_crossings;
@@ -57,7 +57,7 @@ pub fn make_ready(
     ensures { let p = plot.now in Ready p.components.now p.ports.now p.frontiers.now fed.new labels.new upstream.new × Zeros stack.new }
 {
     let n = plot.keys.len();
-    let m = plot.ports.len() / PORT;
+    let m = plot.port_list().count();
     let mut pairs = [0u64; CONNECTIONS];
     let mut inferred = [false; COMPONENTS];
     find_inputs(
@@ -69,10 +69,7 @@ pub fn make_ready(
         stack,
     );
     let crossings = find_crossings(fed, labels, &mut pairs);
-    let linked = PortList {
-        numbers: plot.ports,
-    };
-    build_fed(linked, plot.ends, fed);
+    build_fed(plot.port_list(), plot.ends, fed);
     upstream_rows(crossings, labels, &inferred[..n], upstream);
 }
 
@@ -101,16 +98,22 @@ fn slot_sources(
 }
 
 impl<'a> Asked<'a> {
+    // As of a plot. A trait for the two, of one line each, would be longer.
+    pub fn component_list(self) -> ComponentList<'a>
+        ensures { result.numbers.now ≡ self.entry.components.now }
+    {
+        ComponentList {
+            numbers: self.components,
+        }
+    }
+
     // The sets of a port by the id of its component, empty where it has no verdict row: those of every scene that the tables are of.
     pub fn sources(&self, id: u64, port: u64) -> InputSources
         ensures { let a = self.now in
             (ps fs : List ℤ) → Ready a.components.now ps fs a.fed.now a.labels.now a.upstream.now →
             PortSets a.components.now ps fs (row_place a.components.now id port) port result }
     {
-        let listed = ComponentList {
-            numbers: self.components,
-        };
-        match row_place(self.keys, listed, id, port) {
+        match row_place(self.keys, self.component_list(), id, port) {
             Some(_) => slot_sources(
                 self.fed,
                 member_of(self.keys, id) * PORTS + port as usize,

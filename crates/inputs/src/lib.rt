@@ -1,4 +1,5 @@
 // The input query: the immediate sources of a port, and the inferred inputs among these and all upstream of them.
+// `slot < 2 ^ 32` stands at each function that takes a slot: a member and a port as one number, which nothing but its use bounds.
 // Lent slices stay parameters: a struct of `&mut` fields would owe a ghost name for what each is left as.
 #![tactic(auto)]
 

@@ -21,9 +21,8 @@ use super::InputSources;
 use super::row::row_place;
 use super::slot::slot_keys;
 use lists::ids::member_of;
-use lists::views::{ComponentList, PortList};
-use lists::{COMPONENT, COMPONENTS, CONNECTIONS, Fault, PORT, Refusal};
-use liveness::plot::{Plot, PreparedPlot, Workspace};
+use lists::{COMPONENT, COMPONENTS, CONNECTIONS, Fault, Refusal};
+use liveness::plot::{Plot, PreparedPlot, RowHints};
 use liveness::steps::flag_inputs;
 use sets::ComponentSet;
 use signals::edges::PORTS;
@@ -132,9 +131,21 @@ pub(crate) fn find_inputs(
         Inputs p.components.now p.ports.now p.frontiers.now (sources_of p.ends.now) (sinks_of p.ends.now)
         forward.new backward.new labels.new inferred.new stack.new }
 {
-    let mut work = Workspace::new();
-    let count = plot.prepare(forward, backward, labels, &mut work, stack);
-    let prepared = plot.prepared(forward, backward, labels, &work, count);
+    let mut members = [0usize; COMPONENTS];
+    let mut region_at = [0usize; COMPONENTS];
+    let mut rows = RowHints::new();
+    let count = plot.prepare(
+        forward,
+        backward,
+        labels,
+        &mut members,
+        &mut region_at,
+        &mut rows,
+        stack,
+    );
+    let prepared = plot.prepared(
+        forward, backward, labels, &members, &region_at, &rows, count,
+    );
     inferred_members(&prepared, inferred);
 }
 
@@ -155,10 +166,7 @@ fn walk_tables(
     let n = plot.keys.len();
     let mut labels = [0usize; COMPONENTS];
     find_inputs(plot, fed, backward, &mut labels[..n], inferred, stack);
-    let linked = PortList {
-        numbers: plot.ports,
-    };
-    build_fed(linked, plot.ends, fed);
+    build_fed(plot.port_list(), plot.ends, fed);
 }
 
 // The sets of a port of the component at p.
@@ -169,7 +177,7 @@ fn input_sources(plot: &Plot, p: usize, port: usize, stack: &mut [usize]) -> Inp
         InputsBy (Ok tt) l.components.now l.ports.now l.frontiers.now (Some p) port stack.old stack.new (Ok result) }
 {
     let n = plot.keys.len();
-    let m = plot.ports.len() / PORT;
+    let m = plot.port_list().count();
     let mut fed = [0u64; CONNECTIONS];
     let mut backward = [0u64; CONNECTIONS];
     let mut inferred = [false; COMPONENTS];
@@ -180,10 +188,7 @@ fn input_sources(plot: &Plot, p: usize, port: usize, stack: &mut [usize]) -> Inp
         &mut inferred[..n],
         stack,
     );
-    let listed = ComponentList {
-        numbers: plot.components,
-    };
-    let slot = member_of(plot.keys, listed.id(p)) * PORTS + port;
+    let slot = member_of(plot.keys, plot.component_list().id(p)) * PORTS + port;
     row_sources(&fed[..m], &backward[..m], slot, &inferred[..n], stack)
 }
 
@@ -199,15 +204,10 @@ pub(crate) fn query_plot(
         InputsBy (refuse Fault.NoVerdictRow None (too_short (is_found place)))
         p.components.now p.ports.now p.frontiers.now place port stack.old stack.new result }
 {
-    let listed = ComponentList {
-        numbers: plot.components,
-    };
-    match row_place(plot.keys, listed, id, port) {
-        Some(p) => Ok(input_sources(plot, p, port as usize, stack)),
-        None => Err(Refusal {
-            fault: Fault::NoVerdictRow,
-            list: None,
-            item: 0,
-        }),
-    }
+    let p = row_place(plot.keys, plot.component_list(), id, port).ok_or(Refusal {
+        fault: Fault::NoVerdictRow,
+        list: None,
+        item: 0,
+    })?;
+    Ok(input_sources(plot, p, port as usize, stack))
 }

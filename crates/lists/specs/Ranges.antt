@@ -1,7 +1,8 @@
 -- Ranges (refusal 3): field f of a record is from low[f] to high[f]. They hold for every kind and in every list.
 -- Assumes nothing: these are definitions.
 use Rattle.std.specs.Prelude.{Option}
-use Rattle.std.specs.Prelude.{ℕ, ◌+◌, ◌*◌, ◌/◌, Bool, not, List, ◌∷◌, [], length, ℤ, pos, negsuc}
+use Rattle.std.specs.Prelude.{ℕ, ◌+◌, ◌*◌, ◌/◌, Bool, not, List, ◌∷◌, [], length, map, ℤ, pos, negsuc}
+use Rattle.lists.specs.declared.ranges.Bounds.{Bounds}
 use Rattle.lists.specs.Signed.{at, in_range}
 use Rattle.lists.specs.First.{first_from, all_from}
 
@@ -12,6 +13,13 @@ record_in_range low high list i = all_from (λ f. in_range (at low f) (at high f
 -- the first record with a field outside its range
 unfoldable pub first_out_of_range : List ℤ → List ℤ → List ℤ → Option ℕ
 first_out_of_range low high list = first_from (λ k. not (record_in_range low high list (k * length low))) 0 (length list / length low)
+
+-- the least and the greatest numbers of a table of ranges
+abbrev pub lows_of : List Bounds → List ℤ
+lows_of fields = map (λ r. r.low) fields
+
+abbrev pub highs_of : List Bounds → List ℤ
+highs_of fields = map (λ r. r.high) fields
 
 -- ids are 0 to 4,294,967,295
 abbrev pub greatest_id : ℤ

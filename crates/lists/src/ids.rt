@@ -23,8 +23,8 @@ pub fn id_table(components: ComponentList, keys: &mut [u64], spare: &mut [u64])
     requires { (length keys.old ≡ component_count components.numbers.now) × (length keys.old ≤ length spare.old) }
     ensures { IdTable components.entry.numbers.now keys.new }
 {
-    for k in 0..keys.len() {
-        keys[k] = id_key(components, k);
+    for (k, key) in keys.iter_mut().enumerate() {
+        *key = id_key(components, k);
     }
     // The keys were made by rising place.
     tables::sort_pairs(keys, spare);

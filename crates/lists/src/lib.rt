@@ -1,6 +1,7 @@
 // The lists of a scene: what they may hold, where an id stands, the ends of port connections. Their refusals are crate checks.
 // `id < 2 ^ 32` stands at each function that takes an id, a number. `IdTable` is said of every list of components that a table of ids is
 // of, so that no struct holds the one.
+// Lent slices stay parameters: a struct of `&mut` fields would owe a ghost name for what each is left as.
 #![tactic(auto)]
 
 pub mod ends;
@@ -56,6 +57,7 @@ pub enum Section {
     Frontiers,
 }
 
+// By number, from 0; any number past these is the frontiers. For callers that have a number, as they had to name a list by one.
 impl From<u64> for Section {
     ghost from_gives = { λ number section. section ≡ section_numbered number };
 

@@ -1,31 +1,38 @@
-// Ranges by table: field f of a record is from low[f] to high[f].
-ghost use Rattle.std.specs.Prelude.{◌≡◌, ◌+◌, ◌≤◌, ◌<◌, length};
-ghost use Rattle.lists.specs.Signed.{at, in_range};
-ghost use Rattle.lists.specs.Ranges.{record_in_range, first_out_of_range};
+// A table of ranges, one for each field of a record.
+ghost use Rattle.std.specs.Prelude.{◌≡◌, ◌+◌, ◌≤◌, length};
+ghost use Rattle.lists.specs.Signed.{in_range};
+ghost use Rattle.lists.specs.Ranges.{record_in_range, first_out_of_range, lows_of, highs_of};
 
-// The least and the greatest number of each field of a record.
+// The least and the greatest number of a field. No `RangeInclusive`: `a..=b` is a call, which a constant may not have yet.
+#[derive(Clone, Copy)]
+pub struct Bounds {
+    pub low: i64,
+    pub high: i64,
+}
+
+impl Bounds {
+    // Whether the number is in the range.
+    fn hold(self, n: i64) -> bool
+        ensures { result ≡ in_range self.low self.high n }
+    {
+        (self.low <= n) & (n <= self.high)
+    }
+}
+
+// The range of each field of a record.
 #[derive(Clone, Copy)]
 pub struct Ranges<const WIDTH: usize> {
-    pub low: [i64; WIDTH],
-    pub high: [i64; WIDTH],
+    pub fields: [Bounds; WIDTH],
 }
 
 impl<const WIDTH: usize> Ranges<WIDTH> {
-    // Whether the number at `i` is in the range of field f.
-    fn field_holds(&self, f: usize, list: &[i64], i: usize) -> bool
-        requires { (f < WIDTH) × (i < length list.now) }
-        ensures { result ≡ in_range (at self.now.low f) (at self.now.high f) (at list.now i) }
-    {
-        (self.low[f] <= list[i]) & (list[i] <= self.high[f])
-    }
-
     // Whether each field of the record at `i` is in its range.
     fn hold(&self, list: &[i64], i: usize) -> bool
         requires { i + WIDTH ≤ length list.now }
-        ensures { result ≡ record_in_range self.now.low self.now.high list.now i }
+        ensures { result ≡ record_in_range (lows_of self.now.fields) (highs_of self.now.fields) list.now i }
     {
         for f in 0..WIDTH {
-            if !self.field_holds(f, list, i + f) {
+            if !self.fields[f].hold(list[i + f]) {
                 return false;
             }
         }
@@ -34,7 +41,7 @@ impl<const WIDTH: usize> Ranges<WIDTH> {
 
     // The first record with a field outside its range. One of no fields has none.
     pub fn first_outside(&self, list: &[i64]) -> Option<usize>
-        ensures { result ≡ first_out_of_range self.now.low self.now.high list.now }
+        ensures { result ≡ first_out_of_range (lows_of self.now.fields) (highs_of self.now.fields) list.now }
     {
         if WIDTH == 0 {
             return None;

@@ -1,4 +1,5 @@
-// Lists that the checks of lengths and ranges accepted, and the numbers of their records by name.
+// Lists that the checks of lengths and ranges accepted, and the numbers of their records by name. `k < .._count` stands at each method:
+// a place is a number, and what it is below is this list's.
 ghost use Rattle.std.proofs.Props.{props};
 ghost use Rattle.std.specs.Prelude.{◌≡◌, ◌≤◌, ◌<◌};
 ghost use Rattle.lists.specs.Limits.{component_limit, connection_limit};

@@ -67,10 +67,12 @@ pub record Alive (cs ps fs : List ℤ) (driven possible : List Bool) : Type 0 wh
 
 -- ---- room in the arrays that are lent
 
-pub record PreparedRoom (cs ps : List ℤ) (forward backward labelled stack : List ℕ) : Type 0 where
+pub record PreparedRoom (cs ps : List ℤ) (forward backward labelled members region_of stack : List ℕ) : Type 0 where
   pub forward_room : length forward ≡ port_count ps
   pub backward_room : length backward ≡ port_count ps
   pub labels_room : length labelled ≡ component_count cs
+  pub members_room : component_count cs ≤ length members
+  pub regions_room : component_count cs ≤ length region_of
   pub stack_room : 2 * component_count cs ≤ length stack
 
 -- ---- the marks and the rows of a scene

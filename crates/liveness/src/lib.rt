@@ -1,6 +1,6 @@
 // Regions, sources, drive and verdicts of a scene.
-// `length has_drive ≡ component_limit` stands at each stage that fills or reads the flags: they are lent apart from a plot, and two of the
-// stages are public, which an array in place of the slice would narrow. `(ps : List ℤ)` binds the port connections that a stage is not
+// `length has_drive ≡ component_limit` stands at each stage that fills or reads the flags: they are lent apart from a plot, and three of
+// the stages are public, which an array in place of the slice would narrow. `(ps : List ℤ)` binds the port connections that a stage is not
 // lent.
 // Lent slices stay parameters: a struct of `&mut` fields would owe a ghost name for what each is left as.
 #![tactic(auto)]
@@ -12,7 +12,7 @@ pub mod steps;
 
 ghost use Rattle.liveness.specs.Entry.{Analyzed};
 
-use checks::refusals::{liveness_lists, room_for};
+use checks::refusals::{liveness_lists, room_for_rows};
 use lists::ends::Ends;
 use lists::{COMPONENT, COMPONENTS, CONNECTIONS, Refusal};
 use plot::Plot;
@@ -29,6 +29,14 @@ pub struct Analysis {
     pub potential: ComponentSet,
     pub cyclic: ComponentSet,
     pub has_drive: ComponentSet,
+}
+
+// The rows of a scene: the region of each component, the source rows and the verdict rows, as numbers.
+#[derive(Clone, Copy)]
+pub struct Rows<'a> {
+    pub regions: &'a [u64],
+    pub sources: &'a [u64],
+    pub inputs: &'a [u64],
 }
 
 // The refusal of the checks, or what is counted and the sets; the region of each component, the source rows and the verdict rows, in list
@@ -48,9 +56,13 @@ pub fn analyze_signal_liveness(
     let mut keys = [0u64; COMPONENTS];
     let mut ends = [Ends { source: 0, sink: 0 }; CONNECTIONS];
     let count = components.len() / COMPONENT;
-    let enough = room_for(count, 1, regions.len())
-        & (room_for(count * 2, 2, sources.len())
-            & (room_for(count * 4, 3, inputs.len()) & room_for(count, 2, stack.len())));
+    let enough = room_for_rows(
+        count,
+        regions.len(),
+        sources.len(),
+        inputs.len(),
+        stack.len(),
+    );
     liveness_lists(components, ports, frontiers, enough, &mut keys, &mut ends)?;
     let plot = Plot {
         keys: &keys[..count],

@@ -6,9 +6,8 @@ ghost use Rattle.regions.specs.Search.{Zeros};
 ghost use Rattle.signals.specs.Regions.{region_count};
 ghost use Rattle.liveness.specs.Scene.{Accepted, Prepared, Prepares, PreparedRoom};
 
-use lists::COMPONENTS;
 use lists::ends::Ends;
-use lists::views::PortList;
+use lists::views::{ComponentList, PortList};
 use regions::{Graph, HINTED};
 use signals::flags::spread;
 use signals::stages::{build_tables, find_regions, place_members};
@@ -40,67 +39,79 @@ pub struct PreparedPlot<'a> {
     pub ghost counted: { count ≡ region_count plot.components.now plot.ports.now } by { Prim.hlevel props },
 }
 
-// Arrays that a plot is prepared in, beside those that are lent.
+// Hints of where the rows of each node end, forward and backward.
 #[derive(Drop)]
-pub struct Workspace {
-    members: [usize; COMPONENTS],
-    region_at: [usize; COMPONENTS],
-    forward_rows: [usize; HINTED],
-    backward_rows: [usize; HINTED],
+pub struct RowHints {
+    forward: [usize; HINTED],
+    backward: [usize; HINTED],
 }
 
-impl Workspace {
+impl RowHints {
     // All zero.
-    pub fn new() -> Workspace
-        ensures plots { Zeros result.members × Zeros result.region_at }
-        ensures rows { Zeros result.forward_rows × Zeros result.backward_rows }
+    pub fn new() -> RowHints
+        ensures { Zeros result.forward × Zeros result.backward }
     {
-        Workspace {
-            members: [0; COMPONENTS],
-            region_at: [0; COMPONENTS],
-            forward_rows: [0; HINTED],
-            backward_rows: [0; HINTED],
+        RowHints {
+            forward: [0; HINTED],
+            backward: [0; HINTED],
         }
     }
 }
 
 impl<'a> Plot<'a> {
+    // The components, with what the checks have shown of their numbers.
+    pub fn component_list(self) -> ComponentList<'a>
+        ensures { result.numbers.now ≡ self.entry.components.now }
+    {
+        ComponentList {
+            numbers: self.components,
+        }
+    }
+
+    pub fn port_list(self) -> PortList<'a>
+        ensures { result.numbers.now ≡ self.entry.ports.now }
+    {
+        PortList {
+            numbers: self.ports,
+        }
+    }
+
     // Builds the graph, with hints of its rows, and finds the regions; answers how many there are. Leaves the stack zero.
     pub fn prepare(
         &self,
         forward: &mut [u64],
         backward: &mut [u64],
         labels: &mut [usize],
-        work: &mut Workspace,
+        members: &mut [usize],
+        region_at: &mut [usize],
+        rows: &mut RowHints,
         stack: &mut [usize],
     ) -> usize
-        requires { PreparedRoom self.now.components.now self.now.ports.now forward.old backward.old labels.old stack.old }
+        requires { let p = self.now in
+            PreparedRoom p.components.now p.ports.now forward.old backward.old labels.old members.old region_at.old stack.old }
         ensures { let p = self.now in Prepares p.components.now p.ports.now (sources_of p.ends.now) (sinks_of p.ends.now)
-            forward.new backward.new labels.new work.new.members work.new.region_at stack.new result }
+            forward.new backward.new labels.new members.new region_at.new stack.new result }
     {
         stack.fill(0);
-        let linked = PortList {
-            numbers: self.ports,
-        };
         build_tables(
-            linked,
+            self.port_list(),
             self.ends,
             forward,
             backward,
-            &mut work.forward_rows,
-            &mut work.backward_rows,
+            &mut rows.forward,
+            &mut rows.backward,
         );
         let onward = Graph {
             keys: forward,
-            rows: &work.forward_rows,
+            rows: &rows.forward,
         };
         let back = Graph {
             keys: backward,
-            rows: &work.backward_rows,
+            rows: &rows.backward,
         };
         let count = find_regions(onward, back, labels, stack);
-        place_members(self.keys, &mut work.members);
-        spread(&work.members[..labels.len()], labels, &mut work.region_at);
+        place_members(self.keys, members);
+        spread(&members[..labels.len()], labels, region_at);
         count
     }
 
@@ -110,29 +121,32 @@ impl<'a> Plot<'a> {
         forward: &'a [u64],
         backward: &'a [u64],
         labels: &'a [usize],
-        work: &'a Workspace,
+        members: &'a [usize],
+        region_at: &'a [usize],
+        rows: &'a RowHints,
         count: usize,
     ) -> PreparedPlot<'a>
         requires { let p = self in (stack : List ℕ) × Prepares p.components.now p.ports.now (sources_of p.ends.now) (sinks_of p.ends.now)
-            forward.now backward.now labels.now work.now.members work.now.region_at stack count }
+            forward.now backward.now labels.now members.now region_at.now stack count }
         ensures plot { result.plot ≡ self.entry }
         ensures lent { (result.forward.keys.now ≡ forward.now) × (result.backward.keys.now ≡ backward.now)
             × (result.labels.now ≡ labels.now) }
+        ensures placed { (result.members.now ≡ members.now) × (result.region_at.now ≡ region_at.now) }
     {
         PreparedPlot {
             plot: self,
             forward: Graph {
                 keys: forward,
-                rows: &work.forward_rows,
+                rows: &rows.forward,
             },
             backward: Graph {
                 keys: backward,
-                rows: &work.backward_rows,
+                rows: &rows.backward,
             },
             labels,
             count,
-            members: &work.members,
-            region_at: &work.region_at,
+            members,
+            region_at,
         }
     }
 }

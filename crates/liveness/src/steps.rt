@@ -16,12 +16,12 @@ ghost use Rattle.liveness.specs.Scene.{Scene, PreparedScene, Driven, Marked, Mar
 use super::Analysis;
 use super::alive::flag_alive;
 use super::infer::{infer, outside_regions};
-use super::plot::{Plot, PreparedPlot, Workspace};
+use super::plot::{Plot, PreparedPlot, RowHints};
 use assessment::slots::write_verdicts;
 use assessment::sources::{drive_flags, frontier_flags};
 use assessment::verdicts::put_sources;
-use lists::views::{ComponentList, PortList};
-use lists::{COMPONENTS, CONNECTIONS, PORT};
+use lists::views::ComponentList;
+use lists::{COMPONENTS, CONNECTIONS};
 use regions::Graph;
 use sets::ComponentSet;
 use signals::flags::gather;
@@ -106,9 +106,7 @@ pub fn flag_inputs(
         Flags (component_count p.components.now) (is_inferred p.components.now p.ports.now p.frontiers.now) inferred.new }
 {
     let mut drive_at = [false; COMPONENTS];
-    let listed = ComponentList {
-        numbers: plot.plot.components,
-    };
+    let listed = plot.plot.component_list();
     flag_drive(
         listed,
         plot.plot.frontiers,
@@ -214,18 +212,13 @@ fn report(
         &mut potential[..n],
     );
     put_regions(&plot.region_at[..n], regions);
-    let listed = ComponentList {
-        numbers: lists.components,
-    };
-    let linked = PortList {
-        numbers: lists.ports,
-    };
+    let listed = lists.component_list();
     let counts = RowCounts {
         sources: put_sources(listed, &on_frontier, &inferred, sources),
         inputs: write_verdicts(
             listed,
             plot.members,
-            linked,
+            lists.port_list(),
             lists.ends,
             &drive[..n],
             &potential[..n],
@@ -253,9 +246,21 @@ fn analyze_in(
         AnalyzedBy (Ok tt) p.components.now p.ports.now p.frontiers.now
         regions.old regions.new sources.old sources.new inputs.old inputs.new stack.old stack.new (Ok result) }
 {
-    let mut work = Workspace::new();
-    let count = plot.prepare(forward, backward, labels, &mut work, stack);
-    let prepared = plot.prepared(forward, backward, labels, &work, count);
+    let mut members = [0usize; COMPONENTS];
+    let mut region_at = [0usize; COMPONENTS];
+    let mut rows = RowHints::new();
+    let count = plot.prepare(
+        forward,
+        backward,
+        labels,
+        &mut members,
+        &mut region_at,
+        &mut rows,
+        stack,
+    );
+    let prepared = plot.prepared(
+        forward, backward, labels, &members, &region_at, &rows, count,
+    );
     report(&prepared, regions, sources, inputs, stack)
 }
 
@@ -273,7 +278,7 @@ pub fn analyze(
         regions.old regions.new sources.old sources.new inputs.old inputs.new stack.old stack.new (Ok result) }
 {
     let n = plot.keys.len();
-    let m = plot.ports.len() / PORT;
+    let m = plot.port_list().count();
     let mut forward = [0u64; CONNECTIONS];
     let mut backward = [0u64; CONNECTIONS];
     let mut labels = [0usize; COMPONENTS];

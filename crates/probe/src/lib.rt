@@ -12,7 +12,9 @@ ghost use Rattle.checks.specs.Refusals.{grouping_lists, liveness_lists, grouping
 ghost use Rattle.checks.specs.Refusals.{query_refusal, sheet_refusal, packed};
 ghost use Rattle.probe.specs.Places.{IsPlace, answer_of, count_among, place_among, MemberAnswer};
 
-use checks::refusals::{grouping_lists, liveness_lists, pack, room_for};
+use checks::refusals::{
+    grouping_lists, liveness_lists, pack, room_for, room_for_groups, room_for_rows,
+};
 use lists::ends::Ends;
 use lists::ids::{place_at, place_of};
 use lists::{COMPONENT, COMPONENTS, CONNECTION, CONNECTIONS, IDS, PORT};
@@ -43,8 +45,7 @@ pub extern "C" fn probe_grouping_refusal(
 ) -> u64
     ensures { result ≡ packed (grouping_refusal components.now connections.now nets fragments) }
 {
-    let count = components.len() / COMPONENT;
-    let enough = room_for(count, 1, nets) & room_for(count, 1, fragments);
+    let enough = room_for_groups(components.len() / COMPONENT, nets, fragments);
     pack_grouping(components, connections, &connections[..0], enough)
 }
 
@@ -69,9 +70,7 @@ pub extern "C" fn probe_liveness_refusal(
     ensures { result ≡ packed (liveness_refusal components.now ports.now frontiers.now regions sources inputs stack) }
 {
     let count = components.len() / COMPONENT;
-    let enough = room_for(count, 1, regions)
-        & (room_for(count * 2, 2, sources)
-            & (room_for(count * 4, 3, inputs) & room_for(count, 2, stack)));
+    let enough = room_for_rows(count, regions, sources, inputs, stack);
     pack_liveness(components, ports, frontiers, enough)
 }
 

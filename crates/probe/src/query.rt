@@ -7,8 +7,8 @@ ghost use Rattle.inputs.specs.Query.{input_refusal, is_immediate, is_inferred_fo
 ghost use Rattle.probe.specs.Inputs.{WordOf};
 
 use checks::refusals::pack_refusal;
-use inputs::required_input;
-use sets::{ComponentSet, WORDS};
+use inputs::{InputSources, required_input};
+use sets::WORDS;
 
 // The refusal as one number.
 #[unsafe(no_mangle)]
@@ -61,18 +61,11 @@ fn source_words(
             inferred: 0,
         };
     }
-    match required_input(components, ports, frontiers, id, port, stack) {
-        Ok(found) => SourceWords {
-            immediate: found.immediate.words[k],
-            inferred: found.inferred.words[k],
-        },
-        Err(_) => {
-            let none = ComponentSet::empty();
-            SourceWords {
-                immediate: none.words[k],
-                inferred: none.words[k],
-            }
-        }
+    let answer = required_input(components, ports, frontiers, id, port, stack);
+    let found = answer.unwrap_or(InputSources::none());
+    SourceWords {
+        immediate: found.immediate.words[k],
+        inferred: found.inferred.words[k],
     }
 }
 

@@ -1,7 +1,7 @@
 -- Sets listed a number at a time.
 --     Front                        rows stand at the front of a list, and the rest is as it was
 --     front_none, -more            none at first, one more
---     flags_none, -more, -all      the flags below a number
+--     flag_is, flags_all           a flag as the code makes it; all flags below a number
 --     names_none, -first, -last    the names below a number
 -- Assumes nothing.
 use Prim.Native.Nat.{ℕ, zero, suc, ◌+◌, ◌≤◌, ◌<◌}
@@ -10,9 +10,8 @@ use native.Mathlib.Omega.{arith}
 use mathlib.Core.Path.{◌≡◌, refl, sym, ap, ◌∙◌}
 use mathlib.Core.Bool.{Bool, true, false, cond}
 use mathlib.Core.List.{List, [], ◌∷◌, ◌++◌, append-nil}
-use lib.ListN.{length, take, set, length-append}
-use lib.Seq.{take-length}
-use Rattle.std.proofs.lemmas.List.{take_more_set}
+use lib.ListN.{length, take, get_or, set, length-append}
+use lib.Seq.{take-length, take-suc}
 use Rattle.std.specs.Int.{from_bool}
 use Rattle.lists.specs.Slices.{laid}
 use Rattle.lines.proofs.Writing.{laid_snoc}
@@ -44,24 +43,21 @@ flag_of : (b : Bool) → from_bool b ≡ as_nat b
 flag_of true = refl
 flag_of false = refl
 
-module _ (words : List ℕ) where
-  pub flags_none : [] ≡ flags_below words 0
-  unfolding flags_below
-  flags_none = refl
+-- what a call of the closure of `list_flags` gives
+pub flag_is : (v : ℕ) (b t : Bool) → v ≡ from_bool b → b ≡ t → v ≡ as_nat t
+flag_is v b t e f = e ∙ flag_of b ∙ ap as_nat f
 
-  pub flags_more : (ys : List ℕ) (k : ℕ) (b : Bool) (v : ℕ) → k < length ys → take k ys ≡ flags_below words k → v ≡ from_bool b → b ≡ member_of words k
-      → take (k + 1) (set ys k v) ≡ flags_below words (k + 1)
+-- a list whose every place below n holds its flag begins with all flags below n
+module _ (words ys : List ℕ) where
+  flags_front : (n : ℕ) → n ≤ length ys → ((k : ℕ) → k < n → get_or ys k 0 ≡ as_nat (member_of words k)) → take n ys ≡ flags_below words n
   unfolding flags_below
-  flags_more ys k b v h e f m =
-      let one : flags_below words (k + 1) ≡ flags_below words k ++ (as_nat (member_of words k) ∷ []) = rw add-one in
-      let is : v ≡ as_nat (member_of words k) = f ∙ flag_of b ∙ ap as_nat m in
-      rw (take_more_set ys k v h, e, is) (sym one)
+  flags_front zero h own = refl
+  flags_front (suc n) h own =
+      let front = flags_front n (omega arith) (λ k l. own k (omega arith)) in
+      take-suc ys n 0 h ∙ rw (front, own n (omega arith))
 
--- all flags
-pub flags_all : (words ys : List ℕ) (n k : ℕ) → length ys ≡ n → k ≡ n → take k ys ≡ flags_below words k → ys ≡ flags_below words n
-flags_all words ys n k long last e =
-    let all : take k ys ≡ ys = ap (λ m. take m ys) (last ∙ sym long) ∙ take-length ys in
-    sym all ∙ e ∙ ap (flags_below words) last
+  pub flags_all : (n : ℕ) → length ys ≡ n → ((k : ℕ) → k < n → get_or ys k 0 ≡ as_nat (member_of words k)) → ys ≡ flags_below words n
+  flags_all n e own = sym (ap (λ m. take m ys) (sym e) ∙ take-length ys) ∙ flags_front n (omega arith) own
 
 module _ (keys words : List ℕ) where
   pub names_none : names_below keys words 0 ≡ []
@@ -100,5 +96,3 @@ module _ (keys words : List ℕ) where
       go : (b : Bool) → length (names_below keys words m) ≤ m → length (names_below keys words m ++ cond b (name_of keys m ∷ []) []) ≤ suc m
       go true h = omega (arith, h, length-append (names_below keys words m) (name_of keys m ∷ []))
       go false h = omega (arith, h, length-append (names_below keys words m) [])
-
-pub ruleset listed_flags = (flags_none, flags_more, flags_all)

@@ -11,6 +11,7 @@ ghost use Rattle.replay.specs.Names.{name_of, names_below, flags_below, Written}
 use super::input::{read_list, refill};
 use lists::{CONNECTIONS, PORT};
 use sets::{ComponentSet, MEMBERS};
+use std::array;
 use tables::SPAN;
 
 // Where the next list stands in the text, how many scenes were read, how many recorded numbers were compared, and how many differ.
@@ -108,15 +109,10 @@ fn list_names(keys: &[u64], set: ComponentSet, out: &mut [u64]) -> usize
 }
 
 // 1 for each number that is in a set, and 0 for the others.
-#[tactic(auto, using(crate::proofs::Listing::listed_flags))]
 fn list_flags(set: ComponentSet) -> [u64; MEMBERS]
     ensures { result ≡ flags_below set.words member_limit }
 {
-    let mut flags = [0; MEMBERS];
-    for (k, flag) in flags.iter_mut().enumerate() {
-        *flag = u64::from(set.contains(k));
-    }
-    flags
+    array::from_fn(|k| u64::from(set.contains(k)))
 }
 
 // No recorded list is longer: the liveness entry asks for so much room for sources; and of signed numbers, that of all port connections.

@@ -65,7 +65,7 @@ pub fn fill_connections(ports: &[i64], rows: &mut [u64])
     requires { AllNatural ports.now × (length ports.now ≤ length rows.old) }
     ensures { (ns : List ℕ) → ports.now ≡ map pos ns → rows.new ≡ laid ns rows.old }
 {
-    for i in 0..ports.len() {
-        rows[i] = natural_at(ports, i);
+    for (i, row) in rows[..ports.len()].iter_mut().enumerate() {
+        *row = natural_at(ports, i);
     }
 }

@@ -17,9 +17,9 @@ use inputs::asked::{Asked, make_ready};
 use lists::ends::{Ends, settle_ends};
 use lists::views::{ComponentList, ConnectionList, PortList};
 use lists::{COMPONENT, COMPONENTS, CONNECTIONS, Fault, PORT, Refusal};
-use liveness::Analysis;
 use liveness::plot::Plot;
 use liveness::steps::analyze;
+use liveness::{Analysis, Rows};
 use scene::connections::keep_all;
 use sets::ComponentSet;
 
@@ -37,18 +37,12 @@ const INPUT_ROWS: usize = 12 * COMPONENTS;
 const STACK: usize = 2 * COMPONENTS;
 
 // The net and the fragment of each component.
+// `Gathered` is no ghost field of it: the functions below are not lent the connections that it relates the groups to, so that a field could
+// only say that there are some, and each `ensures` is of the same ones.
 #[derive(Clone, Copy)]
 struct Groups<'a> {
     nets: &'a [u64],
     fragments: &'a [u64],
-}
-
-// What the analysis wrote: the region of each component, the source and the verdict rows.
-#[derive(Clone, Copy)]
-struct Rows<'a> {
-    regions: &'a [u64],
-    sources: &'a [u64],
-    inputs: &'a [u64],
 }
 
 // The rows of the text.
@@ -122,11 +116,8 @@ fn print_analysis(
     let mut components = [0u64; COMPONENT_ROWS];
     let mut kept = [0u64; KEPT_ROWS];
     let mut marks = [0u64; REGION_ROWS];
-    let listed = ComponentList {
-        numbers: asked.components,
-    };
     fill_components(
-        listed,
+        asked.component_list(),
         asked.keys,
         groups.nets,
         groups.fragments,
@@ -168,7 +159,7 @@ fn print_ready(
         out.old out.new result }
 {
     let n = plot.keys.len();
-    let m = plot.ports.len() / PORT;
+    let m = plot.port_list().count();
     let mut fed = [0u64; CONNECTIONS];
     let mut labels = [0usize; COMPONENTS];
     let mut upstream = [ComponentSet::empty(); COMPONENTS];

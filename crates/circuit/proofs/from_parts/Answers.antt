@@ -4,14 +4,14 @@ use Rattle.std.specs.Prelude.{Result, Ok, Err}
 use Rattle.std.proofs.Common.{rules}
 use Rattle.lists.specs.declared.Refusal.{Refusal}
 use mathlib.Core.Path.{◌≡◌, sym, ap₂, ◌∙◌}
-use mathlib.Core.Bool.{Bool, ◌&&◌}
+use mathlib.Core.Bool.{Bool}
 use mathlib.Core.List.{[], ◌∷◌}
 use Prim.Native.Nat.{ℕ, ◌≤◌}
 use native.Mathlib.Omega.{arith}
 use lib.ListN.{length, take}
 use lib.Seq.{length-take-le}
 use Rattle.lists.specs.Records.{component_count}
-use Rattle.checks.specs.Refusals.{room_for, grouping_refusal}
+use Rattle.checks.specs.Refusals.{room_for, room_for_groups, grouping_refusal}
 use Rattle.lists.proofs.Search.{both}
 use Rattle.checks.proofs.Accepted.{GroupingScene, grouping_accept, room_places}
 use Rattle.circuit.specs.declared.Counts.{Counts}
@@ -28,12 +28,11 @@ answer : (c : After-grouping_lists)
     ≡ grouping_refusal c.args.components.now c.args.connections.now (length c.args.nets.now) (length c.args.fragments.now)
 answer c =
     c.grouping_lists.ensures.answer
-    ∙ rw (c.room_for-2.ensures, c.room_for.ensures)
+    ∙ rw c.room_for_groups-enough.ensures
 
 abbrev enough : After-grouping_lists → Bool
 enough c =
-    room_for (component_count c.args.components.now) 1 (length c.args.nets.now)
-    && room_for (component_count c.args.components.now) 1 (length c.args.fragments.now)
+    room_for_groups (component_count c.args.components.now) (length c.args.nets.now) (length c.args.fragments.now)
 
 -- an accepted scene
 accepted : (c : After-grouping_lists) → c.grouping_lists.result ≡ Ok tt

@@ -2,7 +2,7 @@
 -- left; its regions are those of demand 3.
 -- Assumes nothing.
 use Rattle.std.specs.Prelude.{Ok}
-use mathlib.Core.Path.{◌≡◌, refl, sym, ap, ◌∙◌}
+use mathlib.Core.Path.{◌≡◌, sym, ap, ◌∙◌}
 use mathlib.Core.Bool.{Bool, ◌&&◌}
 use Prim.Native.Nat.{◌*◌, ◌/◌, ◌≤◌}
 use native.Mathlib.Omega.{arith}
@@ -24,10 +24,7 @@ says : (c : After-liveness_lists) → c.liveness_lists.result
     (length c.args.inputs.now) (length c.args.stack.now)
 says c =
     let a = c.args in
-    let rooms : ◌≡◌ {A = Bool} (c.room_for.result && (c.room_for-2.result && (c.room_for-3.result && c.room_for-4.result)))
-    (liveness_room a.components.now (length a.regions.now) (length a.sources.now) (length a.inputs.now) (length a.stack.now)) =
-    rw (c.room_for.ensures, c.room_for-2.ensures, c.room_for-3.ensures, c.room_for-4.ensures) refl in
-    c.liveness_lists.ensures.lists.answer ∙ ap (λ (b : Bool). liveness_lists a.components.now a.ports.now a.frontiers.now b) rooms
+    c.liveness_lists.ensures.lists.answer ∙ ap (λ (b : Bool). liveness_lists a.components.now a.ports.now a.frontiers.now b) c.room_for_rows-enough.ensures
 
 -- ---- where they accept
 module _ (c : After-liveness_lists) (was : c.liveness_lists.result ≡ Ok tt) where

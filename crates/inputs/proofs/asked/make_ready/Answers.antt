@@ -6,11 +6,12 @@ use mathlib.Core.Bool.{Bool, false}
 use mathlib.Core.List.{List, ◌++◌}
 use Prim.Native.Nat.{ℕ, ◌≤◌}
 use native.Mathlib.Omega.{arith}
+use lib.Seq.{length-take-le}
 use lib.ListN.{length, take, drop, replicate, length-append, length-drop}
 use lib.IntN.{ℤ}
 use Rattle.lists.specs.Limits.{component_limit, connection_limit}
-use Rattle.lists.specs.Records.{component_count, port_count}
-use Rattle.liveness.proofs.Lent.{edges_few, edges_lent, flags_lent, nodes_are, nodes_few}
+use Rattle.lists.specs.Records.{component_count}
+use Rattle.liveness.proofs.Lent.{edges_lent, flags_lent, nodes_are, nodes_few}
 use Rattle.signals.specs.Regions.{labels}
 use Rattle.signals.specs.Flags.{Indices}
 use Rattle.signals.proofs.Lent.{front, front_long, front_length}
@@ -28,21 +29,15 @@ cs s = s.args.plot.now.components.now
 abbrev ps : Start → List ℤ
 ps s = s.args.plot.now.ports.now
 
-abbrev edge_count : Start → ℕ
-edge_count s = port_count (ps s)
-
 abbrev nodes : Start → ℕ
 nodes s = length s.args.plot.now.keys.now
 
 few : (s : Start) → component_count (cs s) ≤ component_limit
 few s = s.args.plot.now.accepted.scene.components.few
 
-pub invariant_of-linked : goal.invariant_of-linked
-invariant_of-linked c = record { within = c.args.plot.now.accepted.scene.connections }
-
 pub find_inputs-requires : goal.find_inputs-requires
 find_inputs-requires c =
-    record {
+    rw (c.count-m.ensures.0, c.port_list.ensures) record {
       forward_room = c.requires.fed_len;
       backward_room = edges_lent c.args.plot.now.accepted;
       labels_room = c.requires.labels_len.0;
@@ -59,14 +54,11 @@ flags_long : (s : Start) (flags : List Bool) → length flags ≡ length (take (
 flags_long s flags e = e ∙ flags_lent s.args.plot.now.accepted
 
 -- the array of which the edges backward had the front
-abbrev lent : Start → List ℕ → List ℕ
-lent s backward = backward ++ drop (edge_count s) (replicate connection_limit 0)
-
-lent_long : (s : Start) (backward : List ℕ) → length backward ≡ length {A = ℕ} (take (edge_count s) (replicate connection_limit 0))
-    → length (lent s backward) ≡ connection_limit
-lent_long s backward e =
+lent_long : (m : ℕ) → m ≤ connection_limit → (backward : List ℕ) → length backward ≡ length {A = ℕ} (take m (replicate connection_limit 0))
+    → length (backward ++ drop m (replicate connection_limit 0)) ≡ connection_limit
+lent_long m few backward e =
     let rest : List ℕ = replicate connection_limit 0 in
-    omega (arith, length-append backward (drop (edge_count s) rest), edges_lent s.args.plot.now.accepted, edges_few s.args.plot.now.accepted, length-drop (edge_count s) rest)
+    omega (arith, length-append backward (drop m rest), length-take-le m rest few, length-drop m rest)
 
 labels_below : (s : Start) (labelled : List ℕ) → labelled ≡ labels (cs s) (ps s) → Indices (length labelled) component_limit labelled
 labels_below s labelled e =
@@ -77,7 +69,7 @@ pub find_crossings-crossings-requires : goal.find_crossings-crossings-requires
 find_crossings-crossings-requires c =
     let s = (goal.at.find_crossings-crossings-requires c).Start in
     let r = regions_of_lem c.args.plot.now.accepted.scene c.find_inputs.ensures.prepared in record {
-      rows = (r.rows, (omega (arith, r.few, lent_long s c.find_inputs.new.backward c.find_inputs.auto.backward), r.few));
+      rows = (r.rows, (omega (arith, r.few, lent_long c.count-m.result c.count-m.ensures.1 c.find_inputs.new.backward c.find_inputs.auto.backward), r.few));
       indices = labels_below s c.find_inputs.new.labels c.find_inputs.ensures.prepared.labels_are;
     }
 
@@ -110,7 +102,7 @@ returns c =
     let crossed = c.find_crossings-crossings in
     let up = c.upstream_rows in (
       record {
-        fed_scene = fed_scene c.args.plot.now.accepted.scene p c.build_fed.ensures;
+        fed_scene = fed_scene c.args.plot.now.accepted.scene p (rw c.port_list-2.ensures at c.build_fed.ensures);
         labels_are = p.labels_are;
         keys = crossed.result.now;
         pairs = crossings_of (regions_of_lem c.args.plot.now.accepted.scene p) crossed.ensures.pairs;

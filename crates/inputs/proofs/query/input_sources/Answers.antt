@@ -3,12 +3,13 @@
 use mathlib.Core.Path.{◌≡◌, refl, sym, ap, ◌∙◌}
 use mathlib.Core.Bool.{Bool, false}
 use mathlib.Core.List.{List, ◌++◌}
-use Prim.Native.Nat.{ℕ, ◌<◌}
+use Prim.Native.Nat.{ℕ, ◌≤◌, ◌<◌}
 use native.Mathlib.Omega.{arith}
+use lib.Seq.{length-take-le}
 use lib.ListN.{length, take, drop, replicate}
 use lib.IntN.{ℤ}
 use Rattle.lists.specs.Limits.{component_limit, connection_limit}
-use Rattle.lists.specs.Records.{component, port_count}
+use Rattle.lists.specs.Records.{component}
 use Rattle.lists.specs.Ids.{smaller_ids, member_of}
 use Rattle.liveness.proofs.Lent.{edges_lent, flags_lent, nodes_are, nodes_few}
 use Rattle.lists.proofs.Members.{member_below}
@@ -23,46 +24,40 @@ use Rattle.inputs.proofs.query.input_sources.Goals.{Start}
 abbrev cs : Start → List ℤ
 cs s = s.args.plot.now.components.now
 
-abbrev edge_count : Start → ℕ
-edge_count s = port_count s.args.plot.now.ports.now
-
 abbrev nodes : Start → ℕ
 nodes s = length s.args.plot.now.keys.now
 
 -- the edges and the flags of the nodes, lent from the front of arrays
-abbrev keys_rest : Start → List ℕ
-keys_rest s = drop (edge_count s) (replicate connection_limit 0)
+abbrev keys_rest : ℕ → List ℕ
+keys_rest m = drop m (replicate connection_limit 0)
 
 abbrev flags_rest : Start → List Bool
 flags_rest s = drop (nodes s) (replicate component_limit false)
 
-keys_long : (s : Start) (keys : List ℕ) → length keys ≡ length {A = ℕ} (take (edge_count s) (replicate connection_limit 0))
-    → length keys ≡ edge_count s
-keys_long s keys e = e ∙ edges_lent s.args.plot.now.accepted
+keys_long : (m : ℕ) → m ≤ connection_limit → (keys : List ℕ) → length keys ≡ length {A = ℕ} (take m (replicate connection_limit 0))
+    → length keys ≡ m
+keys_long m few keys e = e ∙ length-take-le m _ few
 
 flags_long : (s : Start) (flags : List Bool) → length flags ≡ length (take (nodes s) (replicate component_limit false))
     → length flags ≡ nodes s
 flags_long s flags e = e ∙ flags_lent s.args.plot.now.accepted
 
 -- ---- the port by its slot
-pub invariant_of-listed : goal.invariant_of-listed
-invariant_of-listed c = record { within = c.args.plot.now.accepted.scene.components }
-
 member_is : (s : Start) {m id : ℕ} → m ≡ smaller_ids (cs s) id → id ≡ (component (cs s) s.args.p).id → m ≡ member_of (cs s) s.args.p
 member_is s e d = e ∙ ap (smaller_ids (cs s)) d
 
 member_small : (s : Start) {m : ℕ} → m ≡ member_of (cs s) s.args.p → m < component_limit
 member_small s e = omega (arith, member_below (cs s) s.args.p s.requires.p_bound.0, s.args.plot.now.accepted.scene.components.few)
 
-walk_is : (s : Start) {fed backward : List ℕ} {flags : List Bool}
-    → length fed ≡ length {A = ℕ} (take (edge_count s) (replicate connection_limit 0))
-    → length backward ≡ length {A = ℕ} (take (edge_count s) (replicate connection_limit 0))
+walk_is : (s : Start) (m : ℕ) → m ≤ connection_limit → {fed backward : List ℕ} {flags : List Bool}
+    → length fed ≡ length {A = ℕ} (take m (replicate connection_limit 0))
+    → length backward ≡ length {A = ℕ} (take m (replicate connection_limit 0))
     → length flags ≡ length (take (nodes s) (replicate component_limit false))
     → Walkable (cs s) s.args.plot.now.ports.now s.args.plot.now.frontiers.now fed backward flags
-    → Walkable (cs s) s.args.plot.now.ports.now s.args.plot.now.frontiers.now (take (edge_count s) (fed ++ keys_rest s)) (take (edge_count s) (backward ++ keys_rest s))
+    → Walkable (cs s) s.args.plot.now.ports.now s.args.plot.now.frontiers.now (take m (fed ++ keys_rest m)) (take m (backward ++ keys_rest m))
     (take (nodes s) (flags ++ flags_rest s))
-walk_is s {fed} {backward} {flags} e f g w =
-    walk_as (front _ fed (keys_rest s) (keys_long s fed e)) (front _ backward (keys_rest s) (keys_long s backward f))
+walk_is s m few {fed} {backward} {flags} e f g w =
+    walk_as (front _ fed (keys_rest m) (keys_long m few fed e)) (front _ backward (keys_rest m) (keys_long m few backward f))
     (front _ flags (flags_rest s) (flags_long s flags g)) w
 
 slot_at : (s : Start) {m : ℕ} {fed backward : List ℕ} {flags : List Bool} → m ≡ member_of (cs s) s.args.p
@@ -81,8 +76,8 @@ row_sources-requires c =
     let s = (goal.at.row_sources-requires c).Start in
     let a = c.args in
     let w = c.walk_tables in
-    let m = member_is s (c.member_of.ensures (cs s) s.args.plot.now.accepted.table) c.id.ensures.0 in
-    let walk = walk_is s w.auto.fed w.auto.backward w.auto.inferred w.ensures.0 in
+    let m = member_is s (c.member_of.ensures (cs s) s.args.plot.now.accepted.table) (rw c.component_list.ensures at c.id.ensures.0) in
+    let walk = walk_is s c.count-m.result c.count-m.ensures.1 w.auto.fed w.auto.backward w.auto.inferred w.ensures.0 in
     record {
       by_index = (cs s, a.plot.now.ports.now, a.plot.now.frontiers.now, a.p, a.port, (walk, slot_at s m walk));
       inferred_in_bounds = (
@@ -102,8 +97,8 @@ returns c =
     let s = (goal.at.returns c).Start in
     let a = c.args in
     let w = c.walk_tables in
-    let m = member_is s (c.member_of.ensures (cs s) s.args.plot.now.accepted.table) c.id.ensures.0 in
-    let walk = walk_is s w.auto.fed w.auto.backward w.auto.inferred w.ensures.0 in
+    let m = member_is s (c.member_of.ensures (cs s) s.args.plot.now.accepted.table) (rw c.component_list.ensures at c.id.ensures.0) in
+    let walk = walk_is s c.count-m.result c.count-m.ensures.1 w.auto.fed w.auto.backward w.auto.inferred w.ensures.0 in
     let sources = c.row_sources.ensures (cs s) a.plot.now.ports.now a.plot.now.frontiers.now a.p a.port walk (slot_at s m walk) in
     record {
       answer = refl;
@@ -122,7 +117,7 @@ slice_bounds-walk_tables-end-3 c =
 pub walk_tables-requires : goal.walk_tables-requires
 walk_tables-requires c =
     let s = (goal.at.walk_tables-requires c).Start in
-    record {
+    rw (c.count-m.ensures.0, c.port_list.ensures) record {
       fed_len = (edges_lent s.args.plot.now.accepted, edges_lent s.args.plot.now.accepted);
       inferred_len = (flags_lent s.args.plot.now.accepted ∙ nodes_are s.args.plot.now.accepted, s.requires.stack_room);
     }
@@ -130,14 +125,14 @@ walk_tables-requires c =
 pub overflow_mul-slot : goal.overflow_mul-slot
 overflow_mul-slot c =
     let s = (goal.at.overflow_mul-slot c).Start in
-    omega (arith, member_small s (member_is s (c.member_of.ensures (cs s) c.args.plot.now.accepted.table) c.id.ensures.0))
+    omega (arith, member_small s (member_is s (c.member_of.ensures (cs s) c.args.plot.now.accepted.table) (rw c.component_list.ensures at c.id.ensures.0)))
 
 pub overflow_add-slot : goal.overflow_add-slot
 overflow_add-slot c =
     let s = (goal.at.overflow_add-slot c).Start in
     omega (
       arith,
-      member_small s (member_is s (c.member_of.ensures (cs s) c.args.plot.now.accepted.table) c.id.ensures.0),
+      member_small s (member_is s (c.member_of.ensures (cs s) c.args.plot.now.accepted.table) (rw c.component_list.ensures at c.id.ensures.0)),
       s.requires.p_bound.1,
     )
 

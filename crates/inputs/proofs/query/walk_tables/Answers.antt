@@ -7,9 +7,6 @@ use Rattle.inputs.proofs.Inputs.{fed_scene, graph_back}
 use Rattle.inputs.proofs.query.walk_tables.Goals as goal
 use Rattle.inputs.proofs.query.walk_tables.Goals.{Start}
 
-pub invariant_of-linked : goal.invariant_of-linked
-invariant_of-linked c = record { within = c.args.plot.now.accepted.scene.connections }
-
 pub find_inputs-requires : goal.find_inputs-requires
 find_inputs-requires c =
     record {
@@ -25,7 +22,7 @@ returns c =
     let e = c.find_inputs.ensures in
     let t = e.prepared.tables in (
       record {
-        fed_scene = fed_scene c.args.plot.now.accepted.scene e.prepared c.build_fed.ensures;
+        fed_scene = fed_scene c.args.plot.now.accepted.scene e.prepared (rw c.port_list.ensures at c.build_fed.ensures);
         rising = t.backward_keys.sorted.ascending;
         turned = graph_back c.args.plot.now.accepted.scene t;
         inferred_are = e.inferred_are;

@@ -7,7 +7,7 @@ use Rattle.liveness.proofs.steps.analyze.Goals.{Start}
 
 pub analyze_in-requires : goal.analyze_in-requires
 analyze_in-requires c =
-    record {
+    rw (c.count-m.ensures.0, c.port_list.ensures) record {
       forward_room = (edges_lent c.args.plot.now.accepted, edges_lent c.args.plot.now.accepted);
       labels_room = nodes_lent c.args.plot.now.accepted ∙ nodes_are c.args.plot.now.accepted;
       rows_room = c.requires;

@@ -10,6 +10,8 @@ prepare-count-requires c =
       forward_room = c.requires.forward_room.0;
       backward_room = c.requires.forward_room.1;
       labels_room = c.requires.labels_room;
+      members_room = c.args.plot.now.accepted.scene.components.few;
+      regions_room = c.args.plot.now.accepted.scene.components.few;
       stack_room = c.requires.rows_room.stack_room;
     }
 

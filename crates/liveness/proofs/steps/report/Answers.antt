@@ -104,16 +104,10 @@ put_regions-requires c =
     let s = (goal.at.put_regions-requires c).Start in
     omega (arith, regions_lent s, all s, c.requires.rows_room.regions_room)
 
-pub invariant_of-listed : goal.invariant_of-listed
-invariant_of-listed c = record { within = c.args.plot.now.plot.accepted.scene.components }
-
-pub invariant_of-linked : goal.invariant_of-linked
-invariant_of-linked c = record { within = c.args.plot.now.plot.accepted.scene.connections }
-
 pub put_sources-requires : goal.put_sources-requires
 put_sources-requires c =
     let s = (goal.at.put_sources-requires c).Start in
-    let e = c.mark.ensures in record {
+    let e = c.mark.ensures in rw c.component_list-listed.ensures record {
       components_in_bounds = (e.frontier_flags.long, e.inferred_flags.long);
       inferred_alone = (inferred_alone (cs s) (ps s) (fs s) e.frontier_flags e.inferred_flags, c.requires.rows_room.sources_room);
     }
@@ -122,7 +116,7 @@ pub write_verdicts-requires : goal.write_verdicts-requires
 write_verdicts-requires c =
     let s = (goal.at.write_verdicts-requires c).Start in
     let p = c.args.plot.now.prepared in
-    let t = p.tables in record {
+    let t = p.tables in rw (c.component_list-listed.ensures, c.port_list.ensures) record {
       ends = (scene s).ends;
       settled = (t.source_members, t.sink_members);
       ports_in_bounds = omega (arith, p.sources_long, sources_length c.args.plot.now.plot.ends.now);
@@ -160,12 +154,13 @@ returns c =
     c.mark.auto.drive ∙ e.drive_is in
     let may : take (nodes s) (c.mark.new.potential ++ rest s) ≡ potential (cs s) (ps s) (fs s) = marks_front s c.mark.new.potential
     c.mark.auto.potential ∙ e.potential_is in
-    let verdict-rows = c.write_verdicts.ensures (fs s) record { drive_is = live; potential_is = may } in
+    let rows_put = rw c.component_list-listed.ensures at c.put_sources.ensures in
+    let verdict-rows = (rw (c.component_list-listed.ensures, c.port_list.ensures) at c.write_verdicts.ensures) (fs s) record { drive_is = live; potential_is = may } in
     record {
       answer = refl;
       analysis = record {
         region_count_lem = a.regions_is ∙ c.args.plot.now.counted;
-        source_count = ap (λ (k : ℕ). k * 2) a.sources_is ∙ c.put_sources.ensures.count ∙ ap length source-rows;
+        source_count = ap (λ (k : ℕ). k * 2) a.sources_is ∙ rows_put.count ∙ ap length source-rows;
         input_count = ap (λ (k : ℕ). k * 3) a.inputs_is ∙ verdict-rows.count;
         drive_set = set_all (all s) live a.drive_set;
         potential_set = set_all (all s) may a.potential_set;
@@ -176,7 +171,7 @@ returns c =
         has_drive_set = set_same c.args.plot.now.counted (λ r. refl) (set_where (count_small s) a.has_drive_set e.region_flags);
       };
       regions_left = c.put_regions.ensures ∙ ap (λ (l : List ℕ). laid l c.args.regions.now) region_rows_lem;
-      sources_left = c.put_sources.ensures.is ∙ ap (λ (l : List ℕ). laid l c.args.sources.now) source-rows;
+      sources_left = rows_put.is ∙ ap (λ (l : List ℕ). laid l c.args.sources.now) source-rows;
       inputs_left = verdict-rows.is;
       stack_left = zeros_cleared _ c.requires.stack_zeros;
     }

@@ -34,12 +34,9 @@ regions_inside : {cs kept fs : List ℤ} {regions sources inputs : List ℕ} {r 
     → Analyzed cs kept fs regions sources inputs r → Scene cs kept → length rows ≡ 2 * component_limit → 2 * r.regions ≤ length rows
 regions_inside rows a scene long = omega (arith, regions_fit a scene, long)
 
-pub invariant_of-listed : goal.invariant_of-listed
-invariant_of-listed c = record { within = c.requires.analyzed.1.0.fed_scene.scene.components }
-
 pub fill_components-requires-clause-components_in_bounds : goal.fill_components-requires-clause-components_in_bounds
 fill_components-requires-clause-components_in_bounds c =
-    let g = c.requires.gathered.1 in (nets_long g, (fragments_long g, regions_long c.requires.analyzed.1.1))
+    let g = c.requires.gathered.1 in rw c.component_list.ensures (nets_long g, (fragments_long g, regions_long c.requires.analyzed.1.1))
 
 pub fill_connections-requires : goal.fill_connections-requires
 fill_connections-requires c =
@@ -95,7 +92,7 @@ returns c ps fs groups ready found =
     let f = a.found in
     let many = table_long a.asked.now.table in
     let components-are = components_are cs a.groups.now.nets.now a.groups.now.fragments.now a.rows.now.regions.now f.drive.words f.potential.words _ _ many
-    c.fill_components.ensures in
+    (rw c.component_list.ensures at c.fill_components.ensures) in
     let connections-are : take (length a.ports.now) c.fill_connections.new.rows ≡ rows =
     front_is rows _ (c.fill_connections.ensures rows groups.kept_are) _ (ap length groups.kept_are ∙ length-map rows pos) in
     let regions-are = regions_are f.cyclic.words f.has_drive.words f.regions _ c.fill_regions.ensures in

@@ -10,7 +10,6 @@ use lib.ListN.{length, take, drop, replicate, length-replicate}
 use lib.Seq.{length-take-le}
 use Rattle.sets.specs.declared.ComponentSet.{ComponentSet}
 use Rattle.lists.specs.Limits.{component_limit, connection_limit}
-use Rattle.lists.specs.Records.{port_count}
 use Rattle.lists.proofs.Table.{table_long}
 use Rattle.assessment.proofs.UpRows.{rows_empty}
 use Rattle.signals.proofs.Lent.{front, front_long, front_length}
@@ -36,15 +35,15 @@ make_ready-requires-clause-upstream c = rows_empty component_limit c.empty-upstr
 
 -- what came back stands at the fronts
 ready_fronts : {cs ps fs : List ℤ} {keys sources sinks fed labels : List ℕ} {upstream : List ComponentSet} → Accepted cs ps keys sources sinks
-    → length fed ≡ length {A = ℕ} (take (port_count ps) (replicate connection_limit 0))
+    → (m : ℕ) → m ≤ connection_limit
+    → length fed ≡ length {A = ℕ} (take m (replicate connection_limit 0))
     → length labels ≡ length {A = ℕ} (take (length keys) (replicate component_limit 0))
     → Ready cs ps fs fed labels upstream
-    → Ready cs ps fs (take (port_count ps) (fed ++ drop (port_count ps) (replicate connection_limit 0)))
+    → Ready cs ps fs (take m (fed ++ drop m (replicate connection_limit 0)))
     (take (length keys) (labels ++ drop (length keys) (replicate component_limit 0))) upstream
-ready_fronts {ps = ps} {keys = keys} {fed = fed} {labels = labels} a e f ready =
-    let m = port_count ps in
+ready_fronts {keys = keys} {fed = fed} {labels = labels} a m small e f ready =
     let n = length keys in
-    ready_as (front m fed (drop m (replicate connection_limit 0)) (e ∙ lent m connection_limit 0 a.scene.connections.few))
+    ready_as (front m fed (drop m (replicate connection_limit 0)) (e ∙ lent m connection_limit 0 small))
     (front n labels (drop n (replicate component_limit 0)) (f ∙ lent n component_limit 0 (few a)))
     ready
 
@@ -54,7 +53,7 @@ invariant_of-asked c =
     let made = c.make_ready in
     record {
       table = p.accepted.table;
-      ready = merely (p.ports.now, p.frontiers.now, ready_fronts p.accepted made.auto.fed made.auto.labels made.ensures.0);
+      ready = merely (p.ports.now, p.frontiers.now, ready_fronts p.accepted c.count-m.result c.count-m.ensures.1 made.auto.fed made.auto.labels made.ensures.0);
     }
 
 pub print_analysis-requires : goal.print_analysis-requires
@@ -63,14 +62,14 @@ print_analysis-requires c =
     let made = c.make_ready in
     record {
       gathered = c.requires.gathered;
-      analyzed = (p.frontiers.now, (ready_fronts p.accepted made.auto.fed made.auto.labels made.ensures.0, c.requires.analyzed));
+      analyzed = (p.frontiers.now, (ready_fronts p.accepted c.count-m.result c.count-m.ensures.1 made.auto.fed made.auto.labels made.ensures.0, c.requires.analyzed));
     }
 
 pub returns : goal.returns
 returns c ps groups =
     let p = c.args.plot.now in
     let made = c.make_ready in
-    c.print_analysis.ensures ps p.frontiers.now groups (ready_fronts p.accepted made.auto.fed made.auto.labels made.ensures.0) c.requires.analyzed
+    c.print_analysis.ensures ps p.frontiers.now groups (ready_fronts p.accepted c.count-m.result c.count-m.ensures.1 made.auto.fed made.auto.labels made.ensures.0) c.requires.analyzed
 
 pub slice_bounds-labels-end : goal.slice_bounds-labels-end
 slice_bounds-labels-end c = few c.args.plot.now.accepted

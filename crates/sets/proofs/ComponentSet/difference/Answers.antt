@@ -11,6 +11,6 @@ returns c =
     let vs = c.args.other.words in
     let made = c.from_fn.ensures.items in
     let each : (i : ℕ) → i < word_count → get_or c.from_fn.result i 0 ≡ but_not (get_or us i 0) (get_or vs i 0) =
-    λ i h. made_by _ (λ i w. w ≡ but_not (get_or us i 0) (get_or vs i 0)) _ (λ j y f k. search rules) _ 0 word_count made.each i 0 (search rules) h in
+    λ i h. made_by _ (λ i w. w ≡ but_not (get_or us i 0) (get_or vs i 0)) _ (λ j y f k. search rules) _ word_count made i 0 h in
     let fits : (i : ℕ) → Fits w64 (get_or vs i 0) = λ i. search rules in
     member_but_not us vs _ (λ i. (fits i).fits) (merged_all but_not us vs _ word_count (search rules) (search rules) made.long refl each)

@@ -10,4 +10,4 @@ returns c =
     let flags = c.args.flags.now in
     let made = c.from_fn.ensures.items in
     flagged_all flags _ (omega (arith, made.long)) (λ i h.
-    made_by _ (λ i w. WordOf flags (min (length flags) (64 * i)) (min (length flags) (64 * i + 64)) w) _ (λ j y f k. search rules) _ 0 word_count made.each i 0 (search rules) (omega (arith, made.long)))
+    made_by _ (λ i w. WordOf flags (min (length flags) (64 * i)) (min (length flags) (64 * i + 64)) w) _ (λ j y f k. search rules) _ word_count made i 0 (omega (arith, made.long)))

@@ -11,5 +11,5 @@ returns c =
     let vs = c.args.other.words in
     let made = c.from_fn.ensures.items in
     let each : (i : ℕ) → i < word_count → get_or c.from_fn.result i 0 ≡ bit_or (get_or us i 0) (get_or vs i 0) =
-    λ i h. made_by _ (λ i w. w ≡ bit_or (get_or us i 0) (get_or vs i 0)) _ (λ j y f k. search rules) _ 0 word_count made.each i 0 (search rules) h in
+    λ i h. made_by _ (λ i w. w ≡ bit_or (get_or us i 0) (get_or vs i 0)) _ (λ j y f k. search rules) _ word_count made i 0 h in
     member_or us vs _ (merged_all bit_or us vs _ word_count (search rules) (search rules) made.long refl each)

@@ -32,7 +32,7 @@ within s r = r.2.fed_scene.scene.components
 pub member_of-requires : goal.member_of-requires
 member_of-requires c =
     let s = (goal.at.member_of-requires c).Start in
-    let row = row_found (cs s) c.args.id c.args.port (sym c.row_place.ensures ∙ c.in-Some.is) in
+    let row = row_found (cs s) c.args.id c.args.port (sym (rw c.component_list.ensures at c.row_place.ensures) ∙ c.in-Some.is) in
     ∥∥₁_elim c.args.self.now.ready (hlevel props) (λ (r : ReadyScene s). row_id_small (within s r) row)
 
 -- the member and the port that a row is found for
@@ -44,7 +44,7 @@ pub slot_sources-requires : goal.slot_sources-requires
 slot_sources-requires c =
     let s = (goal.at.slot_sources-requires c).Start in
     let a = c.args.self.now in
-    let row = row_found (cs s) c.args.id c.args.port (sym c.row_place.ensures ∙ c.in-Some.is) in
+    let row = row_found (cs s) c.args.id c.args.port (sym (rw c.component_list.ensures at c.row_place.ensures) ∙ c.in-Some.is) in
     ∥∥₁_elim a.ready (hlevel props) (λ (r : ReadyScene s).
     let q = slot_asked (row_slot r.2.fed_scene row (c.member_of.ensures (cs s) a.table)) (length a.labels.now) (ready_nodes r.2) in record {
       ascending = (q.0.0, (q.0.1, q.1.0));
@@ -54,32 +54,27 @@ slot_sources-requires c =
 pub returns-in-Some : goal.returns-in-Some
 returns-in-Some c ps fs r =
     let a = c.args.self.now in
-    let found = sym c.row_place.ensures ∙ c.in-Some.is in
+    let found = sym (rw c.component_list.ensures at c.row_place.ensures) ∙ c.in-Some.is in
     sets_at c.args.id found
     (port_sets r (row_slot r.fed_scene (row_found a.components.now c.args.id c.args.port found) (c.member_of.ensures a.components.now a.table))
     c.slot_sources.ensures)
 
 pub returns-in-None : goal.returns-in-None
 returns-in-None c ps fs r =
-    sets_at c.args.id (sym c.row_place.ensures ∙ c.in-None.is)
+    sets_at c.args.id (sym (rw c.component_list.ensures at c.row_place.ensures) ∙ c.in-None.is)
     (c.none.ensures c.args.self.now.components.now ps fs c.args.port)
-
-pub invariant_of-listed : goal.invariant_of-listed
-invariant_of-listed c =
-    let s = (goal.at.invariant_of-listed c).Start in
-    ∥∥₁_elim c.args.self.now.ready (hlevel props) (λ (r : ReadyScene s). record { within = within s r })
 
 pub overflow_mul-member_of : goal.overflow_mul-member_of
 overflow_mul-member_of c =
     let s = (goal.at.overflow_mul-member_of c).Start in
-    let found = sym c.row_place.ensures ∙ c.in-Some.is in
+    let found = sym (rw c.component_list.ensures at c.row_place.ensures) ∙ c.in-Some.is in
     let member = c.member_of.ensures (cs s) c.args.self.now.table in
     ∥∥₁_elim c.args.self.now.ready (hlevel props) (λ (r : ReadyScene s). omega (arith, (member_small s r found member).0))
 
 pub overflow_add-member_of : goal.overflow_add-member_of
 overflow_add-member_of c =
     let s = (goal.at.overflow_add-member_of c).Start in
-    let found = sym c.row_place.ensures ∙ c.in-Some.is in
+    let found = sym (rw c.component_list.ensures at c.row_place.ensures) ∙ c.in-Some.is in
     let member = c.member_of.ensures (cs s) c.args.self.now.table in
     ∥∥₁_elim c.args.self.now.ready (hlevel props) (λ (r : ReadyScene s).
     let m = member_small s r found member in omega (arith, m.0, m.1))

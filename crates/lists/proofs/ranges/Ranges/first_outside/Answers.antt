@@ -4,20 +4,21 @@ use mathlib.Core.Bool.{not}
 use native.Mathlib.Nat.{sub-zero, div-zero}
 use native.Mathlib.Omega.{arith}
 use lib.ListN.{length}
+use Rattle.std.proofs.lemmas.List.{length-map}
 use Rattle.lists.specs.First.{first_from}
-use Rattle.lists.specs.Ranges.{first_out_of_range}
+use Rattle.lists.specs.Ranges.{first_out_of_range, lows_of}
 use Rattle.lists.proofs.Search.{first_here, first_later, first_none, record_within}
 use Rattle.lists.proofs.ranges.Ranges.first_outside.Goals as goal
 use Rattle.lists.proofs.ranges.Ranges.first_outside.Goals.{In-loop-k}
 
 pub loop-k-init : goal.loop-k-init
 unfolding first_out_of_range
-loop-k-init g c = let long : length c.args.self.now.low ≡ g.row.WIDTH = omega arith in rw (sub-zero, long) refl
+loop-k-init g c = let long : length (lows_of c.args.self.now.fields) ≡ g.row.WIDTH = simp length-map (omega arith) in rw (sub-zero, long) refl
 
 pub returns-then-this-eq0 : goal.returns-then-this-eq0
 unfolding first_out_of_range first_from
 returns-then-this-eq0 g c =
-    let none : length c.args.self.now.low ≡ 0 = omega arith in
+    let none : length (lows_of c.args.self.now.fields) ≡ 0 = simp length-map (omega arith) in
     rw (none, div-zero) refl
 
 pub hold-requires : goal.hold-requires

@@ -24,12 +24,9 @@ use Rattle.signals.proofs.Staged.{regions_are, members_below, labels_placed}
 use Rattle.liveness.proofs.plot.Plot.prepare.Goals as goal
 use Rattle.liveness.proofs.plot.Plot.prepare.Goals.{Start}
 
-pub invariant_of-linked : goal.invariant_of-linked
-invariant_of-linked c = record { within = c.args.self.now.accepted.scene.connections }
-
 pub build_tables-requires : goal.build_tables-requires
 build_tables-requires c =
-    let room = c.requires in record {
+    let room = c.requires in rw c.port_list.ensures record {
       settled = (c.args.self.now.components.now, (c.args.self.now.accepted.scene.components.few, c.args.self.now.accepted.ends));
       forward_len = (room.forward_room, room.backward_room);
     }
@@ -56,7 +53,7 @@ pub find_regions-count-requires : goal.find_regions-count-requires
 find_regions-count-requires c =
     let s = (goal.at.find_regions-count-requires c).Start in
     let room = s.requires in
-    let t = c.build_tables.ensures (cs s) s.args.self.now.accepted.ends in record {
+    let t = (rw c.port_list.ensures at c.build_tables.ensures) (cs s) s.args.self.now.accepted.ends in record {
       ascending = (
         t.forward_keys.sorted.ascending,
         (
@@ -78,7 +75,7 @@ find_regions-count-requires c =
 
 pub place_members-requires : goal.place_members-requires
 place_members-requires c =
-    ((c.args.self.now.components.now, c.args.self.now.accepted.table), omega (arith, table_long c.args.self.now.accepted.table, few (goal.at.place_members-requires c).Start))
+    ((c.args.self.now.components.now, c.args.self.now.accepted.table), omega (arith, table_long c.args.self.now.accepted.table, c.requires.members_room))
 
 -- the members of all components are nodes
 indices_at : {n m k : ℕ} {index : List ℕ} → n ≡ k → m ≡ k → Indices k k index → Indices n m index
@@ -95,9 +92,9 @@ spread-requires c =
       omega (
         arith,
         long,
-        few s,
+        s.requires.regions_room,
         members.long,
-        length-take-le (length c.find_regions-count.new.labels) c.place_members.new.members (omega (arith, long, few s, c.place_members.auto.members)),
+        length-take-le (length c.find_regions-count.new.labels) c.place_members.new.members (omega (arith, long, s.requires.members_room, c.place_members.auto.members)),
       ),
     )
 
@@ -117,7 +114,7 @@ pub returns : goal.returns
 returns c =
     let s = (goal.at.returns c).Start in
     let room = s.requires in
-    let t = c.build_tables.ensures (cs s) s.args.self.now.accepted.ends in
+    let t = (rw c.port_list.ensures at c.build_tables.ensures) (cs s) s.args.self.now.accepted.ends in
     let regions = regions_are (cs s) (ps s) c.build_tables.new.forward (graph s _ _ t)
     (rw room.labels_room at c.find_regions-count.ensures) in
     let numbers = c.place_members.ensures (cs s) s.args.self.now.accepted.table s.args.self.now.accepted.scene.distinct in
@@ -130,7 +127,7 @@ returns c =
         labels_are = regions.0;
         members_are = numbers;
         regions_are = labels_placed (cs s) numbers (ps s) (numbers_at c.place_members.new.members long regions.0 numbers.long
-            (omega (arith, few s, c.spread.auto.out)) c.spread.ensures.values);
+            (omega (arith, room.regions_room, c.spread.auto.out)) c.spread.ensures.values);
       };
       count = regions.1;
       stack_zeros = c.find_regions-count.ensures.stack_zeros;
