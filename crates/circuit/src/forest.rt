@@ -6,7 +6,6 @@ ghost use Rattle.circuit.specs.Forest.{root, singletons, unite, IsForest, Found}
 ghost use Rattle.circuit.specs.Groups.{roots_below, groups_of, RootNumbers, RootsWithin};
 
 use lists::COMPONENTS;
-use std::array;
 use std::marker::Model;
 
 // The root of v. Each place on the way to it gets it for a parent. Over the arrays, since a forest does not show its chains.
@@ -60,12 +59,16 @@ impl Model for UnionFind {
 }
 
 impl UnionFind {
-    // Each place is its own root, of rank 0.
+    // Each place is its own root, of rank 0. As the paper asks, the arrays are made of equal entries and then filled.
     pub(crate) fn new() -> Self
         ensures { result ≡ singletons }
     {
+        let mut parents = [0; COMPONENTS];
+        for (place, parent) in parents.iter_mut().enumerate() {
+            *parent = place;
+        }
         UnionFind {
-            parents: array::from_fn(|place| place),
+            parents,
             ranks: [0; COMPONENTS],
         }
     }
