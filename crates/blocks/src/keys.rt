@@ -52,7 +52,7 @@ pub fn width(block: Block) -> usize
     block_keys(block).len()
 }
 
-// The key of line k of a block's rows.
+// The key of line k of a block's rows. As of a sheet's list: a function of the two lines, over a table of keys, would be longer.
 fn field_key(block: Block, k: usize) -> &'static [u8]
     ensures { result.now ≡ field_key (block_keys block) k }
 {

@@ -34,7 +34,7 @@ pub(crate) fn put_decimal(out: &mut [u8], at: usize, n: u64) -> usize
     end
 }
 
-// The line of a key and a number with no sign. Nearly all of a report is such lines, so one test of the room serves the whole line.
+// The line of a key and a number with no sign. Nearly all of a report is such lines, so one test of the room serves the whole line, and is plainer than four.
 #[tactic(auto, using(crate::proofs::Printing::natural_few))]
 pub(crate) fn put_natural(out: &mut [u8], at: usize, key: &[u8], value: u64) -> usize
     ensures { Printed at (line_of key.now (pos value)) out.old out.new result }

@@ -23,7 +23,8 @@ const BLOCK: Bounds = Bounds {
     high: BlockKind::Air as i64,
 };
 
-// The last face is Down; 0 is for none. A number stands here, since enum `Face` stands in crate faces, which is above lists.
+// The last face is Down; 0 is for none. A number stands here: `Face`, its opposites and their laws are one page of crate faces, which stands
+// above, and to part them for one number would be no plainer.
 const FACE: Bounds = Bounds { low: 0, high: 6 };
 
 const FLAG: Bounds = Bounds { low: 0, high: 1 };

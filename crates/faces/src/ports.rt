@@ -59,13 +59,13 @@ const SUPPORT_DOWN: Option<Port> = Some(Port {
 
 const NO_PORTS: [Option<Port>; PORTS] = [None; PORTS];
 
-fn signal(role: Role, face: Face) -> Option<Port>
-    ensures { result ≡ Some (record { role = role; face = face; channel = Channel.RedstoneSignal }) }
+fn place(role: Role, face: Face, channel: Channel) -> Option<Port>
+    ensures { result ≡ Some (record { role = role; face = face; channel = channel }) }
 {
     Some(Port {
         role,
         face,
-        channel: Channel::RedstoneSignal,
+        channel,
     })
 }
 
@@ -73,12 +73,12 @@ fn wire_ports() -> [Option<Port>; PORTS]
     ensures { map numbers_at result ≡ places_of wire_ports }
 {
     [
-        signal(Role::Bidirectional, Face::North),
-        signal(Role::Bidirectional, Face::East),
-        signal(Role::Bidirectional, Face::South),
-        signal(Role::Bidirectional, Face::West),
-        signal(Role::Bidirectional, Face::Up),
-        signal(Role::Bidirectional, Face::Down),
+        place(Role::Bidirectional, Face::North, Channel::RedstoneSignal),
+        place(Role::Bidirectional, Face::East, Channel::RedstoneSignal),
+        place(Role::Bidirectional, Face::South, Channel::RedstoneSignal),
+        place(Role::Bidirectional, Face::West, Channel::RedstoneSignal),
+        place(Role::Bidirectional, Face::Up, Channel::RedstoneSignal),
+        place(Role::Bidirectional, Face::Down, Channel::RedstoneSignal),
         SUPPORT_DOWN,
     ]
 }
@@ -87,12 +87,12 @@ fn wire_ports() -> [Option<Port>; PORTS]
 fn repeater_ports(facing: Face) -> [Option<Port>; PORTS]
     ensures { map numbers_at result ≡ places_of (repeater_ports (face_code facing)) }
 {
-    let output = signal(Role::Output, facing);
-    let input = signal(Role::Input, facing.opposite());
-    let north = signal(Role::Control, Face::North);
-    let east = signal(Role::Control, Face::East);
-    let south = signal(Role::Control, Face::South);
-    let west = signal(Role::Control, Face::West);
+    let output = place(Role::Output, facing, Channel::RedstoneSignal);
+    let input = place(Role::Input, facing.opposite(), Channel::RedstoneSignal);
+    let north = place(Role::Control, Face::North, Channel::RedstoneSignal);
+    let east = place(Role::Control, Face::East, Channel::RedstoneSignal);
+    let south = place(Role::Control, Face::South, Channel::RedstoneSignal);
+    let west = place(Role::Control, Face::West, Channel::RedstoneSignal);
     match facing {
         Face::North | Face::South => [output, input, east, west, SUPPORT_DOWN, None, None],
         Face::East | Face::West => [output, input, north, south, SUPPORT_DOWN, None, None],
@@ -104,24 +104,14 @@ fn torch_ports(support: Face) -> [Option<Port>; PORTS]
     ensures { map numbers_at result ≡ places_of (torch_ports (face_code support)) }
 {
     [
-        signal(Role::Output, Face::North),
-        signal(Role::Output, Face::East),
-        signal(Role::Output, Face::South),
-        signal(Role::Output, Face::West),
-        signal(Role::Control, support),
+        place(Role::Output, Face::North, Channel::RedstoneSignal),
+        place(Role::Output, Face::East, Channel::RedstoneSignal),
+        place(Role::Output, Face::South, Channel::RedstoneSignal),
+        place(Role::Output, Face::West, Channel::RedstoneSignal),
+        place(Role::Control, support, Channel::RedstoneSignal),
         None,
         None,
     ]
-}
-
-fn strong(face: Face) -> Option<Port>
-    ensures { result ≡ Some (record { role = Role.Output; face = face; channel = Channel.StrongPower }) }
-{
-    Some(Port {
-        role: Role::Output,
-        face,
-        channel: Channel::StrongPower,
-    })
 }
 
 // Those of a button, a pressure plate and a redstone block too.
@@ -129,10 +119,10 @@ fn lever_ports() -> [Option<Port>; PORTS]
     ensures { map numbers_at result ≡ places_of lever_ports }
 {
     [
-        strong(Face::North),
-        strong(Face::East),
-        strong(Face::South),
-        strong(Face::West),
+        place(Role::Output, Face::North, Channel::StrongPower),
+        place(Role::Output, Face::East, Channel::StrongPower),
+        place(Role::Output, Face::South, Channel::StrongPower),
+        place(Role::Output, Face::West, Channel::StrongPower),
         None,
         None,
         None,
@@ -142,30 +132,15 @@ fn lever_ports() -> [Option<Port>; PORTS]
 fn piston_ports(facing: Face) -> [Option<Port>; PORTS]
     ensures { map numbers_at result ≡ places_of (piston_ports (face_code facing)) }
 {
-    let arm = Port {
-        role: Role::Output,
-        face: facing,
-        channel: Channel::Mechanical,
-    };
     [
-        signal(Role::Input, Face::North),
-        signal(Role::Input, Face::East),
-        signal(Role::Input, Face::South),
-        signal(Role::Input, Face::West),
-        Some(arm),
+        place(Role::Input, Face::North, Channel::RedstoneSignal),
+        place(Role::Input, Face::East, Channel::RedstoneSignal),
+        place(Role::Input, Face::South, Channel::RedstoneSignal),
+        place(Role::Input, Face::West, Channel::RedstoneSignal),
+        place(Role::Output, facing, Channel::Mechanical),
         None,
         None,
     ]
-}
-
-fn weak(face: Face) -> Option<Port>
-    ensures { result ≡ Some (record { role = Role.Bidirectional; face = face; channel = Channel.WeakPower }) }
-{
-    Some(Port {
-        role: Role::Bidirectional,
-        face,
-        channel: Channel::WeakPower,
-    })
 }
 
 // Those of a transparent block and a lamp too, where they conduct.
@@ -173,12 +148,12 @@ fn solid_ports() -> [Option<Port>; PORTS]
     ensures { map numbers_at result ≡ places_of (solid_ports true) }
 {
     [
-        weak(Face::North),
-        weak(Face::East),
-        weak(Face::South),
-        weak(Face::West),
-        weak(Face::Up),
-        weak(Face::Down),
+        place(Role::Bidirectional, Face::North, Channel::WeakPower),
+        place(Role::Bidirectional, Face::East, Channel::WeakPower),
+        place(Role::Bidirectional, Face::South, Channel::WeakPower),
+        place(Role::Bidirectional, Face::West, Channel::WeakPower),
+        place(Role::Bidirectional, Face::Up, Channel::WeakPower),
+        place(Role::Bidirectional, Face::Down, Channel::WeakPower),
         None,
     ]
 }

@@ -8,7 +8,8 @@ use super::ports::{Channel, PORTS, Port, Role};
 use lists::kinds::{ConnectionKind, TransferKind};
 
 // Faces and kinds of connections come as numbers to what is public here and in `ports`: any number is taken, and an enum would turn
-// callers away. They are compared as the numbers of their names.
+// callers away. They are compared as the numbers of their names, in what is private too: a number that is no kind's is one that is neither of
+// these two.
 pub const CONTROL_KIND: u64 = ConnectionKind::Control as u64;
 
 pub const SUPPORT_KIND: u64 = ConnectionKind::Support as u64;

@@ -64,13 +64,13 @@ fn face_of(x: Shift, y: Shift, z: Shift) -> Option<Face>
     }
 }
 
-// The face of the step from (x, y, z) to (to_x, to_y, to_z), if it has one. An entry, so that it takes plain numbers.
-pub fn facing_between(x: i64, y: i64, z: i64, to_x: i64, to_y: i64, to_z: i64) -> Option<Face>
-    ensures { face_number result ≡ facing_between x y z to_x to_y to_z }
+// The face of the step from one position to another, if it has one. Positions are any numbers.
+pub fn facing_between(from: (i64, i64, i64), to: (i64, i64, i64)) -> Option<Face>
+    ensures { face_number result ≡ facing_between from.0 from.1 from.2 to.0 to.1 to.2 }
 {
     face_of(
-        shift_between(x, to_x),
-        shift_between(y, to_y),
-        shift_between(z, to_z),
+        shift_between(from.0, to.0),
+        shift_between(from.1, to.1),
+        shift_between(from.2, to.2),
     )
 }

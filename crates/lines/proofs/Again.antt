@@ -2,7 +2,7 @@
 --     digits_within        digits that are accepted begin before the end of the text
 --     known_digit          a byte of them that is no LF is a digit, and the rest is accepted too
 --     magnitude_digits     an accepted magnitude is the digits after none
---     number_within, minus_accepted, plain_accepted, minus_some   an accepted number, by its sign
+--     number_within, known_minus, known_plain, known_some   an accepted number, by its sign
 --     key_passed           behind the key of an accepted line comes its number
 -- Assumes nothing.
 use Prim.Native.Nat.{ℕ, ◌+◌, ◌-◌, ◌*◌, ◌≤◌, ◌<◌}

@@ -1,4 +1,6 @@
 // The ends of port connections: the member of each, looked up once, and the first connection that lacks one.
+// Ports and ends stay two parameters, here and where they are read: the ends are lent to be filled, and what is known of them grows by stage
+// (`Settled`, `SettledEnds`, `SignalEnds`), so that a struct could hold no more than that there are enough.
 ghost use Rattle.std.specs.Prelude.{◌≡◌, List, ◌≤◌, ◌<◌, length, ℤ};
 ghost use Rattle.lists.specs.Records.{port_count};
 ghost use Rattle.lists.specs.Ids.{has_component, end_missing, first_end_missing, IdTable, smaller_ids};

@@ -45,7 +45,7 @@ fn position_of(keys: &[u64], hints: &Hints, id: u64) -> usize
     tables::lower_bound_near(keys, id * SPAN, usize::from(first), usize::from(second))
 }
 
-// What `place_of` gives, by the hints. Keys and hints go to two functions alone; where more stands on them, `scene`'s `Scene` holds both.
+// What `place_of` gives, by the hints. Keys and hints go to three functions alone; where more stands on them, `scene`'s `Scene` holds both.
 pub fn place_near(keys: &[u64], hints: &Hints, id: u64) -> Option<usize>
     requires { id < 4294967296 }
     ensures { (cs : List ℤ) → IdTable cs keys.now → result ≡ place_of cs id }

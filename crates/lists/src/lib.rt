@@ -1,6 +1,7 @@
 // The lists of a scene: what they may hold, where an id stands, the ends of port connections. Their refusals are crate checks.
-// `id < 2 ^ 32` stands at each function that takes an id, a number. `IdTable` is said of every list of components that a table of ids is
-// of, so that no struct holds the one.
+// `id < 2 ^ 32` stands at each function that takes an id: ids are numbers of a list, and as `u32` each would be cast here and back there.
+// `IdTable` is said of every list of components that a table of ids is of. Where one list is meant, `scene::Scene`, `liveness::Plot` and
+// `inputs::asked::Asked` hold both; what makes or first reads the table is lent it beside the list.
 // Lent slices stay parameters: a struct of `&mut` fields would owe a ghost name for what each is left as.
 #![tactic(auto)]
 

@@ -51,7 +51,7 @@ pub extern "C" fn probe_facing_between(
 ) -> u64
     ensures { result ≡ facing_between x y z to_x to_y to_z }
 {
-    facing_between(x, y, z, to_x, to_y, to_z).map_or(0, u64::from)
+    facing_between((x, y, z), (to_x, to_y, to_z)).map_or(0, u64::from)
 }
 
 // A refusal as one number, or the count of kept rows above its sixteen lowest bits.

@@ -97,7 +97,7 @@ impl Graph<'_> {
         self.enter(start, visited, stack, 0);
         let mut depth = 1;
         let mut done = count;
-        // By hand: the stack grows and shrinks as the walk goes, no range says how.
+        // By hand: the stack grows and shrinks as the walk goes, no range says how. Its pairs lie flat: it is the slice that a caller lends.
         while 0 < depth {
             let at = 2 * (depth - 1);
             let node = stack[at];

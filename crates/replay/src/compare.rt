@@ -100,6 +100,7 @@ fn list_names(keys: &[u64], set: ComponentSet, out: &mut [u64]) -> usize
     requires { member_limit ≤ length out.old }
     ensures { Written (names_below keys.now set.words member_limit) out.old out.new result }
 {
+    // Counted by hand: how many they are is the answer.
     let mut n: usize = 0;
     for m in set.members() {
         out[n] = name_of(keys, m);

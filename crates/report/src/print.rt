@@ -45,7 +45,8 @@ struct Groups<'a> {
     fragments: &'a [u64],
 }
 
-// The rows of the text.
+// The rows of the text. `AskedOf` is no ghost field of what is asked: it binds the lists that a text is of, and each `ensures` is of the same
+// ones.
 #[derive(Clone, Copy)]
 struct TextRows<'a> {
     components: &'a [u64],

@@ -51,9 +51,7 @@ impl Scene<'_> {
         requires { (a < component_count self.now.components.numbers.now) × (b < component_count self.now.components.numbers.now) }
         ensures { let cs = self.now.components.numbers.now in face_number result ≡ step_face (component cs a) (component cs b) }
     {
-        let (x, y, z) = self.components.position(a);
-        let (to_x, to_y, to_z) = self.components.position(b);
-        facing_between(x, y, z, to_x, to_y, to_z)
+        facing_between(self.components.position(a), self.components.position(b))
     }
 
     // The ports that a connection from component a to component b takes at its ends.

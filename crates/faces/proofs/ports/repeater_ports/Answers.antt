@@ -7,17 +7,17 @@ use Rattle.faces.proofs.ports.repeater_ports.Goals as goal
 pub returns-in-North : goal.returns-in-North
 unfolding opposite neither repeater_ports
 returns-in-North c =
-    rw (c.signal-output.ensures, c.signal-input.ensures, c.opposite.ensures, c.signal-east.ensures, c.signal-west.ensures)
+    rw (c.place-output.ensures, c.place-input.ensures, c.opposite.ensures, c.place-east.ensures, c.place-west.ensures)
     (⊎_elim (λ e. rw e) (λ e. rw e) c.in-North.is)
 
 pub returns-in-East : goal.returns-in-East
 unfolding opposite neither repeater_ports
 returns-in-East c =
-    rw (c.signal-output.ensures, c.signal-input.ensures, c.opposite.ensures, c.signal-north.ensures, c.signal-south.ensures)
+    rw (c.place-output.ensures, c.place-input.ensures, c.opposite.ensures, c.place-north.ensures, c.place-south.ensures)
     (⊎_elim (λ e. rw e) (λ e. rw e) c.in-East.is)
 
 pub returns-in-Up : goal.returns-in-Up
 unfolding opposite neither repeater_ports
 returns-in-Up c =
-    rw (c.signal-output.ensures, c.signal-input.ensures, c.opposite.ensures, c.signal-north.ensures, c.signal-east.ensures, c.signal-south.ensures, c.signal-west.ensures)
+    rw (c.place-output.ensures, c.place-input.ensures, c.opposite.ensures, c.place-north.ensures, c.place-east.ensures, c.place-south.ensures, c.place-west.ensures)
     (⊎_elim (λ e. rw e) (λ e. rw e) c.in-Up.is)
