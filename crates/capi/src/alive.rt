@@ -20,10 +20,10 @@ use sets::WORDS;
 // The sets of an answer.
 const SETS: usize = 4;
 
-// The numbers of the most port connections, and of so few that a smaller array serves.
+// The numbers of the most port connections, and of a quarter of them, so few that a smaller array serves.
 const PORT_NUMBERS: usize = CONNECTIONS * PORT;
 
-const FEW_PORT_NUMBERS: usize = 1024 * PORT;
+const FEW_PORT_NUMBERS: usize = PORT_NUMBERS / 4;
 
 // The lists of a scene, with no more components than the limit.
 #[derive(Clone, Copy)]

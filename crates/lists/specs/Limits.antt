@@ -12,6 +12,10 @@ connection_limit = 4096
 abbrev pub frontier_limit : ℕ
 frontier_limit = 256
 
+-- ids are below this
+abbrev pub id_limit : ℕ
+id_limit = 4294967296
+
 -- 2 ^ 10 components: a root of rank r has at least 2 ^ r places, so no rank passes 10
 abbrev pub rank_limit : ℕ
 rank_limit = 10

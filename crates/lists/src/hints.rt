@@ -3,6 +3,7 @@
 ghost use Rattle.std.specs.Prelude.{◌≡◌, ◌+◌, ◌*◌, ◌≤◌, ◌<◌, List, ℤ, length};
 ghost use Rattle.tables.specs.Order.{LowerBound};
 ghost use Rattle.tables.specs.Pairs.{span};
+ghost use Rattle.lists.specs.Limits.{id_limit};
 ghost use Rattle.lists.specs.Ids.{place_of, IdTable, smaller_ids};
 
 use super::IDS;
@@ -38,7 +39,7 @@ pub fn hint_ids(keys: &[u64], hints: &mut Hints)
 
 // The first position of the table whose key is of the id or above it.
 fn position_of(keys: &[u64], hints: &Hints, id: u64) -> usize
-    requires { id < 4294967296 }
+    requires { id < id_limit }
     ensures { LowerBound keys.now (id * span) result }
 {
     let [first, second] = hints[slot_of(id)];
@@ -47,7 +48,7 @@ fn position_of(keys: &[u64], hints: &Hints, id: u64) -> usize
 
 // What `place_of` gives, by the hints. Keys and hints go to three functions alone; where more stands on them, `scene`'s `Scene` holds both.
 pub fn place_near(keys: &[u64], hints: &Hints, id: u64) -> Option<usize>
-    requires { id < 4294967296 }
+    requires { id < id_limit }
     ensures { (cs : List ℤ) → IdTable cs keys.now → result ≡ place_of cs id }
 {
     found_at(keys, position_of(keys, hints, id), id)
@@ -55,7 +56,7 @@ pub fn place_near(keys: &[u64], hints: &Hints, id: u64) -> Option<usize>
 
 // What `member_of` gives, by the hints.
 pub fn member_near(keys: &[u64], hints: &Hints, id: u64) -> usize
-    requires { id < 4294967296 }
+    requires { id < id_limit }
     ensures { (cs : List ℤ) → IdTable cs keys.now → result ≡ smaller_ids cs id }
 {
     position_of(keys, hints, id)

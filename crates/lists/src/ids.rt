@@ -2,6 +2,7 @@
 ghost use Rattle.std.specs.Prelude.{◌≡◌, true, ◌+◌, ◌*◌, ◌≤◌, ◌<◌, length, take, ℤ, List};
 ghost use Rattle.tables.specs.Order.{LowerBound};
 ghost use Rattle.tables.specs.Pairs.{pair, span};
+ghost use Rattle.lists.specs.Limits.{id_limit};
 ghost use Rattle.lists.specs.Records.{component, component_count};
 ghost use Rattle.lists.specs.Ids.{place_of, has_component, used_earlier, first_repeated, IdTable};
 ghost use Rattle.lists.specs.Ids.{Unrepeated, smaller_ids, MemberPlace, MemberId};
@@ -33,7 +34,7 @@ pub fn id_table(components: ComponentList, keys: &mut [u64], spare: &mut [u64])
 // The list place of an id, given the first position of its key or of one above it.
 #[tactic(auto, using(crate::proofs::Table::place_found, crate::proofs::Table::place_none))]
 pub(crate) fn found_at(keys: &[u64], i: usize, id: u64) -> Option<usize>
-    requires { (id < 4294967296) × LowerBound keys.now (id * span) i }
+    requires { (id < id_limit) × LowerBound keys.now (id * span) i }
     ensures { (cs : List ℤ) → IdTable cs keys.now → result ≡ place_of cs id }
 {
     let key = *keys.get(i)?;
@@ -46,7 +47,7 @@ pub(crate) fn found_at(keys: &[u64], i: usize, id: u64) -> Option<usize>
 
 // The list place of an id.
 pub fn place_of(keys: &[u64], id: u64) -> Option<usize>
-    requires { id < 4294967296 }
+    requires { id < id_limit }
     ensures { (cs : List ℤ) → IdTable cs keys.now → result ≡ place_of cs id }
 {
     let i = tables::lower_bound(keys, id * SPAN);
@@ -55,7 +56,7 @@ pub fn place_of(keys: &[u64], id: u64) -> Option<usize>
 
 // Whether a component has the id.
 pub fn has_component(keys: &[u64], id: u64) -> bool
-    requires { id < 4294967296 }
+    requires { id < id_limit }
     ensures { (cs : List ℤ) → IdTable cs keys.now → result ≡ has_component cs id }
 {
     place_of(keys, id).is_some()
@@ -102,7 +103,7 @@ pub const SUPPORT: u64 = TransferKind::StructuralSupport as u64;
 
 // The member that stands for the component with the id: how many ids are below it.
 pub fn member_of(keys: &[u64], id: u64) -> usize
-    requires { id < 4294967296 }
+    requires { id < id_limit }
     ensures { (cs : List ℤ) → IdTable cs keys.now → result ≡ smaller_ids cs id }
 {
     tables::lower_bound(keys, id * SPAN)

@@ -2,7 +2,7 @@
 // a place is a number, and what it is below is this list's.
 ghost use Rattle.std.proofs.Props.{props};
 ghost use Rattle.std.specs.Prelude.{◌≡◌, ◌≤◌, ◌<◌};
-ghost use Rattle.lists.specs.Limits.{component_limit, connection_limit};
+ghost use Rattle.lists.specs.Limits.{component_limit, connection_limit, id_limit};
 ghost use Rattle.lists.specs.Records.{component, component_count, connection, connection_count, port_connection, port_count};
 ghost use Rattle.lists.specs.Within.{Components, Connections, PortConnections};
 
@@ -26,7 +26,7 @@ impl ComponentList<'_> {
 
     pub fn id(self, k: usize) -> u64
         requires { k < component_count self.numbers.now }
-        ensures { (result ≡ (component self.entry.numbers.now k).id) × (result < 4294967296) }
+        ensures { (result ≡ (component self.entry.numbers.now k).id) × (result < id_limit) }
     {
         natural_at(self.numbers, k * COMPONENT)
     }
@@ -90,14 +90,14 @@ impl ConnectionList<'_> {
 
     pub fn source(self, k: usize) -> u64
         requires { k < connection_count self.numbers.now }
-        ensures { (result ≡ (connection self.entry.numbers.now k).source) × (result < 4294967296) }
+        ensures { (result ≡ (connection self.entry.numbers.now k).source) × (result < id_limit) }
     {
         natural_at(self.numbers, k * CONNECTION)
     }
 
     pub fn sink(self, k: usize) -> u64
         requires { k < connection_count self.numbers.now }
-        ensures { (result ≡ (connection self.entry.numbers.now k).sink) × (result < 4294967296) }
+        ensures { (result ≡ (connection self.entry.numbers.now k).sink) × (result < id_limit) }
     {
         natural_at(self.numbers, k * CONNECTION + 1)
     }
@@ -127,14 +127,14 @@ impl PortList<'_> {
 
     pub fn source(self, k: usize) -> u64
         requires { k < port_count self.numbers.now }
-        ensures { (result ≡ (port_connection self.entry.numbers.now k).source) × (result < 4294967296) }
+        ensures { (result ≡ (port_connection self.entry.numbers.now k).source) × (result < id_limit) }
     {
         natural_at(self.numbers, k * PORT)
     }
 
     pub fn sink(self, k: usize) -> u64
         requires { k < port_count self.numbers.now }
-        ensures { (result ≡ (port_connection self.entry.numbers.now k).sink) × (result < 4294967296) }
+        ensures { (result ≡ (port_connection self.entry.numbers.now k).sink) × (result < id_limit) }
     {
         natural_at(self.numbers, k * PORT + 2)
     }
