@@ -6,24 +6,24 @@
 --     liveness_told_apart             the same of the liveness entry
 -- Assumes nothing.
 use Rattle.std.specs.Prelude.{⊤, Result, Ok, Err}
-use mathlib.Core.Path.{◌≡◌, refl, sym, ap, ◌∙◌}
-use mathlib.Core.List.{List, [], ◌∷◌, map, map-append}
+use mathlib.Core.Path.{◌≡◌, refl, sym, ◌∙◌}
+use mathlib.Core.List.{List, [], ◌∷◌, append-nil, map, map-append}
 use mathlib.Core.Logic.{◌↔◌}
-use Prim.Native.Nat.{ℕ, zero, suc, ◌+◌, ◌*◌, ◌/◌, ◌%◌, ◌^◌, ◌≤◌, ◌<◌}
+use Prim.Native.Nat.{ℕ, zero, suc, ◌*◌, ◌/◌, ◌%◌, ◌^◌, ◌≤◌, ◌<◌}
 use native.Mathlib.Omega.{arith}
-use lib.ListN.{length, get_or, take, drop}
-use lib.Seq.{take-suc, take-length, take_at, drop-append-add}
+use lib.ListN.{length, get_or, take}
+use lib.Seq.{take-suc, take-length}
 use lib.IntN.{pos, negsuc}
 use Rattle.lists.specs.Limits.{component_limit}
 use Rattle.checks.specs.Refusals.{Small, packed}
 use Rattle.lists.specs.declared.Refusal.{Refusal}
 use Rattle.lists.specs.Refusal.{fault_number, list_number}
 use Rattle.checks.proofs.Small.{fault_within, list_few}
-use Rattle.encoding.specs.Bytes.{number_bytes, little_endian, signed, first_numbers, numbers, low_bytes, bytes_of}
+use Rattle.encoding.specs.Bytes.{number_bytes, little_endian, word_at, signed, first_numbers, numbers, bytes_of}
 use Rattle.encoding.specs.Entry.{groups_refusal, groups_number, GroupsByBytes}
 use Rattle.capi.specs.Liveness.{liveness_bytes_refusal, liveness_number, LivenessByBytes}
 use Rattle.encoding.proofs.Reading.{signed_low}
-use Rattle.encoding.proofs.Writing.{length_low, length_bytes, read_written}
+use Rattle.encoding.proofs.Writing.{length_bytes, word_written}
 
 -- ---- bytes
 
@@ -37,20 +37,12 @@ minus_one : numbers (255 ∷ 255 ∷ 255 ∷ 255 ∷ 255 ∷ 255 ∷ 255 ∷ 255
 unfolding first_numbers signed little_endian
 minus_one = refl
 
-word_back : (ns : List ℕ) (k : ℕ) → k < length ns → take number_bytes (drop (k * number_bytes) (bytes_of ns)) ≡ low_bytes number_bytes (get_or ns k 0)
-unfolding bytes_of
-word_back [] k h = absurd (omega arith)
-word_back (n ∷ ns) zero h = take_at (low_bytes number_bytes n) (bytes_of ns) number_bytes (length_low number_bytes n)
-word_back (n ∷ ns) (suc k) h =
-    let e : suc k * number_bytes ≡ length (low_bytes number_bytes n) + k * number_bytes = omega (arith, length_low number_bytes n) in
-    rw (e, drop-append-add) (word_back ns k (omega arith))
-
 module _ (ns : List ℕ) (small : (i : ℕ) → get_or ns i 0 < 2 ^ 63) where
   first_back : (k : ℕ) → k ≤ length ns → first_numbers (bytes_of ns) k ≡ map pos (take k ns)
   unfolding first_numbers
   first_back zero h = refl
   first_back (suc k) h =
-      let word = ap little_endian (word_back ns k h) ∙ read_written number_bytes (get_or ns k 0) (omega (arith, small k)) in
+      let word : word_at (bytes_of ns) k ≡ get_or ns k 0 = rw append-nil at (word_written ns [] k h (small k)) in
       rw (word, signed_low (get_or ns k 0) (small k), first_back k (omega arith), take-suc ns k 0 h) (sym (map-append pos (take k ns) (get_or ns k 0 ∷ [])))
 
   pub read_back : numbers (bytes_of ns) ≡ map pos ns
@@ -116,5 +108,5 @@ pub liveness_told_apart : (components ports frontiers regions regions' sources s
     → LivenessByBytes components ports frontiers regions regions' sources sources' inputs inputs' sets sets' stack stack' r
     → (r % 65536 ≡ 0) ↔ (liveness_bytes_refusal components ports frontiers (length regions) (length sources) (length inputs) (length sets) (length stack) ≡ Ok tt)
 liveness_told_apart components ports frontiers regions regions' sources sources' inputs inputs' sets sets' stack stack' r laid_so =
-    rw laid_so.answer
+    rw laid_so.by.answer
     (liveness_told (liveness_bytes_refusal components ports frontiers (length regions) (length sources) (length inputs) (length sets) (length stack)) _ _ _)

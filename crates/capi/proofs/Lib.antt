@@ -1,3 +1,4 @@
 -- Lemmas for the proofs of this crate, and what a host can rely on (Laws).
 mod LivenessLaws
+mod Demands
 pub mod Laws

@@ -43,7 +43,7 @@ use Rattle.signals.proofs.Tabulated.{tab_length}
 use Rattle.liveness.proofs.Answers.{scene_of_lem}
 use Rattle.liveness.proofs.Demands.{signals_within}
 use Rattle.encoding.specs.Bytes.{number_bytes, numbers, bytes_of}
-use Rattle.capi.specs.Liveness.{liveness_whole, liveness_bytes_refusal, sets_of, LivenessLaid, LivenessByBytes}
+use Rattle.capi.specs.Liveness.{liveness_whole, liveness_bytes_refusal, sets_of, LivenessLaid, LivenessWritten}
 use Rattle.capi.specs.Written.{Written, LivenessByPlaces}
 use Rattle.encoding.proofs.Laid.{laid_front}
 
@@ -194,11 +194,11 @@ module _ (components ports frontiers : List ℕ) where
   module _ (regions regions' sources sources' inputs inputs' sets sets' stack stack' : List ℕ) (r : ℕ) where
     pub decoded_alive : (cs fs : List ℤ) → cs ≡ numbers components → fs ≡ numbers frontiers → liveness_whole components ports frontiers ≡ Ok tt
         → LivenessByPlaces cs (numbers ports) fs regions regions' sources sources' inputs inputs' sets sets' stack stack' r
-        → LivenessByBytes components ports frontiers regions regions' sources sources' inputs inputs' sets sets' stack stack' r
+        → LivenessWritten components ports frontiers regions regions' sources sources' inputs inputs' sets sets' stack stack' r
     decoded_alive cs fs ec ef e laid_so = rw e (rw (ec, ef) at laid_so)
 
   pub part_alive : (regions sources inputs sets stack : List ℕ) (refusal : Refusal) (r : ℕ) → liveness_whole components ports frontiers ≡ Err refusal → r ≡ packed (Err refusal)
-      → LivenessByBytes components ports frontiers regions regions sources sources inputs inputs sets sets stack stack r
+      → LivenessWritten components ports frontiers regions regions sources sources inputs inputs sets sets stack stack r
   part_alive regions sources inputs sets stack refusal r e f =
       refused_alive (liveness_bytes_refusal components ports frontiers (length regions) (length sources) (length inputs) (length sets) (length stack))
       (numbers components) (numbers ports) (numbers frontiers) regions sources inputs sets stack refusal r (rw e) f

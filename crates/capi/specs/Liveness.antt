@@ -3,14 +3,15 @@
 --     liveness_bytes_refusal    the refusal of the liveness entry, number 1 by bytes
 --     liveness_number          its answer as one number
 --     sets_of                  the words of its four sets
---     LivenessByBytes         what `dustroute_liveness` answers and leaves
+--     LivenessWritten         what is answered and left, by these definitions
+--     LivenessByBytes         what `dustroute_liveness` answers and leaves, and demand 3 of it
 -- Assumes nothing: these are definitions.
 use Rattle.lists.specs.declared.Fault.{Fault}
 use Rattle.lists.specs.declared.Section.{Section}
 use Rattle.std.specs.Prelude.{Some}
 use Rattle.std.specs.Prelude.{⊤, Result, Ok, Err}
 use Rattle.lists.specs.declared.Refusal.{Refusal}
-use Rattle.std.specs.Prelude.{ℕ, ◌+◌, ◌*◌, ◌/◌, ◌≡◌, ◌&&◌, List, ◌++◌, length, ℤ}
+use Rattle.std.specs.Prelude.{ℕ, ◌+◌, ◌*◌, ◌/◌, ◌%◌, ◌≡◌, ◌&&◌, List, ◌++◌, length, ℤ}
 use Rattle.sets.specs.Members.{word_count, words_of_set}
 use Rattle.lists.specs.Limits.{component_limit, connection_limit, frontier_limit, component_width, port_width, frontier_width}
 use Rattle.lists.specs.Records.{component_count}
@@ -20,7 +21,8 @@ use Rattle.regions.specs.Graph.{marked}
 use Rattle.signals.specs.Regions.{region_count, regions_of, is_cyclic, holds_drive}
 use Rattle.signals.specs.Drive.{drive, potential}
 use Rattle.assessment.specs.Verdicts.{source_rows, input_rows}
-use Rattle.encoding.specs.Bytes.{number_bytes, numbers, bytes_of}
+use Rattle.liveness.specs.Demand.{RegionsOfScene}
+use Rattle.encoding.specs.Bytes.{number_bytes, numbers, words, bytes_of}
 
 -- 1: the bytes of the three lists are whole records within their limits
 abbrev pub liveness_whole : List ℕ → List ℕ → List ℕ → Result ⊤ Refusal
@@ -70,9 +72,15 @@ pub record LivenessLaid (refusal : Result ⊤ Refusal) (cs ps fs : List ℤ)
   pub stack_left : stack' ≡ work_of refusal stack
 
 -- from the bytes of components, port connections and frontiers and five lent slices
-abbrev pub LivenessByBytes : List ℕ → List ℕ → List ℕ → List ℕ → List ℕ → List ℕ → List ℕ → List ℕ → List ℕ → List ℕ → List ℕ → List ℕ → List ℕ → ℕ → Type 0
-LivenessByBytes components ports frontiers regions regions' sources sources' inputs inputs' sets sets' stack stack' r =
+abbrev pub LivenessWritten : List ℕ → List ℕ → List ℕ → List ℕ → List ℕ → List ℕ → List ℕ → List ℕ → List ℕ → List ℕ → List ℕ → List ℕ → List ℕ → ℕ → Type 0
+LivenessWritten components ports frontiers regions regions' sources sources' inputs inputs' sets sets' stack stack' r =
     LivenessLaid
     (liveness_bytes_refusal components ports frontiers (length regions) (length sources) (length inputs) (length sets) (length stack))
     (numbers components) (numbers ports) (numbers frontiers)
     regions regions' sources sources' inputs inputs' sets sets' stack stack' r
+
+pub record LivenessByBytes (components ports frontiers regions regions' sources sources' inputs inputs' sets sets' stack stack' : List ℕ) (r : ℕ) : Type 0 where
+  pub by : LivenessWritten components ports frontiers regions regions' sources sources' inputs inputs' sets sets' stack stack' r
+  -- demand 3, on the bytes written and the count answered
+  pub demand : liveness_bytes_refusal components ports frontiers (length regions) (length sources) (length inputs) (length sets) (length stack) ≡ Ok tt
+      → RegionsOfScene (numbers components) (numbers ports) (words regions') (r / 65536 % 65536)

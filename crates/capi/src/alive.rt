@@ -7,7 +7,7 @@ ghost use Rattle.lists.specs.Records.{component_count};
 ghost use Rattle.checks.specs.Refusals.{room_for, liveness_lists, liveness_refusal, packed};
 ghost use Rattle.lists.specs.Slices.{laid};
 ghost use Rattle.encoding.specs.Bytes.{number_bytes, numbers, bytes_of};
-ghost use Rattle.capi.specs.Liveness.{set_count, liveness_whole, LivenessLaid, LivenessByBytes};
+ghost use Rattle.capi.specs.Liveness.{set_count, liveness_whole, LivenessLaid, LivenessWritten};
 ghost use Rattle.capi.specs.Written.{Written, WrittenRoom, RowRoom, LivenessByPlaces};
 
 use checks::refusals::{liveness_lists, pack, pack_refusal, room_for};
@@ -228,7 +228,7 @@ pub(crate) fn of_bytes(
     stack: &mut [u8],
 ) -> u64
     requires { liveness_whole components.now ports.now frontiers.now ≡ (Ok tt) }
-    ensures { LivenessByBytes components.now ports.now frontiers.now
+    ensures { LivenessWritten components.now ports.now frontiers.now
         regions.old regions.new sources.old sources.new inputs.old inputs.new sets.old sets.new stack.old stack.new result }
 {
     let mut component_numbers = [0i64; COMPONENTS * COMPONENT];

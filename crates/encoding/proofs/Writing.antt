@@ -3,6 +3,7 @@
 --     encode_more                 one number more
 --     bytes_then                  further numbers, after those at the front
 --     read_written                bytes that were written are read as the same number
+--     word_written                and each number of a list that was written, whatever stands behind it
 -- Assumes nothing.
 use mathlib.Core.Path.{◌≡◌, refl, ap, ◌∙◌}
 use mathlib.Core.List.{List, [], ◌∷◌, ◌++◌, append_assoc, append-nil}
@@ -11,10 +12,10 @@ use native.Mathlib.Nat.{pow-suc}
 use native.Mathlib.Numerals.{add-one}
 use native.Mathlib.Omega.{arith}
 use lib.ListN.{length, get_or, take, drop, length-append, length-take}
-use lib.Seq.{take-suc, take-append_seam, drop_at, drop-drop}
+use lib.Seq.{take-suc, take-append_seam, take_at, drop_at, drop-append-add, drop-drop}
 use borrow.Rule.Slice.PartMut.{put_mid}
 use Rattle.lists.specs.Slices.{laid}
-use Rattle.encoding.specs.Bytes.{number_bytes, little_endian, low_bytes, bytes_of}
+use Rattle.encoding.specs.Bytes.{number_bytes, little_endian, word_at, low_bytes, bytes_of}
 use Rattle.encoding.proofs.Laid.{laid_then}
 
 pub length_low : (k n : ℕ) → length (low_bytes k n) ≡ k
@@ -59,3 +60,14 @@ pub read_written : (k n : ℕ) → n < 256 ^ k → little_endian (low_bytes k n)
 unfolding little_endian low_bytes
 read_written zero n h = omega arith
 read_written (suc k) n h = omega (arith, read_written k (n / 256) (omega (arith, pow-suc 256 k)))
+
+number_there : (ns rest : List ℕ) (k : ℕ) → k < length ns → take number_bytes (drop (k * number_bytes) (bytes_of ns ++ rest)) ≡ low_bytes number_bytes (get_or ns k 0)
+unfolding bytes_of
+number_there [] rest k h = absurd (omega arith)
+number_there (n ∷ ns) rest zero h = rw append_assoc (take_at (low_bytes number_bytes n) (bytes_of ns ++ rest) number_bytes (length_low number_bytes n))
+number_there (n ∷ ns) rest (suc k) h =
+    let e : suc k * number_bytes ≡ length (low_bytes number_bytes n) + k * number_bytes = omega (arith, length_low number_bytes n) in
+    rw (append_assoc, e, drop-append-add) (number_there ns rest k (omega arith))
+
+pub word_written : (ns rest : List ℕ) (k : ℕ) → k < length ns → get_or ns k 0 < 2 ^ 63 → word_at (bytes_of ns ++ rest) k ≡ get_or ns k 0
+word_written ns rest k h small = ap little_endian (number_there ns rest k h) ∙ read_written number_bytes (get_or ns k 0) (omega (arith, small))

@@ -3,9 +3,11 @@
 --     little_endian       the number that bytes make, the lowest first
 --     signed             a number of 64 bits, read as a signed one
 --     numbers            the whole numbers of a list of bytes; an odd tail is not read
+--     words              the same, without their signs
 --     bytes_of            the bytes of a list of numbers
 -- Assumes nothing: these are definitions.
 use Rattle.std.specs.Prelude.{ℕ, zero, suc, ◌+◌, ◌*◌, ◌/◌, ◌%◌, ◌^◌, cond, List, [], ◌∷◌, ◌++◌, ltb, length, take, drop, ℤ, pos, ◌-ℤ◌}
+use Rattle.lists.specs.First.{tabulate}
 
 -- eight bytes to a number
 abbrev pub number_bytes : ℕ
@@ -32,6 +34,9 @@ first_numbers bytes (suc k) = first_numbers bytes k ++ (signed (word_at bytes k)
 
 abbrev pub numbers : List ℕ → List ℤ
 numbers bytes = first_numbers bytes (length bytes / number_bytes)
+
+abbrev pub words : List ℕ → List ℕ
+words bytes = tabulate (word_at bytes) (length bytes / number_bytes)
 
 -- ---- written
 

@@ -5,6 +5,7 @@
 --     chain_reach, reach_chain         a chain of port connections on ids is one of edges on members
 --     region_laid                      the region answered at a list place
 --     demand_3                         what holds of the regions
+--     same_regions                     and so of any list that begins with the same numbers
 -- Assumes nothing.
 use Rattle.std.specs.Prelude.{Option, Some, None}
 use mathlib.Core.Path.{◌≡◌, refl, sym, ap, ◌∙◌, subst}
@@ -200,3 +201,12 @@ demand_3 cs ps scene rest =
           let e : signals cs ps (member_of cs v) (member_of cs w) ≡ true = rw (source, sink) (led_edge cs ps k h s) in
           rw (laid v lv, laid w lw) (laws.rises (member_of cs v) (member_of cs w) e);
     }
+
+pub same_regions : (cs ps : List ℤ) (count : ℕ) {regions regions' : List ℕ} → ((v : ℕ) → v < component_count cs → get_or regions v 0 ≡ get_or regions' v 0)
+    → RegionsOfScene cs ps regions count → RegionsOfScene cs ps regions' count
+same_regions cs ps count e d = record {
+  same = λ v w h l. (λ f. (d.same v w h l).0 (e v h ∙ f ∙ sym (e w l)), λ m. sym (e v h) ∙ (d.same v w h l).1 m ∙ e w l);
+  below = λ v h. rw (sym (e v h)) (d.below v h);
+  onto = λ r h. let p = d.onto r h in (p.0, p.1, sym (e p.0 p.1) ∙ p.2);
+  rises = λ k v w h s lv lw source sink. rw (sym (e v lv), sym (e w lw)) (d.rises k v w h s lv lw source sink);
+}

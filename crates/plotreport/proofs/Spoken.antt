@@ -18,7 +18,7 @@ use lib.ListN.{length, length-append}
 use borrow.Author.Tests.{le-leb, lt-leb, leb-true}
 use Rattle.checks.specs.Refusals.{refuse, too_short, sheet_refusal, ◌or_else◌}
 use Rattle.lists.specs.declared.Refusal.{Refusal}
-use Rattle.checks.proofs.Chain.{both_accept}
+use Rattle.checks.proofs.Chain.{refused_not, both_accept}
 use Rattle.lines.specs.Text.{ascii}
 use Rattle.lines.specs.Decimal.{digits_then, line_of}
 use Rattle.lines.proofs.Writing.{line_size}
@@ -54,7 +54,7 @@ refusal_room r =
 -- ---- the first stage
 
 pub long_sheet : (text out : List ℕ) → sheet_bytes < length text → ProgramPrinted text out out (Err (record { fault = Fault.ListLength; list = None; item = sheet_bytes }))
-long_sheet text out h = let e = lt-leb (length text) sheet_bytes h in record { by = record { answer = rw e; numbers = rw e; left = rw e } }
+long_sheet text out h = let e = lt-leb (length text) sheet_bytes h in record { by = record { answer = rw e; numbers = rw e; left = rw e }; demand = λ f. absurd (refused_not (rw e at f)) }
 
 pub short_sheet : (text : List ℕ) {later : Result ⊤ Refusal} → length text ≤ sheet_bytes → refuse Fault.ListLength None (too_long_sheet text) or_else later ≡ later
 short_sheet text h = let e = le-leb (length text) sheet_bytes h in rw e

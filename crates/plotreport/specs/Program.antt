@@ -4,14 +4,15 @@
 --     ProgramPrinted     what is answered to the bytes read, at most one more than a sheet may have
 -- Assumes nothing: these are definitions.
 use Rattle.lists.specs.declared.Fault.{Fault}
-use Rattle.std.specs.Prelude.{⊤, Option, Some, None, Result}
+use Rattle.std.specs.Prelude.{⊤, Option, Some, None, Result, Ok}
 use Rattle.lists.specs.declared.Refusal.{Refusal}
-use Rattle.std.specs.Prelude.{ℕ, ◌*◌, cond, List, leb, length}
+use Rattle.std.specs.Prelude.{ℕ, ◌*◌, ◌≡◌, cond, List, leb, length}
 use Rattle.lists.specs.Limits.{component_width, connection_width, frontier_width}
 use Rattle.checks.specs.Refusals.{refuse, ◌or_else◌}
 use Rattle.sheet.specs.Sheet.{Parsed, parse}
 use Rattle.sheet.specs.Entry.{components_of, connections_of, frontiers_of}
-use Rattle.report.specs.Report.{report_of}
+use Rattle.report.specs.Report.{kept_list, report_of}
+use Rattle.report.specs.Demand.{RegionsPrinted}
 use Rattle.report.specs.Entry.{report_checked, PrintedBy}
 
 -- ---- the program's limits
@@ -44,3 +45,6 @@ program_checked text room =
 
 pub record ProgramPrinted (text out out' : List ℕ) (r : Result ℕ Refusal) : Type 0 where
   pub by : PrintedBy (program_checked text (length out)) (report_of (components_of (parsed_by text)) (connections_of (parsed_by text)) (frontiers_of (parsed_by text))) out out' r
+  -- demand 3, on the numbers printed
+  pub demand : program_checked text (length out) ≡ Ok tt
+      → RegionsPrinted (components_of (parsed_by text)) (kept_list (components_of (parsed_by text)) (connections_of (parsed_by text))) out'

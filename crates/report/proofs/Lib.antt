@@ -7,3 +7,4 @@ pub mod ReadLists
 pub mod Scenes
 pub mod Assembled
 pub mod SheetLaws
+pub mod ReadBack

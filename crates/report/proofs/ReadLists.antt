@@ -19,8 +19,9 @@ use Rattle.sheet.specs.Entry.{components_of, connections_of, frontiers_of, sheet
 use Rattle.sheet.specs.declared.Counts.{Counts}
 use Rattle.sheet.proofs.Grammar.{parse_within}
 use Rattle.report.specs.Report.{report_of}
-use Rattle.report.specs.Entry.{lists_checked, PrintedBy, Reported}
+use Rattle.report.specs.Entry.{lists_checked, report_checked, PrintedBy, Reported}
 use Rattle.report.proofs.Scenes.{front_long, front_is}
+use Rattle.report.proofs.ReadBack.{demand_printed}
 
 -- ---- the answer
 
@@ -102,10 +103,12 @@ pub reported : (p : Parsed) {a a' b b' c c' cs ps fs : List ℤ} {i j k : ℕ} {
     → j ≡ length b → b' ≡ replicate j (pos 0)
     → k ≡ length c → c' ≡ replicate k (pos 0)
     → Reported p a a' b b' c c' out out' r
-reported p good e f g q i u j v k w =
+reported p {a = a} {b = b} {c = c} good e f g q i u j v k w =
     let same = same_printed e f g q in
+    let printed : PrintedBy (report_checked p (length a) (length b) (length c) _) _ _ _ _ = record { answer = rw good same.answer; numbers = rw good same.numbers; left = rw good same.left } in
     record {
-      printed = record { answer = rw good same.answer; numbers = rw good same.numbers; left = rw good same.left };
+      printed = printed;
+      demand = demand_printed p (length a) (length b) (length c) printed;
       components_left = rw good (rw i at u);
       connections_left = rw good (rw j at v);
       frontiers_left = rw good (rw k at w);

@@ -157,7 +157,7 @@ sheet_numbers components connections frontiers text a b c room r e =
 
 -- ---- demand 3
 
--- `component_row` prints the region of each component, and `regions=` how many there are
+-- `component_row` prints the region of each component, and `regions=` how many there are (ReadBack)
 pub report_demand : (cs ps fs : List ℤ) → sheet_refusal cs ps fs ≡ Ok tt → (rest : List ℕ)
     → RegionsOfScene cs (kept_list cs ps) (regions_of cs (kept_list cs ps) ++ rest) (region_count cs (kept_list cs ps))
 report_demand cs ps fs e rest = demand_3 cs (kept_list cs ps) (kept_scene cs ps fs e) rest

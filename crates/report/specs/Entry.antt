@@ -13,7 +13,8 @@ use Rattle.checks.specs.Refusals.{refuse, too_short, sheet_refusal, ◌or_else�
 use Rattle.lists.specs.Slices.{left_of}
 use Rattle.sheet.specs.Sheet.{Parsed}
 use Rattle.sheet.specs.Entry.{components_of, connections_of, frontiers_of, sheet_checked}
-use Rattle.report.specs.Report.{report_of}
+use Rattle.report.specs.Report.{kept_list, report_of}
+use Rattle.report.specs.Demand.{RegionsPrinted}
 
 -- ---- the stages
 
@@ -57,6 +58,9 @@ list_by (Err r) old = old
 pub record Reported (p : Parsed) (components components' connections connections' frontiers frontiers' : List ℤ) (out out' : List ℕ) (r : Result ℕ Refusal) : Type 0 where
   pub printed : PrintedBy (report_checked p (length components) (length connections) (length frontiers) (length out))
       (report_of (components_of p) (connections_of p) (frontiers_of p)) out out' r
+  -- demand 3, on the numbers printed
+  pub demand : report_checked p (length components) (length connections) (length frontiers) (length out) ≡ Ok tt
+      → RegionsPrinted (components_of p) (kept_list (components_of p) (connections_of p)) out'
   pub components_left : components' ≡ list_by (sheet_checked p (length components) (length connections) (length frontiers)) components
   pub connections_left : connections' ≡ list_by (sheet_checked p (length components) (length connections) (length frontiers)) connections
   pub frontiers_left : frontiers' ≡ list_by (sheet_checked p (length components) (length connections) (length frontiers)) frontiers

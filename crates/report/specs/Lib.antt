@@ -1,4 +1,5 @@
 -- What the contracts cite. To be read in this order.
 pub mod Report
+pub mod Demand
 pub mod Entry
 pub mod Printing

@@ -2,7 +2,7 @@
 -- Assumes nothing.
 use Rattle.std.specs.Prelude.{⊤, Result}
 use Rattle.lists.specs.declared.Refusal.{Refusal}
-use mathlib.Core.Path.{sym, subst}
+use mathlib.Core.Path.{sym, subst, ◌∙◌}
 use Rattle.sheet.specs.Entry.{components_of, connections_of, frontiers_of}
 use Rattle.report.specs.Report.{report_of}
 use Rattle.report.specs.Entry.{PrintedBy}
@@ -21,4 +21,5 @@ returns c =
     record {
       by = subst (λ (checks : Result ⊤ Refusal). PrintedBy checks (report_of (components_of p) (connections_of p) (frontiers_of p)) a.out.now report.new.out report.result)
           (sym (short_sheet a.text.now c.if-text-gt-BYTES.false)) report.ensures.printed;
+      demand = λ e. report.ensures.demand (sym (short_sheet a.text.now c.if-text-gt-BYTES.false) ∙ e);
     }
