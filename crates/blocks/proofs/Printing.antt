@@ -1,25 +1,19 @@
 -- Writers at a position, whatever room there is.
---     sum_fits, sum_past            whether there is room
---     printed_put, printed_inside     where there was
+--     sum_fits, sum_past              whether there is room
+--     printed_end, printed_inside     where a text ends that had room
 --     printed_then, printed_none      what two wrote, one behind the other; nothing
---     printed_fits, printed_past      a line that is written, and one that is only counted
---     natural_line, natural_end       the line of a number with no sign, and where it ends
 --     Going, goes_on, goes_done       a text written a piece at a time
 -- Assumes nothing.
 use mathlib.Core.Path.{◌≡◌, refl, sym, ap, ◌∙◌}
 use mathlib.Core.Logic.{⊎_elim}
-use mathlib.Core.List.{List, [], ◌∷◌, ◌++◌, append_assoc, append-nil}
-use Prim.Native.Nat.{ℕ, ◌+◌, ◌^◌, ◌≤◌, ◌<◌}
+use mathlib.Core.List.{List, [], ◌++◌, append_assoc, append-nil}
+use Prim.Native.Nat.{ℕ, ◌+◌, ◌≤◌, ◌<◌}
 use native.Mathlib.Omega.{arith}
 use Rattle.std.specs.Prelude.{min}
 use Rattle.std.proofs.Math.Nat.{min-eq_left, min-eq_right, min-le_left}
-use lib.ListN.{length, length-append, take-append-drop}
+use lib.ListN.{length, take, drop, length-append, take-append-drop}
+use lib.Seq.{length-take-le, take_at, drop_at, drop-drop}
 use Rattle.tables.specs.Laws.{order?}
-use lib.IntN.{pos}
-use Rattle.lines.specs.Decimal.{digits, line_of}
-use Rattle.lines.specs.Wrote.{Put}
-use Rattle.lines.proofs.Digits.{digits_append, count_most, length_of_digits}
-use Rattle.lines.proofs.Writing.{put_length, put_put, line_size}
 use Rattle.blocks.specs.Printed.{greatest, Printed}
 
 -- ---- whether there is room
@@ -36,12 +30,27 @@ sum_fits {sum} {n} {room} e h l =
 pub sum_past : {sum n room : ℕ} → n ≡ min sum greatest → room < n → room < sum
 sum_past {sum} e h = omega (arith, e, h, min-le_left sum greatest)
 
-module _ {at : ℕ} {s a b : List ℕ} {n : ℕ} (p : Printed at s a b n) where
-  pub printed_put : at + length s ≤ length a → Put at s a b n
-  printed_put h = record { room = h; bytes = p.bytes h; count = p.count ∙ min-eq_left (omega (arith, h, p.short)) }
+module _ {at : ℕ} {s a b : List ℕ} {n : ℕ} (p : Printed at s a b n) (h : at + length s ≤ length a) where
+  pub printed_end : n ≡ at + length s
+  printed_end = p.count ∙ min-eq_left (omega (arith, h, p.short))
 
-  pub printed_inside : at + length s ≤ length a → n ≤ length b
-  printed_inside h = omega (arith, (printed_put h).count, h, p.long)
+  pub printed_inside : n ≤ length b
+  printed_inside = omega (arith, printed_end, h, p.long)
+
+  whole : b ≡ (take at a ++ s) ++ drop (at + length s) a
+  whole = p.bytes h ∙ sym (append_assoc (take at a) s _)
+
+  ahead : length (take at a ++ s) ≡ n
+  ahead = rw (length-append, length-take-le at a (omega (arith, h))) (sym printed_end)
+
+  -- what stands before its end, and behind
+  before_end : take n b ≡ take at a ++ s
+  before_end = ap (take n) whole ∙ take_at (take at a ++ s) _ n ahead
+
+  behind_end : (k : ℕ) → drop (n + k) b ≡ drop (at + (length s + k)) a
+  behind_end k =
+      sym (drop-drop k n b) ∙ ap (drop k) (ap (drop n) whole ∙ drop_at (take at a ++ s) _ n ahead) ∙ drop-drop k (at + length s) a
+      ∙ ap (λ (m : ℕ). drop m a) (omega arith)
 
 -- ---- one behind the other
 
@@ -59,42 +68,15 @@ printed_then {at} {s} {a} {b} {t} {c} {n} {m} p q =
           q.count ∙ min-eq_right (omega (arith, p.count, last)) ∙ sym (min-eq_right (omega (arith, l, both))))
           (order? (at + length s) greatest);
       bytes = λ h.
-          let first = printed_put p (omega (arith, h, both)) in
-          (put_put first (printed_put q (omega (arith, h, both, first.count, p.long)))).bytes;
+          let first : at + length s ≤ length a = omega (arith, h, both) in
+          let second : n + length t ≤ length b = omega (arith, h, both, printed_end p first, p.long) in
+          q.bytes second ∙ rw (before_end p first, behind_end p first (length t), both) (simp append_assoc);
     }
 
 pub printed_none : (at : ℕ) (a : List ℕ) → length a < greatest → at ≤ greatest → Printed at [] a a at
 printed_none at a h l =
     let same : at + 0 ≡ at = omega arith in
     record { short = h; long = refl; count = rw same (sym (min-eq_left l)); bytes = λ e. rw same (sym (take-append-drop at a)) }
-
--- ---- a line
-
--- a line that is written, and one that is only counted
-pub printed_fits : {at n m : ℕ} {s a b : List ℕ} → length a < greatest → n ≡ min (at + length s) greatest → Put at s a b m
-    → Printed at s a b n
-printed_fits h e p = record { short = h; long = put_length p; count = e; bytes = λ _. p.bytes }
-
-pub printed_past : {at n : ℕ} {s a : List ℕ} → length a < greatest → n ≡ min (at + length s) greatest → length a < n → Printed at s a a n
-printed_past h e l = let past = sum_past e l in record { short = h; long = refl; count = e; bytes = λ r. absurd (omega (arith, r, past)) }
-
-pub put_inside : {at n : ℕ} {s a b : List ℕ} → Put at s a b n → n ≤ length b
-put_inside p = omega (arith, p.count, p.room, put_length p)
-
-module _ (key : List ℕ) (value : ℕ) where
-  -- a key, its sign, digits and the line feed
-  pub natural_line : key ++ ((61 ∷ []) ++ (digits value [] ++ (10 ∷ []))) ≡ line_of key (pos value)
-  natural_line = ap (λ (t : List ℕ). key ++ 61 ∷ t) (digits_append 19 value [] (10 ∷ []))
-
-  module _ (k : ℕ) (e : k ≡ length (digits value [])) where
-    pub natural_few : value < 2 ^ 64 → k < 21
-    natural_few f = omega (arith, e, length_of_digits value f [], count_most value f)
-
-    pub natural_end : (at : ℕ) {n : ℕ} → n ≡ min (at + (length key + k + 2)) greatest
-        → n ≡ min (at + length (line_of key (pos value))) greatest
-    natural_end at h =
-        let size : length (line_of key (pos value)) ≡ length key + k + 2 = omega (arith, e, line_size key (pos value)) in
-        rw size h
 
 -- ---- a text written a piece at a time
 

@@ -3,7 +3,7 @@ ghost use Rattle.std.specs.Prelude.{[], ◌∷◌, pos};
 ghost use Rattle.lines.specs.Decimal.{digits, line_of};
 ghost use Rattle.blocks.specs.Printed.{Printed};
 
-use lines::write::{digit_count, put_byte, put_bytes, put_digits};
+use lines::write::{digit_count, line_length, put_bytes, put_digits, write_line};
 
 pub(crate) fn put_text(out: &mut [u8], at: usize, bytes: &[u8]) -> usize
     ensures { Printed at bytes.now out.old out.new result }
@@ -34,17 +34,13 @@ pub(crate) fn put_decimal(out: &mut [u8], at: usize, n: u64) -> usize
     end
 }
 
-// The line of a key and a number with no sign. Nearly all of a report is such lines, so one test of the room serves the whole line, and is plainer than four.
-#[tactic(auto, using(crate::proofs::Printing::natural_few))]
+// The line of a key and a number with no sign. Nearly all of a report is such lines, so one test of the room serves the whole line.
 pub(crate) fn put_natural(out: &mut [u8], at: usize, key: &[u8], value: u64) -> usize
     ensures { Printed at (line_of key.now (pos value)) out.old out.new result }
 {
-    let end = at.saturating_add(key.len() + digit_count(value) + 2);
+    let end = at.saturating_add(line_length(key, value));
     if end <= out.len() {
-        let a = at + put_bytes(&mut out[at..], key);
-        let b = a + put_byte(&mut out[a..], b'=');
-        let c = b + put_digits(&mut out[b..], value);
-        put_byte(&mut out[c..], b'\n');
+        write_line(&mut out[at..], key, value);
     }
     end
 }

@@ -1,8 +1,7 @@
 -- The steps of `find`.
 --     gap_falls       the measure falls from a place to its parent
 --     flatten         a place whose parent becomes its root: the same forest
---     own_found       v is its own parent, and so its root
---     near_found      v's parent is a root
+--     near_found      v's parent is a root, as where v is one
 --     parent_found    what was found of v's parent is found of v, once v has it for a parent
 -- Assumes nothing.
 use Prim.Native.Nat.{ℕ, zero, suc, ◌-◌, ◌<◌}
@@ -45,14 +44,6 @@ flatten parents ranks f v h rep =
         rw (stored_same parents v (root f v) fits w e, e)
         record { below = here.below; same = here.fixed; own = λ p. p; rises = here.rises }
     at w hw (inr n) = rw (stored_other parents v (root f v) fits w n) (rep.linked w hw)
-
-pub own_found : (parents ranks : List ℕ) (v : ℕ) → v < component_limit → get_or parents v 0 ≡ v → Found parents parents ranks v v
-own_found parents ranks v h e =
-    record {
-      below = h;
-      finds = λ f rep. (sym ((rep.linked v h).own e), rep);
-      flat = λ k. ap (λ (w : ℕ). get_or parents w 0) (follow_own parents k v e) ∙ e;
-    }
 
 pub near_found : (parents ranks : List ℕ) (v : ℕ) → v < component_limit → IsForest parents ranks → get_or parents (get_or parents v 0) 0 ≡ get_or parents v 0
     → Found parents parents ranks v (get_or parents v 0)

@@ -1,6 +1,6 @@
 // Union-find by Tarjan over the list places of a scene's components: union by rank, with chains flattened by `find`;
 // and the numbers of the groups.
-ghost use Rattle.std.specs.Prelude.{◌≡◌, ℕ, ◌<◌, ◌≤◌, length, slice_index};
+ghost use Rattle.std.specs.Prelude.{◌≡◌, ◌≢◌, ℕ, ◌<◌, ◌≤◌, length, slice_index, get_or};
 ghost use Rattle.lists.specs.Limits.{component_limit};
 ghost use Rattle.circuit.specs.Forest.{root, singletons, unite, IsForest, Found};
 ghost use Rattle.circuit.specs.Groups.{roots_below, groups_of, RootNumbers, RootsWithin};
@@ -8,22 +8,10 @@ ghost use Rattle.circuit.specs.Groups.{roots_below, groups_of, RootNumbers, Root
 use lists::COMPONENTS;
 use std::marker::Model;
 
-// The root of v. Each place on the way to it gets it for a parent. Over the arrays, since a forest does not show its chains.
+// The root of v, by recursion up the parents: each place on the way to it gets it for a parent. A root and a root's child are answered
+// with nothing written, and a grandchild with no call. Over the arrays, since a forest does not show its chains.
+#[cycle(find)]
 fn find(parents: &mut [usize; COMPONENTS], ranks: &[usize; COMPONENTS], v: usize) -> usize
-    requires { (v < component_limit) × IsForest parents.old ranks.now }
-    ensures { Found parents.old parents.new ranks.now v result }
-{
-    let parent = parents[v];
-    if parent == v {
-        return v;
-    }
-    let top = find(parents, ranks, parent);
-    parents[v] = top;
-    top
-}
-
-// What `find` gives and does, without a call where v has at most two steps to its root.
-fn root_of(parents: &mut [usize; COMPONENTS], ranks: &[usize; COMPONENTS], v: usize) -> usize
     requires { (v < component_limit) × IsForest parents.old ranks.now }
     ensures { Found parents.old parents.new ranks.now v result }
 {
@@ -36,7 +24,21 @@ fn root_of(parents: &mut [usize; COMPONENTS], ranks: &[usize; COMPONENTS], v: us
         parents[v] = top;
         return top;
     }
-    find(parents, ranks, v)
+    find_above(parents, ranks, v)
+}
+
+// The root of v, which is none itself, by its parent's. A function of its own, since a `find` that called itself would be made part of no
+// caller, and groups would take a third longer.
+#[cycle(find)]
+#[inline(never)]
+fn find_above(parents: &mut [usize; COMPONENTS], ranks: &[usize; COMPONENTS], v: usize) -> usize
+    requires { (v < component_limit) × IsForest parents.old ranks.now × (get_or parents.old v 0 ≢ v) }
+    ensures { Found parents.old parents.new ranks.now v result }
+{
+    let parent = parents[v];
+    let root = find(parents, ranks, parent);
+    parents[v] = root;
+    root
 }
 
 // The parent and the rank of each place, as the paper has them. A root is its own parent. Two arrays: a chain is followed through the
@@ -80,7 +82,7 @@ impl UnionFind {
         ensures root { result ≡ root self.old v }
         ensures kept { self.new ≡ self.old }
     {
-        root_of(&mut self.parents, &self.ranks, v)
+        find(&mut self.parents, &self.ranks, v)
     }
 
     // Joins the group of left, a connection's source, and that of right, its sink: the root of lower rank goes under the

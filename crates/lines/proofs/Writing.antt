@@ -2,16 +2,13 @@
 -- what both wrote. Assumes nothing.
 use Prim.Native.Nat.{ℕ, suc, ◌+◌, ◌-◌, ◌≤◌, ◌<◌}
 use native.Mathlib.Omega.{arith}
-use mathlib.Core.Path.{◌≡◌, refl, sym, ap, ◌∙◌}
+use mathlib.Core.Path.{◌≡◌, sym}
 use mathlib.Core.List.{List, [], ◌∷◌, ◌++◌, append_assoc, append-nil}
-use lib.ListN.{length, take, drop, set, get_or, length-append, length-drop, take-append-drop}
-use lib.Seq.{length-take-le, drop-cons, set_at, append_snoc, take_at, drop_at, take-length, drop-drop, drop-length}
-use lib.IntN.{ℤ, pos, negsuc, nat_abs}
-use lib.Signed.{lt_z}
-use mathlib.Core.Bool.{true, false}
-use borrow.Author.Tests.{ltb-true}
+use lib.ListN.{length, take, drop, set, get_or, length-append, length-drop}
+use lib.Seq.{drop-cons, set_at, append_snoc, take_at, drop_at, take-length, drop-drop, drop-length}
+use lib.IntN.{ℤ, pos}
 use Rattle.lines.specs.Decimal.{digits, number, line_of}
-use Rattle.lines.specs.Wrote.{Wrote, Put}
+use Rattle.lines.specs.Wrote.{Wrote}
 use Rattle.lines.proofs.Digits.{last_digits, digits_append, digits_few, back_start, digit_set}
 use Rattle.lines.proofs.Grammar.{number_append}
 
@@ -75,77 +72,17 @@ room_then {s} {a} {b} {n} p t h =
 
 -- ---- the parts of a line
 
-pub number_minus : (z : ℤ) → lt_z z (pos 0) ≡ true → number z [] ≡ (45 ∷ []) ++ digits (nat_abs z) []
-number_minus (pos n) e = absurd (omega (arith, ltb-true n 0 e))
-number_minus (negsuc n) e = refl
-
-pub number_plain : (z : ℤ) → lt_z z (pos 0) ≡ false → number z [] ≡ digits (nat_abs z) []
-number_plain (pos n) e = refl
-number_plain (negsuc n) e = cc
-
 pub line_parts : (key : List ℕ) (z : ℤ) → key ++ (61 ∷ []) ++ number z [] ++ (10 ∷ []) ≡ line_of key z
 line_parts key z = simp (append_assoc, number_append z [] (10 ∷ []))
 
 pub line_size : (key : List ℕ) (z : ℤ) → length (line_of key z) ≡ length key + 1 + length (number z []) + 1
 line_size key z = rw (← line_parts key z) (simp length-append)
 
--- the same by the magnitude's digits
-module _ (key : List ℕ) (z : ℤ) where
-  pub minus_size : lt_z z (pos 0) ≡ true → length (line_of key z) ≡ length key + length (digits (nat_abs z) []) + 3
-  minus_size e = omega (arith, line_size key z, ap length (number_minus z e))
+-- the same of a number with no sign
+pub natural_size : (key : List ℕ) (n : ℕ) → length (line_of key (pos n)) ≡ length key + length (digits n []) + 2
+natural_size key n = omega (arith, line_size key (pos n))
 
-  pub plain_size : lt_z z (pos 0) ≡ false → length (line_of key z) ≡ length key + length (digits (nat_abs z) []) + 2
-  plain_size e = omega (arith, line_size key z, ap length (number_plain z e))
-
-pub ruleset line_sizes = (minus_size, plain_size, digits_few)
-
--- ---- writers at a position
-
-pub room_put : (at : ℕ) (s before : List ℕ) → at + length s ≤ length before → length s ≤ length (lent before at)
-room_put at s before h = rw (← length-drop at before, take-length (drop at before)) (omega (arith, length-drop at before))
-
-put_front : {at : ℕ} {s a b : List ℕ} {n : ℕ} → Put at s a b n → b ≡ take at a ++ laid s (drop at a)
-put_front {at} {s} {a} p = p.bytes ∙ rw (drop-drop (length s) at a)
-
--- what is written over the front of the rest, and comes back, is put at the position
-pub wrote_put : (at : ℕ) (s before ys : List ℕ) (m : ℕ) → at ≤ length before → Wrote s (lent before at) ys m → Put at s before (back before at ys) (at + m)
-wrote_put at s before ys m h w =
-    let l : length before - at ≡ length (drop at before) = sym (length-drop at before) in
-    let r : lent before at ≡ drop at before = rw l (take-length (drop at before)) in
-    let k : length s ≤ length (drop at before) = rw r at w.room in
-    record {
-      room = omega (arith, length-drop at before);
-      bytes = rw (w.bytes, r, l, drop-length (drop at before), append-nil, drop-drop (length s) at before);
-      count = omega arith;
-    }
-
--- two writers at positions, the second where the first ended
-module _ {at : ℕ} {s a b : List ℕ} {n : ℕ} (p : Put at s a b n) where
-  ahead : length (take at a ++ s) ≡ n
-  ahead = rw (length-append, length-take-le at a (omega (arith, p.room))) (omega (arith, p.count))
-
-  parts : b ≡ (take at a ++ s) ++ drop (length s) (drop at a)
-  parts = put_front p ∙ sym (append_assoc (take at a) s _)
-
-  pub put_length : length b ≡ length a
-  put_length =
-      let h : length s ≤ length (drop at a) = omega (arith, p.room, length-drop at a) in
-      rw (put_front p, length-append, length_laid s (drop at a) h, ← length-append, take-append-drop)
-
-  pub put_room : (t : List ℕ) → at + length (s ++ t) ≤ length a → n + length t ≤ length b
-  put_room t h = omega (arith, put_length, p.count, length-append s t)
-
-  pub put_put : {t c : List ℕ} {m : ℕ} → Put n t b c m → Put at (s ++ t) a c m
-  put_put {t} {c} {m} q =
-      let x : take n b ≡ take at a ++ s = rw parts (take_at (take at a ++ s) _ n ahead) in
-      let y : drop n b ≡ drop (length s) (drop at a) = rw parts (drop_at (take at a ++ s) _ n ahead) in
-      record {
-        room = omega (arith, put_length, q.room, p.count, length-append s t);
-        bytes = rw (put_front q, x, y, drop-drop (length t) (length s) (drop at a), drop-drop (length s + length t) at a, length-append s t) (simp append_assoc);
-        count = omega (arith, q.count, p.count, length-append s t);
-      }
-
-pub ruleset placed = (room_put, wrote_put)
+pub ruleset line_sizes = (natural_size, digits_few)
 
 -- ---- digits, written from the last to the first
 

@@ -1,7 +1,7 @@
 -- A text written into a lent buffer (document 01, "The sheet and the program": "each report line is written into the unused rest of the
 -- lent buffer").
 -- Assumes nothing: these are definitions.
-use Rattle.std.specs.Prelude.{◌≡◌, List, ◌++◌, ℕ, ◌+◌, ◌≤◌, length, take, drop}
+use Rattle.std.specs.Prelude.{◌≡◌, List, ◌++◌, ℕ, ◌≤◌, length, drop}
 
 -- what each writer ensures: the bytes s, for which there was room in `before`, stand at its front, the rest is as it was, and n says how
 -- many they are
@@ -9,9 +9,3 @@ pub record Wrote (s before after : List ℕ) (n : ℕ) : Type 0 where
   pub room : length s ≤ length before
   pub bytes : after ≡ s ++ drop (length s) before
   pub count : n ≡ length s
-
--- what a writer at a position ensures: the bytes s stand from `at` on, the rest is as it was, and they end at n
-pub record Put (at : ℕ) (s before after : List ℕ) (n : ℕ) : Type 0 where
-  pub room : at + length s ≤ length before
-  pub bytes : after ≡ take at before ++ (s ++ drop (at + length s) before)
-  pub count : n ≡ at + length s

@@ -10,7 +10,7 @@ use native.Mathlib.Omega.{arith}
 use lib.ListN.{length, drop}
 use borrow.Author.Tests.{le-leb, lt-leb}
 use Rattle.blocks.specs.Printed.{Printed}
-use Rattle.blocks.proofs.Printing.{sum_fits, sum_past, printed_put}
+use Rattle.blocks.proofs.Printing.{sum_fits, sum_past, printed_end}
 use Rattle.report.specs.Entry.{fits, PrintedBy}
 
 module _ {text a b out : List ℕ} {m : ℕ} (measured : Printed 0 text a b m) where
@@ -23,11 +23,12 @@ module _ {text a b out : List ℕ} {m : ℕ} (measured : Printed 0 text a b m) w
   pub printed_all : {new : List ℕ} {n : ℕ} → m ≤ length out → Printed 0 text out new n
       → PrintedBy (fits text (length out)) text out new (Ok n)
   printed_all h p =
-      let put = printed_put p (sum_fits measured.count p.short h) in
-      let e = le-leb (length text) (length out) (omega (arith, put.room)) in
+      let room : 0 + length text ≤ length out = sum_fits measured.count p.short h in
+      let count = printed_end p room in
+      let e = le-leb (length text) (length out) (omega (arith, room)) in
       let same : 0 + length text ≡ length text = omega arith in
       record {
-        answer = rw e (ap Ok (put.count ∙ same));
-        numbers = rw e (ap (λ (k : ℕ). 0 ∷ k ∷ []) (put.count ∙ same));
-        left = rw e (put.bytes ∙ ap (λ (k : ℕ). text ++ drop k out) same);
+        answer = rw e (ap Ok (count ∙ same));
+        numbers = rw e (ap (λ (k : ℕ). 0 ∷ k ∷ []) (count ∙ same));
+        left = rw e (p.bytes room ∙ ap (λ (k : ℕ). text ++ drop k out) same);
       }

@@ -1,46 +1,34 @@
--- `lines::write::write_line` meets its contract. Four writers, one after the other (`wrote_then`), each with room left by those before it (`room_then`). Assumes nothing.
-use Prim.Native.Nat.{ℕ, ◌+◌, ◌≤◌}
+-- `lines::write::write_line` meets its contract. Four writers, one after the other (`wrote_then`), each with room left by those before it
+-- (`room_then`). Assumes nothing.
 use native.Mathlib.Omega.{arith}
-use mathlib.Core.List.{List, [], ◌∷◌}
-use lib.ListN.{length, length-append}
-use lib.IntN.{ℤ}
-use mir.Facts.{to_z-of_z}
-use Rattle.lines.specs.Decimal.{number, line_of}
-use Rattle.lines.proofs.Writing.{wrote_then, room_then, line_parts, line_size}
+use mathlib.Core.List.{[], ◌∷◌}
+use lib.ListN.{length-append}
+use lib.IntN.{pos}
+use Rattle.lines.specs.Decimal.{digits}
+use Rattle.lines.proofs.Writing.{wrote_then, room_then, line_parts, natural_size}
 use Rattle.lines.proofs.write.write_line.Goals as goal
 
--- the four parts of the line have room
-room : (key : List ℕ) (z : ℤ) (out : List ℕ) → length (line_of key z) ≤ length out → length key + 1 + length (number z []) + 1 ≤ length out
-room key z out h = omega (arith, line_size key z)
-
-pub put_number-requires : goal.put_number-requires
-put_number-requires c =
-    rw (to_z-of_z c.ranges.value) (
+pub put_digits-requires : goal.put_digits-requires
+put_digits-requires c =
     room_then
     (wrote_then c.put_bytes-a.ensures c.put_byte.ensures)
-    (number c.args.value [])
-    (simp length-append (omega (arith, room c.args.key.now c.args.value c.args.out.now c.requires))))
+    (digits c.args.value [])
+    (simp length-append (omega (arith, natural_size c.args.key.now c.args.value, c.requires)))
 
 pub put_byte-requires-2 : goal.put_byte-requires-2
 put_byte-requires-2 c =
-    let n = c.put_number.ensures in
     room_then
-    (wrote_then
-    (wrote_then
-    c.put_bytes-a.ensures
-    c.put_byte.ensures)
-    (rw (to_z-of_z c.ranges.value) at n))
+    (wrote_then (wrote_then c.put_bytes-a.ensures c.put_byte.ensures) c.put_digits.ensures)
     (10 ∷ [])
-    (simp length-append (omega (arith, room c.args.key.now c.args.value c.args.out.now c.requires)))
+    (simp length-append (omega (arith, natural_size c.args.key.now c.args.value, c.requires)))
 
 pub returns : goal.returns
 returns c =
-    let n = c.put_number.ensures in
-    rw (← line_parts c.args.key.now c.args.value) (
+    rw (← line_parts c.args.key.now (pos c.args.value)) (
     wrote_then
     (wrote_then
     (wrote_then
     c.put_bytes-a.ensures
     c.put_byte.ensures)
-    (rw (to_z-of_z c.ranges.value) at n))
+    c.put_digits.ensures)
     c.put_byte-2.ensures)
