@@ -8,7 +8,7 @@
 -- Assumes nothing.
 use Rattle.std.specs.Prelude.{Result, Ok, Err, IfOk}
 use mathlib.Core.Path.{◌≡◌, refl, sym, ap, ◌∙◌}
-use mathlib.Core.Bool.{Bool, true, false, ◌&&◌}
+use mathlib.Core.Bool.{Bool, true, false, ◌&&◌, ◌||◌}
 use mathlib.Core.List.{List}
 use mathlib.Core.Logic.{⊎_elim}
 use Prim.Native.Nat.{ℕ, zero, suc, ◌≤◌, ◌<◌}
@@ -27,11 +27,14 @@ use Rattle.checks.proofs.Accepted.{LivenessScene}
 use Rattle.regions.specs.Graph.{marked}
 use Rattle.signals.specs.Flags.{Flags}
 use Rattle.liveness.specs.Sets.{SetWhere, checked}
-use Rattle.signals.specs.Regions.{regions_of}
+use Rattle.signals.specs.Sources.{is_drive}
+use Rattle.signals.specs.Regions.{regions_of, is_inferred}
+use Rattle.signals.specs.Drive.{drive, potential}
 use Rattle.liveness.specs.Scene.{Scene}
 use Rattle.liveness.specs.Entry.{AnalyzedBy, Analyzed}
 use Rattle.liveness.specs.declared.Analysis.{Analysis}
 use Rattle.liveness.proofs.Demands.{demand_3}
+use Rattle.liveness.proofs.Meanings.{fed_from}
 
 pub set_all : {n m : ℕ} {flags flags' : List Bool} {words : List ℕ} → n ≡ m → flags ≡ flags' → SetOf n flags words → SetWhere m (marked flags') words
 set_all {n} {m} {flags} {flags'} {words} e f s = record {
@@ -100,9 +103,12 @@ pub analyzed_accepted : {cs ps fs : List ℤ} {regions regions' sources sources'
     → liveness_refusal cs ps fs (length regions) (length sources) (length inputs) (length stack) ≡ Ok tt → Scene cs ps
     → AnalyzedBy (Ok tt) cs ps fs regions regions' sources sources' inputs inputs' stack stack' (Ok r)
     → Analyzed cs ps fs regions regions' sources sources' inputs inputs' stack stack' (Ok r)
-analyzed_accepted {cs} {ps} {regions = regions} e s a = record {
+unfolding drive potential
+analyzed_accepted {cs} {ps} {fs} {regions = regions} e s a = record {
   by = rw e a;
   demand = rw (a.regions_left, a.analysis.region_count_lem) (demand_3 cs ps s (drop (length (regions_of cs ps)) regions));
+  driven = fed_from cs ps s (is_drive cs fs) a.analysis.drive_set;
+  possible = fed_from cs ps s (λ q. is_drive cs fs q || is_inferred cs ps fs q) a.analysis.potential_set;
 }
 
 -- a refusal counts nothing
@@ -118,4 +124,6 @@ pub analyzed_refused : {cs ps fs : List ℤ} {regions regions' sources sources' 
 analyzed_refused {r = r} e f p q u v = record {
   by = rw e record { answer = f; analysis = if_refused r _ f; regions_left = p; sources_left = q; inputs_left = u; stack_left = v };
   demand = if_refused r _ f;
+  driven = if_refused r _ f;
+  possible = if_refused r _ f;
 }

@@ -3,16 +3,20 @@
 -- Assumes nothing: these are definitions.
 use Rattle.std.specs.Prelude.{⊤, Result, IfOk}
 use Rattle.lists.specs.declared.Refusal.{Refusal}
-use Rattle.std.specs.Prelude.{ℕ, ◌*◌, ◌≡◌, List, length, ℤ}
+use Rattle.std.specs.Prelude.{ℕ, ◌*◌, ◌≡◌, ◌||◌, List, length, ℤ}
+use Rattle.sets.specs.Members.{member_of}
 use Rattle.lists.specs.Records.{component_count}
+use Rattle.lists.specs.Ids as Ids
 use Rattle.checks.specs.Refusals.{liveness_refusal}
 use Rattle.lists.specs.Slices.{left_of, work_of}
 use Rattle.regions.specs.Graph.{marked}
-use Rattle.signals.specs.Regions.{region_count, regions_of, is_cyclic, holds_drive}
+use Rattle.signals.specs.Sources.{is_drive}
+use Rattle.signals.specs.Regions.{region_count, regions_of, is_cyclic, is_inferred, holds_drive}
 use Rattle.signals.specs.Drive.{drive, potential}
 use Rattle.assessment.specs.Verdicts.{source_rows, input_rows}
 use Rattle.liveness.specs.Sets.{SetWhere, checked}
 use Rattle.liveness.specs.Demand.{RegionsOfScene}
+use Rattle.liveness.specs.Meaning.{FedFrom}
 use Rattle.liveness.specs.declared.Analysis.{Analysis}
 
 -- the counts and the sets of an accepted scene
@@ -43,3 +47,8 @@ pub record Analyzed (cs ps fs : List ℤ) (regions regions' sources sources' inp
       cs ps fs regions regions' sources sources' inputs inputs' stack stack' r
   -- demand 3, on the answer itself
   pub demand : IfOk r (λ a. RegionsOfScene cs ps regions' a.regions)
+  -- driven: some drive source has a chain to it
+  pub driven : IfOk r (λ a. FedFrom cs ps (is_drive cs fs) (λ p. member_of a.drive.words (Ids.member_of cs p)))
+  -- the same of what may be: some drive source or inferred input has
+  pub possible : IfOk r (λ a. FedFrom cs ps (λ q. is_drive cs fs q || is_inferred cs ps fs q)
+      (λ p. member_of a.potential.words (Ids.member_of cs p)))

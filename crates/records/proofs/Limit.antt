@@ -73,4 +73,6 @@ module _ {cs ps ps' fs : List ℤ} {regions regions' sources sources' inputs inp
       record {
         by = refused_any r was (lists_over cs ps' fs enough h' ∙ e) a.by;
         demand = none_found _ r (a.by.answer ∙ was);
+        driven = none_found _ r (a.by.answer ∙ was);
+        possible = none_found _ r (a.by.answer ∙ was);
       }
