@@ -5,15 +5,15 @@
 --     Answered                                 what `required_input` answers and leaves
 -- Assumes nothing: these are definitions.
 use Rattle.lists.specs.declared.Fault.{Fault}
-use Rattle.std.specs.Prelude.{⊤, Option, Some, None, Result, IfOk}
+use Rattle.std.specs.Prelude.{⊤, Option, Some, None, Result, Ok, Err, IfOk}
 use Rattle.lists.specs.declared.Refusal.{Refusal}
-use Rattle.std.specs.Prelude.{ℕ, ◌<◌, ◌≡◌, Bool, true, false, cond, ◌&&◌, List, ◌↔◌, eqb, ltb, length, ℤ}
+use Rattle.std.specs.Prelude.{ℕ, ◌<◌, ◌≡◌, Bool, true, false, cond, ◌&&◌, List, [], ◌∷◌, ◌↔◌, eqb, ltb, length, ℤ}
 use Rattle.sets.specs.Members.{member_of}
 use Rattle.lists.specs.Records.{component, port_connection, component_count, port_count}
 use Rattle.lists.specs.First.{is_found, some, tabulate}
 use Rattle.lists.specs.Ids as Ids
 use Rattle.lists.specs.Ids.{place_of}
-use Rattle.checks.specs.Refusals.{refuse, too_short, ◌or_else◌, query_refusal}
+use Rattle.checks.specs.Refusals.{refuse, too_short, ◌or_else◌, query_refusal, refusal_numbers, numbers_by}
 use Rattle.lists.specs.Slices.{work_of}
 use Rattle.faces.specs.Ports.{ports_of}
 use Rattle.regions.specs.Graph.{marked, flip}
@@ -69,9 +69,15 @@ pub record UpstreamOf (cs ps fs : List ℤ) (p port : ℕ) (s : InputSources) : 
       ↔ ((is_inferred cs ps fs q ≡ true)
       × ((k : ℕ) × (k < port_count ps) × (feeds_port cs ps p port k ≡ true) × Chain ps (component cs q).id (port_connection ps k).source))
 
+-- the paper's numbers of each case: 0, or those of the refusal
+abbrev pub numbers_of : Result InputSources Refusal → List ℕ
+numbers_of (Ok s) = 0 ∷ []
+numbers_of (Err r) = refusal_numbers r
+
 -- by what the checks say: their refusal, or the sets
 pub record InputsBy (checks : Result ⊤ Refusal) (cs ps fs : List ℤ) (place : Option ℕ) (port : ℕ) (stack stack' : List ℕ) (r : Result InputSources Refusal) : Type 0 where
   pub answer : checked r ≡ checks
+  pub numbers : numbers_of r ≡ numbers_by checks []
   pub sets : IfOk r (PortSets cs ps fs place port)
   pub stack_left : stack' ≡ work_of checks stack
 

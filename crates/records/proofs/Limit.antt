@@ -57,6 +57,7 @@ module _ {cs ps ps' fs : List ℤ} {regions regions' sources sources' inputs inp
       let b = rw e at a in
       rw f record {
         answer = b.answer;
+        numbers = b.numbers;
         analysis = tt;
         regions_left = b.regions_left;
         sources_left = b.sources_left;
