@@ -4,6 +4,7 @@
 --     Fed, Places, Statuses                 the keys and the flags of a slot, and its status
 --     UpRows                                the rows of what is upstream of each region
 --     Written, Devices, Required, RowLaws   the rows written are those of the document
+--     Ascends                               the source rows ascend
 pub mod Positions
 pub mod Frontiers
 pub mod UpRows
@@ -15,3 +16,4 @@ pub mod Statuses
 pub mod Required
 pub mod RowLaws
 pub mod Reached
+pub mod Ascends

@@ -1,5 +1,6 @@
 -- What the contracts cite. To be read in this order.
 pub mod Verdicts
+pub mod Ascending
 pub mod Rows
 pub mod Places
 pub mod Upstream

@@ -2,3 +2,4 @@
 pub mod Printing
 pub mod FieldText
 pub mod IdText
+pub mod Rises

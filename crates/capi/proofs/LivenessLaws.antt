@@ -93,8 +93,8 @@ pub record WordsOfSet (words : List ℕ) : Type 0 where
   pub long : length words ≡ word_count
   pub fit : (i : ℕ) → get_or words i 0 < 2 ^ 64
 
-set_words : {n : ℕ} {P : ℕ → Bool} {words : List ℕ} → WordsOfSet words → SetWhere n P words → words ≡ words_of_set n P
-set_words {n} {P} {words} w s = set_unique words n P w.long w.fit s.member
+set_words : {n : ℕ} {P : ℕ → Bool} {words : List ℕ} → WordsOfSet words → SetWhere n P words → words ≡ words_of_set word_count n P
+set_words {n} {P} {words} w s = set_unique word_count words n P w.long w.fit s.member
 
 module _ {cs ps fs : List ℤ} {regions regions' sources sources' inputs inputs' stack stack' : List ℕ} {r : Analysis}
     (a : AnalyzedBy (Ok tt) cs ps fs regions regions' sources sources' inputs inputs' stack stack' (Ok r)) where

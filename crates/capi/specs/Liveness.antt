@@ -56,9 +56,10 @@ liveness_number (Err refusal) regions sources inputs = packed (Err refusal)
 -- `word_count` words each: the members that are driven and that may be, the regions that are cyclic and that hold a drive source
 abbrev pub sets_of : List ℤ → List ℤ → List ℤ → List ℕ
 sets_of cs ps fs =
-    words_of_set (component_count cs) (marked (drive cs ps fs))
-    ++ (words_of_set (component_count cs) (marked (potential cs ps fs))
-    ++ (words_of_set (region_count cs ps) (is_cyclic cs ps) ++ words_of_set (region_count cs ps) (holds_drive cs ps fs)))
+    words_of_set word_count (component_count cs) (marked (drive cs ps fs))
+    ++ (words_of_set word_count (component_count cs) (marked (potential cs ps fs))
+    ++ (words_of_set word_count (region_count cs ps) (is_cyclic cs ps)
+    ++ words_of_set word_count (region_count cs ps) (holds_drive cs ps fs)))
 
 -- the answer for components cs, port connections ps and frontiers fs, unless they are refused: the rows and sets as bytes at the front of
 -- the lent slices, and the stack zero. A source row is two numbers, a verdict row three.

@@ -8,10 +8,10 @@
 --     none_fed, immediate_set, ..    the two sets of the port, by a walk
 --     row_place_lem, row_found, ..       the place of the port asked for
 --     row_slot                       that port by its slot
---     inputs-..                      the answer, by what was found and by what the checks say
+--     inputs_found                   the answer, by what was found
 -- Assumes nothing.
 use Rattle.lists.specs.declared.Fault.{Fault}
-use Rattle.std.specs.Prelude.{⊤, Option, Some, None, Result}
+use Rattle.std.specs.Prelude.{Option, Some, None, Result}
 use Rattle.lists.specs.declared.Refusal.{Refusal}
 use mathlib.Core.Path.{◌≡◌, refl, sym, ap, subst, ◌∙◌}
 use mathlib.Core.Bool.{Bool, true, false, cond, ◌&&◌, ◌||◌}
@@ -35,7 +35,7 @@ use Rattle.lists.specs.Records.{component, port_connection, component_count, por
 use Rattle.lists.specs.First.{is_found, tabulate}
 use Rattle.lists.specs.Ids.{place_below, place_of, smaller_ids, member_of, first_end_missing}
 use Rattle.lists.specs.Within.{Components, PortConnections}
-use Rattle.checks.specs.Refusals.{refuse, too_short, ◌or_else◌, query_refusal}
+use Rattle.checks.specs.Refusals.{refuse, too_short}
 use Rattle.lists.proofs.Search.{never, both, or_true, found_at}
 use Rattle.lists.proofs.Members.{member_below}
 use Rattle.lists.proofs.Fields.{first_most}
@@ -53,7 +53,7 @@ use Rattle.signals.specs.Keys.{Slots, KeysOf, slot, ports}
 use Rattle.signals.specs.Flags.{Flags}
 use Rattle.liveness.specs.Sets.{SetWhere}
 use Rattle.assessment.specs.Rows.{SlotWithin}
-use Rattle.inputs.specs.Query.{is_immediate, upstream, is_inferred_for, with_row, row_place, PortSets, InputsBy, Answered}
+use Rattle.inputs.specs.Query.{is_immediate, upstream, is_inferred_for, with_row, row_place, PortSets, InputsBy}
 use Rattle.liveness.specs.Scene.{Scene, Prepared}
 use Rattle.signals.specs.Stages.{Tables, FedTable}
 use Rattle.inputs.specs.Inputs.{FedScene, SlotOf, SlotKeys, Walkable, UpstreamSet}
@@ -376,11 +376,3 @@ module _ {cs ps fs : List ℤ} {port : ℕ} {stack stack' : List ℕ} {r : Resul
   pub inputs_found : (id : ℕ) {found : Option ℕ} → row_place cs id port ≡ found → InputsBy (refuse Fault.NoVerdictRow None (too_short (is_found found))) cs ps fs found port stack stack' r
       → InputsBy (refuse Fault.NoVerdictRow None (too_short (is_found (row_place cs id port)))) cs ps fs (row_place cs id port) port stack stack' r
   inputs_found id e a = subst (λ (f : Option ℕ). InputsBy (refuse Fault.NoVerdictRow None (too_short (is_found f))) cs ps fs f port stack stack' r) (sym e) a
-
-  -- by what the checks of the lists say
-  pub inputs_checked : (id : ℕ) {checks : Result ⊤ Refusal} → query_refusal cs ps fs (length stack) ≡ checks
-      → InputsBy (checks or_else refuse Fault.NoVerdictRow None (too_short (is_found (row_place cs id port)))) cs ps fs (row_place cs id port) port stack stack' r
-      → Answered cs ps fs id port stack stack' r
-  inputs_checked id e a = record {
-    by = subst (λ (c : Result ⊤ Refusal). InputsBy (c or_else refuse Fault.NoVerdictRow None (too_short (is_found (row_place cs id port)))) cs ps fs (row_place cs id port) port stack stack' r) (sym e) a;
-  }

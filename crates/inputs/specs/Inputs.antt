@@ -72,8 +72,8 @@ pub record SlotKeys (keys : List ℕ) (number : ℕ) (cut : List ℕ) : Type 0 w
 -- the edges by the port that they feed and backward, and the flags of the inferred inputs
 pub record Walkable (cs ps fs : List ℤ) (fed backward : List ℕ) (inferred : List Bool) : Type 0 where
   pub fed_scene : FedScene cs ps fed
-  pub rising : Ascending backward
   pub turned : edges (component_count cs) backward ≡ flip (signals cs ps)
+  pub rising : Ascending backward
   pub inferred_are : inferred ≡ members_where cs (is_inferred cs ps fs)
 
 -- what a walk against the edges asks

@@ -3,15 +3,16 @@
 --     empty_set, none_set               beside a refusal; of a test that never holds
 --     tabulated_same                    the values of two functions that agree
 --     analyzed_stack                    the same of a stack of the same length
+--     numbers_are                       the numbers of an answer
 --     scene_of_lem                          an accepted scene
 --     analyzed_accepted, ..-refused     the entry's answer, by what the checks say
 -- Assumes nothing.
-use Rattle.std.specs.Prelude.{Result, Ok, Err, IfOk}
+use Rattle.std.specs.Prelude.{⊤, Result, Ok, Err, IfOk}
 use mathlib.Core.Path.{◌≡◌, refl, sym, ap, ◌∙◌}
-use mathlib.Core.Bool.{Bool, true, false, ◌&&◌}
-use mathlib.Core.List.{List}
+use mathlib.Core.Bool.{Bool, true, false, ◌&&◌, ◌||◌}
+use mathlib.Core.List.{List, [], ◌∷◌}
 use mathlib.Core.Logic.{⊎_elim}
-use Prim.Native.Nat.{ℕ, zero, suc, ◌≤◌, ◌<◌}
+use Prim.Native.Nat.{ℕ, zero, suc, ◌/◌, ◌≤◌, ◌<◌}
 use native.Mathlib.Omega.{arith}
 use lib.Dec.{ltb}
 use borrow.Author.Tests.{lt-ltb, le-ltb, ltb-true}
@@ -20,18 +21,22 @@ use lib.IntN.{ℤ}
 use Rattle.sets.specs.Members.{member_of, SetOf}
 use Rattle.tables.specs.Laws.{order?}
 use Rattle.lists.specs.First.{tabulate}
-use Rattle.checks.specs.Refusals.{liveness_refusal}
+use Rattle.checks.specs.Refusals.{liveness_refusal, numbers_by}
 use Rattle.lists.specs.declared.Refusal.{Refusal}
 use Rattle.checks.proofs.Chain.{refused_not}
 use Rattle.checks.proofs.Accepted.{LivenessScene}
 use Rattle.regions.specs.Graph.{marked}
 use Rattle.signals.specs.Flags.{Flags}
 use Rattle.liveness.specs.Sets.{SetWhere, checked}
-use Rattle.signals.specs.Regions.{regions_of}
+use Rattle.signals.specs.Sources.{is_drive}
+use Rattle.signals.specs.Regions.{region_count, regions_of, is_inferred}
+use Rattle.signals.specs.Drive.{drive, potential}
+use Rattle.assessment.specs.Verdicts.{source_rows, input_rows}
 use Rattle.liveness.specs.Scene.{Scene}
-use Rattle.liveness.specs.Entry.{AnalyzedBy, Analyzed}
+use Rattle.liveness.specs.Entry.{AnalysisOf, numbers_of, AnalyzedBy, Analyzed}
 use Rattle.liveness.specs.declared.Analysis.{Analysis}
 use Rattle.liveness.proofs.Demands.{demand_3}
+use Rattle.liveness.proofs.Meanings.{fed_from}
 
 pub set_all : {n m : ℕ} {flags flags' : List Bool} {words : List ℕ} → n ≡ m → flags ≡ flags' → SetOf n flags words → SetWhere m (marked flags') words
 set_all {n} {m} {flags} {flags'} {words} e f s = record {
@@ -77,12 +82,22 @@ unfolding tabulate
 tabulated_same f g zero e = refl
 tabulated_same f g (suc n) e = rw (tabulated_same f g n (λ p h. e p (omega arith)), e n (omega arith))
 
+-- by its counts, or its refusal
+pub numbers_are : (cs ps fs : List ℤ) {checks : Result ⊤ Refusal} (r : Result Analysis Refusal) → checked r ≡ checks → IfOk r (AnalysisOf cs ps fs)
+    → numbers_of r ≡ numbers_by checks (region_count cs ps ∷ length (source_rows cs ps fs) / 2 ∷ length (input_rows cs ps fs) / 3 ∷ [])
+numbers_are cs ps fs (Ok a) e f =
+    let sources : a.sources ≡ length (source_rows cs ps fs) / 2 = omega (arith, f.source_count) in
+    let inputs : a.inputs ≡ length (input_rows cs ps fs) / 3 = omega (arith, f.input_count) in
+    rw (← e, ← sources, ← inputs, ← f.region_count_lem) refl
+numbers_are cs ps fs (Err refusal) e f = rw (← e) refl
+
 -- a work slice of the same length
 pub analyzed_stack : {cs ps fs : List ℤ} {regions regions' sources sources' inputs inputs' stack stack₂ stack' : List ℕ} {r : Result Analysis Refusal} → length stack₂ ≡ length stack
     → AnalyzedBy (Ok tt) cs ps fs regions regions' sources sources' inputs inputs' stack₂ stack' r
     → AnalyzedBy (Ok tt) cs ps fs regions regions' sources sources' inputs inputs' stack stack' r
 analyzed_stack e a = record {
   answer = a.answer;
+  numbers = a.numbers;
   analysis = a.analysis;
   regions_left = a.regions_left;
   sources_left = a.sources_left;
@@ -100,9 +115,12 @@ pub analyzed_accepted : {cs ps fs : List ℤ} {regions regions' sources sources'
     → liveness_refusal cs ps fs (length regions) (length sources) (length inputs) (length stack) ≡ Ok tt → Scene cs ps
     → AnalyzedBy (Ok tt) cs ps fs regions regions' sources sources' inputs inputs' stack stack' (Ok r)
     → Analyzed cs ps fs regions regions' sources sources' inputs inputs' stack stack' (Ok r)
-analyzed_accepted {cs} {ps} {regions = regions} e s a = record {
+unfolding drive potential
+analyzed_accepted {cs} {ps} {fs} {regions = regions} e s a = record {
   by = rw e a;
   demand = rw (a.regions_left, a.analysis.region_count_lem) (demand_3 cs ps s (drop (length (regions_of cs ps)) regions));
+  driven = fed_from cs ps s (is_drive cs fs) a.analysis.drive_set;
+  possible = fed_from cs ps s (λ q. is_drive cs fs q || is_inferred cs ps fs q) a.analysis.potential_set;
 }
 
 -- a refusal counts nothing
@@ -115,7 +133,9 @@ pub analyzed_refused : {cs ps fs : List ℤ} {regions regions' sources sources' 
     → liveness_refusal cs ps fs (length regions) (length sources) (length inputs) (length stack) ≡ Err refusal → checked r ≡ Err refusal
     → regions' ≡ regions → sources' ≡ sources → inputs' ≡ inputs → stack' ≡ stack
     → Analyzed cs ps fs regions regions' sources sources' inputs inputs' stack stack' r
-analyzed_refused {r = r} e f p q u v = record {
-  by = rw e record { answer = f; analysis = if_refused r _ f; regions_left = p; sources_left = q; inputs_left = u; stack_left = v };
+analyzed_refused {cs} {ps} {fs} {r = r} e f p q u v = record {
+  by = rw e record { answer = f; numbers = numbers_are cs ps fs r f (if_refused r _ f); analysis = if_refused r _ f; regions_left = p; sources_left = q; inputs_left = u; stack_left = v };
   demand = if_refused r _ f;
+  driven = if_refused r _ f;
+  possible = if_refused r _ f;
 }

@@ -3,9 +3,11 @@
 --     Inferring                         the inferred inputs
 --     Answers                           sets and rows of an answer
 --     Demands                           demand 3
+--     Meanings                          what a walk from some of the components visits, in chains
 --     Lent                              fronts of arrays, lent for nodes or edges
 pub mod Outside
 pub mod Inferring
 pub mod Demands
+pub mod Meanings
 pub mod Answers
 pub mod Lent

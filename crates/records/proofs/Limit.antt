@@ -57,6 +57,7 @@ module _ {cs ps ps' fs : List ℤ} {regions regions' sources sources' inputs inp
       let b = rw e at a in
       rw f record {
         answer = b.answer;
+        numbers = b.numbers;
         analysis = tt;
         regions_left = b.regions_left;
         sources_left = b.sources_left;
@@ -73,4 +74,6 @@ module _ {cs ps ps' fs : List ℤ} {regions regions' sources sources' inputs inp
       record {
         by = refused_any r was (lists_over cs ps' fs enough h' ∙ e) a.by;
         demand = none_found _ r (a.by.answer ∙ was);
+        driven = none_found _ r (a.by.answer ∙ was);
+        possible = none_found _ r (a.by.answer ∙ was);
       }

@@ -1,7 +1,7 @@
 -- The members of a set leave no choice in its words.
 --     bits_unique        a number of w digits, by its digits
 --     words_unique       the words of a set, by the test that its members pass
---     set_unique         those of a set of numbers below n
+--     set_unique         those of a set of numbers below n, of any count of words
 --     words_member       the members of the words by a test are those that pass it
 -- Assumes nothing.
 use mathlib.Core.Path.{◌≡◌, refl, sym, ap, ◌∙◌}
@@ -15,7 +15,7 @@ use lib.Dec.{eqb, ltb}
 use lib.Arith.{lt-one}
 use lib.ListN.{length, get_or, take, length-append, get_or-append}
 use lib.Seq.{take-suc, take_all, get_or_at}
-use Rattle.sets.specs.Members.{word_count, test_bit, member_of, as_nat, bits_of, words_where, words_of_set}
+use Rattle.sets.specs.Members.{test_bit, member_of, as_nat, bits_of, words_where, words_of_set}
 use Rattle.sets.proofs.Counts.{as_nat_le}
 use Rattle.sets.proofs.TestBit.{test_low, test_suc, digit_nat}
 use Rattle.sets.proofs.Words.{member_at}
@@ -41,9 +41,9 @@ module _ (ws : List ℕ) (P : ℕ → Bool) (fits : (i : ℕ) → get_or ws i 0 
   pub words_unique : (m : ℕ) → length ws ≡ m → ws ≡ words_where P m
   words_unique m e = sym (take_all m ws (omega arith)) ∙ first_unique m (omega arith)
 
-pub set_unique : (ws : List ℕ) (n : ℕ) (P : ℕ → Bool) → length ws ≡ word_count → ((i : ℕ) → get_or ws i 0 < 2 ^ 64)
-    → ((k : ℕ) → member_of ws k ≡ (ltb k n && P k)) → ws ≡ words_of_set n P
-set_unique ws n P e fits member = words_unique ws (λ k. ltb k n && P k) fits member word_count e
+pub set_unique : (count : ℕ) (ws : List ℕ) (n : ℕ) (P : ℕ → Bool) → length ws ≡ count → ((i : ℕ) → get_or ws i 0 < 2 ^ 64)
+    → ((k : ℕ) → member_of ws k ≡ (ltb k n && P k)) → ws ≡ words_of_set count n P
+set_unique count ws n P e fits member = words_unique ws (λ k. ltb k n && P k) fits member count e
 
 -- ---- the words by a test keep what passes it
 

@@ -11,6 +11,7 @@ use Rattle.lists.specs.Records.{component_count}
 use Rattle.checks.specs.Refusals.{room_for, liveness_lists, query_refusal}
 use Rattle.checks.proofs.Accepted.{LivenessScene, liveness_accept}
 use Rattle.liveness.proofs.Answers.{scene_of_lem}
+use Rattle.inputs.proofs.Upstream.{answered}
 use Rattle.inputs.proofs.required_input.Goals as goal
 use Rattle.inputs.proofs.required_input.Goals.{After-liveness_lists}
 
@@ -23,9 +24,12 @@ says c =
 
 -- ---- where they accept
 module _ (c : After-liveness_lists) (was : c.liveness_lists.result ≡ Ok tt) where
+  accepted : query_refusal c.args.components.now c.args.ports.now c.args.frontiers.now (length c.args.stack.now) ≡ Ok tt
+  accepted = sym (says c) ∙ was
+
   live : LivenessScene c.args.components.now c.args.ports.now c.args.frontiers.now
       (room_for (component_count c.args.components.now) 2 (length c.args.stack.now))
-  live = liveness_accept _ _ _ _ (sym (says c) ∙ was)
+  live = liveness_accept _ _ _ _ accepted
 
   room : 2 * component_count c.args.components.now ≤ length c.args.stack.now
   room = omega (arith, leb-true (component_count c.args.components.now) (length c.args.stack.now / 2) live.scene.lengths.room)
@@ -43,6 +47,9 @@ invariant_of-plot c =
     let was = c.in_ok-liveness_lists.was in
     let scene = scene_of_lem (live (goal.at.invariant_of-plot c).After-liveness_lists was) in
     record { accepted = record { scene = scene; table = left.lists.table was; ends = left.ends was } }
+
+pub returns : goal.returns
+returns c = answered c.args.id (accepted (goal.at.returns c).After-liveness_lists c.in_ok-liveness_lists.was) c.query_plot.ensures
 
 pub slice_bounds-keys-end : goal.slice_bounds-keys-end
 slice_bounds-keys-end c = long (goal.at.slice_bounds-keys-end c).After-liveness_lists c.in_ok-liveness_lists.was

@@ -102,6 +102,7 @@ returns c =
     let sources = c.row_sources.ensures (cs s) a.plot.now.ports.now a.plot.now.frontiers.now a.p a.port walk (slot_at s m walk) in
     record {
       answer = refl;
+      numbers = refl;
       sets = sources.0;
       stack_left = zeros_cleared _ sources.1 ∙ ap (λ (k : ℕ). replicate k 0) (c.row_sources.auto.stack ∙ w.auto.stack);
     }

@@ -2,6 +2,7 @@
 -- sorted by the port that they feed.
 -- Assumes nothing.
 use mathlib.Core.Path.{sym, ◌∙◌}
+use native.Mathlib.Omega.{arith}
 use Rattle.liveness.proofs.Lent.{nodes_are, nodes_few, nodes_lent}
 use Rattle.inputs.proofs.Inputs.{fed_scene, graph_back}
 use Rattle.inputs.proofs.query.walk_tables.Goals as goal
@@ -10,8 +11,8 @@ use Rattle.inputs.proofs.query.walk_tables.Goals.{Start}
 pub find_inputs-requires : goal.find_inputs-requires
 find_inputs-requires c =
     record {
-      forward_room = c.requires.fed_len.0;
-      backward_room = c.requires.fed_len.1;
+      forward_room = omega (arith, c.requires.fed_len);
+      backward_room = omega (arith, c.requires.fed_len);
       labels_room = nodes_lent c.args.plot.now.accepted ∙ nodes_are c.args.plot.now.accepted;
       inferred_room = c.requires.inferred_len.0;
       stack_room = c.requires.inferred_len.1;
@@ -23,8 +24,8 @@ returns c =
     let t = e.prepared.tables in (
       record {
         fed_scene = fed_scene c.args.plot.now.accepted.scene e.prepared (rw c.port_list.ensures at c.build_fed.ensures);
-        rising = t.backward_keys.sorted.ascending;
         turned = graph_back c.args.plot.now.accepted.scene t;
+        rising = t.backward_keys.sorted.ascending;
         inferred_are = e.inferred_are;
       },
       e.stack_zeros,

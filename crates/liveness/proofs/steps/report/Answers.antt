@@ -1,5 +1,6 @@
 -- `liveness::steps::report` meets its contract: marks, then rows, then sets, each by its law.
 -- Assumes nothing.
+use Rattle.std.specs.Prelude.{Ok}
 use mathlib.Core.Path.{◌≡◌, refl, sym, ap, ◌∙◌}
 use mathlib.Core.Bool.{Bool, false}
 use mathlib.Core.List.{List, ◌++◌}
@@ -26,7 +27,8 @@ use Rattle.signals.proofs.Staged.{regions_few, cyclic_is}
 use Rattle.assessment.proofs.RowLaws.{sources_are, inferred_alone}
 use Rattle.liveness.specs.Scene.{Scene}
 use Rattle.liveness.proofs.Inferring.{labels_long, graph}
-use Rattle.liveness.proofs.Answers.{set_all, set_where, set_same, tabulated_same}
+use Rattle.liveness.specs.Entry.{AnalysisOf}
+use Rattle.liveness.proofs.Answers.{set_all, set_where, set_same, tabulated_same, numbers_are}
 use Rattle.liveness.proofs.steps.report.Goals as goal
 use Rattle.liveness.proofs.steps.report.Goals.{Start}
 
@@ -156,20 +158,22 @@ returns c =
     c.mark.auto.potential ∙ e.potential_is in
     let rows_put = rw c.component_list-listed.ensures at c.put_sources.ensures in
     let verdict-rows = (rw (c.component_list-listed.ensures, c.port_list.ensures) at c.write_verdicts.ensures) (fs s) record { drive_is = live; potential_is = may } in
+    let analysis : AnalysisOf (cs s) (ps s) (fs s) c.answer.result = record {
+      region_count_lem = a.regions_is ∙ c.args.plot.now.counted;
+      source_count = ap (λ (k : ℕ). k * 2) a.sources_is ∙ rows_put.count ∙ ap length source-rows;
+      input_count = ap (λ (k : ℕ). k * 3) a.inputs_is ∙ verdict-rows.count;
+      drive_set = set_all (all s) live a.drive_set;
+      potential_set = set_all (all s) may a.potential_set;
+      cyclic_set = set_same c.args.plot.now.counted
+          (λ r. ap (λ (l : List ℕ). cyclic_at c.args.plot.now.forward.keys.now l r) p.labels_are
+          ∙ cyclic_is (cs s) (ps s) c.args.plot.now.forward.keys.now (graph (scene s) p) (few s) t.source_members t.sink_members
+          (ends_within (cs s) (ps s) (scene s).ends) t.forward_keys r) a.cyclic_set;
+      has_drive_set = set_same c.args.plot.now.counted (λ r. refl) (set_where (count_small s) a.has_drive_set e.region_flags);
+    } in
     record {
       answer = refl;
-      analysis = record {
-        region_count_lem = a.regions_is ∙ c.args.plot.now.counted;
-        source_count = ap (λ (k : ℕ). k * 2) a.sources_is ∙ rows_put.count ∙ ap length source-rows;
-        input_count = ap (λ (k : ℕ). k * 3) a.inputs_is ∙ verdict-rows.count;
-        drive_set = set_all (all s) live a.drive_set;
-        potential_set = set_all (all s) may a.potential_set;
-        cyclic_set = set_same c.args.plot.now.counted
-            (λ r. ap (λ (l : List ℕ). cyclic_at c.args.plot.now.forward.keys.now l r) p.labels_are
-            ∙ cyclic_is (cs s) (ps s) c.args.plot.now.forward.keys.now (graph (scene s) p) (few s) t.source_members t.sink_members
-            (ends_within (cs s) (ps s) (scene s).ends) t.forward_keys r) a.cyclic_set;
-        has_drive_set = set_same c.args.plot.now.counted (λ r. refl) (set_where (count_small s) a.has_drive_set e.region_flags);
-      };
+      numbers = numbers_are (cs s) (ps s) (fs s) (Ok c.answer.result) refl analysis;
+      analysis = analysis;
       regions_left = c.put_regions.ensures ∙ ap (λ (l : List ℕ). laid l c.args.regions.now) region_rows_lem;
       sources_left = rows_put.is ∙ ap (λ (l : List ℕ). laid l c.args.sources.now) source-rows;
       inputs_left = verdict-rows.is;
