@@ -48,7 +48,8 @@ fn report_sheet(text: &[u8], out: &mut [u8]) -> Result<usize, Refusal>
     )
 }
 
-// The bytes to print, made in `out`: the report, or the lines of the refusal. The buffer is long enough for both.
+// The bytes to print, made in `out`: the report, or the lines of the refusal. The buffer is long enough for both. `room` is a slice, since a
+// part of an array behind a reference is not covered.
 pub fn answer<'a>(text: &[u8], out: &'a mut [u8; BYTES]) -> &'a [u8]
     ensures { result.now ≡ printed text.now }
 {
