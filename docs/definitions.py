@@ -20,7 +20,7 @@ ENTRIES = {
     "records/lib": ["analyze_records"],
     "sheet/lib": ["read_sheet"],
     "report/lib": ["report"],
-    "plotreport/program": ["report_sheet"],
+    "plotreport/program": ["answer"],
     "capi/lib": ["dustroute_groups", "dustroute_liveness"],
 }
 STATEMENTS = [

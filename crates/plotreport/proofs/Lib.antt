@@ -1,2 +1,3 @@
 -- What the proofs of the program need.
+mod Fed
 mod Spoken

@@ -1,32 +1,34 @@
--- What the program prints: the lines of any refusal have room in 120 bytes; a sheet that is too long is refused before all else.
+-- What the program prints: the lines of any refusal have room in its buffer; a sheet that is too long is refused before all else.
 --     refusal_room               the lines of a refusal
 --     long_sheet, short_sheet    the first stage
---     printed_within             a report that is printed has room
+--     refusal_shown              of a refusal, what stands in the buffer is what is to be printed
 -- Assumes nothing.
 use Rattle.lists.specs.Refusal.{fault_number, list_number}
 use Rattle.lists.specs.declared.Fault.{Fault}
 use Rattle.std.specs.Prelude.{None}
 use Rattle.std.specs.Prelude.{⊤, Result, Ok, Err}
-use mathlib.Core.Path.{◌≡◌, refl, sym, ◌∙◌}
+use mathlib.Core.Path.{◌≡◌, ap, ◌∙◌}
 use mathlib.Core.Bool.{Bool, true, false, cond}
 use mathlib.Core.List.{List, [], ◌∷◌, ◌++◌}
 use Prim.Native.Nat.{ℕ, zero, suc, ◌+◌, ◌/◌, ◌%◌, ◌≤◌, ◌<◌}
 use native.Mathlib.Omega.{arith}
-use lib.Dec.{leb, ltb}
+use Rattle.lists.specs.Slices.{laid}
+use lib.Dec.{ltb}
 use lib.IntN.{pos}
-use lib.ListN.{length, length-append}
-use borrow.Author.Tests.{le-leb, lt-leb, leb-true}
-use Rattle.checks.specs.Refusals.{refuse, too_short, sheet_refusal, ◌or_else◌}
+use lib.ListN.{length, take, length-append}
+use borrow.Author.Tests.{le-leb, lt-leb}
+use Rattle.checks.specs.Refusals.{refuse, ◌or_else◌}
 use Rattle.lists.specs.declared.Refusal.{Refusal}
-use Rattle.checks.proofs.Chain.{refused_not, both_accept}
+use Rattle.checks.proofs.Chain.{refused_not}
 use Rattle.lines.specs.Text.{ascii}
 use Rattle.lines.specs.Decimal.{digits_then, line_of}
 use Rattle.lines.proofs.Writing.{line_size}
-use Rattle.sheet.specs.Entry.{components_of, connections_of, frontiers_of, sheet_checked}
 use Rattle.blocks.specs.Lines.{refusal_lines}
-use Rattle.report.specs.Report.{report_of}
-use Rattle.report.specs.Entry.{fits, lists_checked, report_checked, answer_by}
-use Rattle.plotreport.specs.Program.{sheet_bytes, parsed_by, too_long_sheet, program_checked, ProgramPrinted}
+use Rattle.blocks.specs.Printed.{Printed}
+use Rattle.blocks.proofs.Printing.{printed_end}
+use Rattle.report.proofs.Scenes.{front_is}
+use Rattle.report.specs.Entry.{answer_by}
+use Rattle.plotreport.specs.Program.{sheet_bytes, report_bytes, too_long_sheet, sheet_report, program_checked, printed_by, printed, ProgramPrinted}
 
 -- ---- the lines of a refusal
 
@@ -59,25 +61,28 @@ long_sheet text out h = let e = lt-leb (length text) sheet_bytes h in record { b
 pub short_sheet : (text : List ℕ) {later : Result ⊤ Refusal} → length text ≤ sheet_bytes → refuse Fault.ListLength None (too_long_sheet text) or_else later ≡ later
 short_sheet text h = let e = le-leb (length text) sheet_bytes h in rw e
 
--- ---- a report that is printed
+-- ---- what the buffer holds
 
-room_told : (enough : Bool) → refuse Fault.ShortSlice None (too_short enough) ≡ Ok tt → enough ≡ true
-room_told true e = refl
-room_told false e = let z : ◌≡◌ {A = ℕ} 0 1 = cc in absurd (omega arith)
+refused : (checks : Result ⊤ Refusal) (text : List ℕ) {r : Refusal} → Err r ≡ answer_by checks text → checks ≡ Err r
+refused (Ok _) text e = let z : ◌≡◌ {A = ℕ} 0 1 = cc in absurd (omega arith)
+refused (Err r) text e = cc
 
-written : (checks : Result ⊤ Refusal) (text : List ℕ) {n : ℕ} → Ok n ≡ answer_by checks text → (checks ≡ Ok tt) × (n ≡ length text)
-written (Ok tt) text e = (refl, cc)
-written (Err r) text e = let z : ◌≡◌ {A = ℕ} 0 1 = cc in absurd (omega arith)
+at_front : {s old new : List ℕ} {n : ℕ} → Printed 0 s old new n → 0 + length s ≤ length old → (new ≡ laid s old) × (n ≡ length s)
+at_front {s} p h = let none : 0 + length s ≡ length s = omega arith in (rw none at (p.bytes h), omega (arith, printed_end p h))
 
-pub printed_within : {text out out' : List ℕ} {r : Result ℕ Refusal} {n : ℕ} → ProgramPrinted text out out' r → r ≡ Ok n → n ≤ length out
-printed_within {text} {out} p e =
-    let sheet = parsed_by text in
-    let cs = components_of sheet in
-    let ps = connections_of sheet in
-    let fs = frontiers_of sheet in
-    let room = length out in
-    let w = written (program_checked text room) (report_of cs ps fs) (sym e ∙ p.by.answer) in
-    let stages = both_accept (refuse Fault.ListLength None (too_long_sheet text)) (report_checked sheet 2048 3072 768 room) w.0 in
-    let lists = both_accept (sheet_checked sheet 2048 3072 768) (lists_checked cs ps fs room) stages.1 in
-    let last = both_accept (sheet_refusal cs ps fs) (fits (report_of cs ps fs) room) lists.1 in
-    omega (arith, w.1, leb-true (length (report_of cs ps fs)) room (room_told (leb (length (report_of cs ps fs)) room) last.1))
+-- the bytes to print stand at its front
+pub record Shown (text out : List ℕ) (n : ℕ) : Type 0 where
+  pub inside : n ≤ length out
+  pub front : take n out ≡ printed text
+
+pub refusal_shown : (text : List ℕ) {out mid out' : List ℕ} {r : Refusal} {n : ℕ} → length out ≡ report_bytes → ProgramPrinted text out mid (Err r)
+    → Printed 0 (refusal_lines r) mid out' n → Shown text out' n
+refusal_shown text {out} {mid} {out'} {r} {n} long p q =
+    let stopped = refused (program_checked text (length out)) (sheet_report text) p.by.answer in
+    let same : mid ≡ out = rw stopped at p.by.left in
+    let shown = ap (λ room. printed_by (program_checked text room) (sheet_report text)) long in
+    let put = at_front q (omega (arith, refusal_room r, ap length same, long)) in
+    record {
+      inside = omega (arith, refusal_room r, ap length same, long, put.1, q.long);
+      front = front_is (refusal_lines r) mid put.0 n put.1 ∙ rw stopped at shown;
+    }

@@ -1,24 +1,17 @@
-// Reads a sheet from standard input, and writes its report or its refusal to standard output.
+// Reads a sheet from standard input, and writes its report or its refusal to standard output. A read or a write that fails is said on
+// standard error, and gives the exit status 1.
 #![tactic(auto)]
 
+mod input;
 mod program;
 
-use blocks::answer::put_refusal;
-use program::{BYTES, LINES, READ, report_sheet};
+use input::read_front;
+use program::{BYTES, READ, answer};
+use std::io;
 
-fn main() {
+fn main(rt: HostRuntime) -> io::Result<()> {
     let mut text = [0u8; READ];
     let mut out = [0u8; BYTES];
-    let mut lines = [0u8; LINES];
-    let n = io::read_full(0, &mut text);
-    let printed = report_sheet(&text[..n], &mut out);
-    match printed {
-        Ok(count) => {
-            io::write_all(1, &out[..count]);
-        }
-        Err(refusal) => {
-            let count = put_refusal(&mut lines, 0, refusal);
-            io::write_all(1, &lines[..count]);
-        }
-    }
+    let n = read_front(&mut rt.stdin(), &mut text)?;
+    rt.write_all(answer(&text[..n], &mut out))
 }

@@ -1,6 +1,8 @@
-// What the program plotreport answers to the bytes that it read. Its limits stand here.
-ghost use Rattle.plotreport.specs.Program.{ProgramPrinted};
+// What the program plotreport prints for the bytes that it read. Its limits stand here.
+ghost use Rattle.std.specs.Prelude.{◌≡◌};
+ghost use Rattle.plotreport.specs.Program.{ProgramPrinted, printed};
 
+use blocks::answer::put_refusal;
 use lists::{COMPONENT, CONNECTION, FRONTIER, Fault, Refusal};
 use report::report;
 use sheet::Counts;
@@ -17,11 +19,8 @@ const CONNECTIONS: usize = 1024;
 
 const FRONTIERS: usize = 256;
 
-// Room for the lines of any refusal.
-pub const LINES: usize = 120;
-
 // The report of a sheet, with the program's limits.
-pub fn report_sheet(text: &[u8], out: &mut [u8]) -> Result<usize, Refusal>
+fn report_sheet(text: &[u8], out: &mut [u8]) -> Result<usize, Refusal>
     ensures { ProgramPrinted text.now out.old out.new result }
 {
     if BYTES < text.len() {
@@ -47,4 +46,19 @@ pub fn report_sheet(text: &[u8], out: &mut [u8]) -> Result<usize, Refusal>
         &mut frontiers,
         out,
     )
+}
+
+// The bytes to print, made in `out`: the report, or the lines of the refusal. The buffer is long enough for both. `room` is a slice, since a
+// part of an array behind a reference is not covered.
+pub fn answer<'a>(text: &[u8], out: &'a mut [u8; BYTES]) -> &'a [u8]
+    ensures { result.now ≡ printed text.now }
+{
+    let room: &'a mut [u8] = out;
+    match report_sheet(text, room) {
+        Ok(count) => &room[..count],
+        Err(refusal) => {
+            let count = put_refusal(room, 0, refusal);
+            &room[..count]
+        }
+    }
 }

@@ -1,4 +1,4 @@
-// The list entries asked about recorded scenes.
+// The list entries, and the one over records, asked about recorded scenes.
 use super::compare::Replay;
 use checks::refusals::liveness_lists;
 use circuit::{fragment_nets, from_parts};
@@ -6,8 +6,10 @@ use inputs::{InputSources, required_input};
 use lists::ends::Ends;
 use lists::{COMPONENT, COMPONENTS, CONNECTION, CONNECTIONS, FRONTIER, FRONTIERS, PORT, Refusal};
 use liveness::{Analysis, analyze_signal_liveness};
+use records::{PortRecord, analyze_records};
 use scene::connections::port_connections;
 use sets::ComponentSet;
+use std::array;
 
 // How many source rows and verdict rows the liveness entry asks room for.
 const SOURCES: usize = 2 * COMPONENTS;
@@ -37,6 +39,58 @@ struct Rows {
     regions: [u64; COMPONENTS],
     sources: [u64; SOURCES * 2],
     inputs: [u64; INPUTS * 3],
+}
+
+// The two liveness entries: over a flat list of port connections, and over a list of records.
+#[derive(Clone, Copy)]
+enum Entry {
+    Flat,
+    Records,
+}
+
+// The records of a flat list; behind them there are zeros.
+fn records_of(ports: &[i64]) -> [PortRecord; CONNECTIONS] {
+    let (rows, _) = ports.as_chunks::<PORT>();
+    array::from_fn(|i| {
+        let row = rows.get(i).copied().unwrap_or([0; PORT]);
+        PortRecord {
+            source: row[0],
+            source_port: row[1],
+            sink: row[2],
+            sink_port: row[3],
+            transfer: row[4],
+        }
+    })
+}
+
+impl Entry {
+    // Asks the entry about a scene.
+    fn analyze(self, scene: Scene, ports: &[i64], rows: &mut Rows) -> Result<Analysis, Refusal> {
+        let mut stack = [0usize; 2 * COMPONENTS];
+        match self {
+            Entry::Flat => analyze_signal_liveness(
+                scene.components,
+                ports,
+                scene.frontiers,
+                &mut rows.regions,
+                &mut rows.sources,
+                &mut rows.inputs,
+                &mut stack,
+            ),
+            Entry::Records => {
+                let records = records_of(ports);
+                analyze_records(
+                    scene.components,
+                    &records[..CONNECTIONS.min(ports.len() / PORT)],
+                    scene.frontiers,
+                    &mut rows.regions,
+                    &mut rows.sources,
+                    &mut rows.inputs,
+                    &mut stack,
+                )
+            }
+        }
+    }
 }
 
 // What a refused scene has.
@@ -125,8 +179,8 @@ impl Replay {
         }
     }
 
-    // Regions, sources, drive and verdicts.
-    fn replay_liveness(&mut self, scene: Scene, ports: &[i64]) {
+    // Regions, sources, drive and verdicts by one of the entries.
+    fn replay_entry(&mut self, entry: Entry, scene: Scene, ports: &[i64]) {
         let mut keys = [0u64; COMPONENTS];
         let mut ends = [Ends { source: 0, sink: 0 }; CONNECTIONS];
         let mut rows = Rows {
@@ -134,7 +188,6 @@ impl Replay {
             sources: [0; SOURCES * 2],
             inputs: [0; INPUTS * 3],
         };
-        let mut stack = [0usize; 2 * COMPONENTS];
         let _ = liveness_lists(
             scene.components,
             ports,
@@ -143,15 +196,7 @@ impl Replay {
             &mut keys,
             &mut ends,
         );
-        let answer = analyze_signal_liveness(
-            scene.components,
-            ports,
-            scene.frontiers,
-            &mut rows.regions,
-            &mut rows.sources,
-            &mut rows.inputs,
-            &mut stack,
-        );
+        let answer = entry.analyze(scene, ports, &mut rows);
         let plot = Plot {
             components: scene.components,
             ports,
@@ -160,6 +205,14 @@ impl Replay {
         };
         let found = self.accepted(answer, no_analysis());
         self.replay_analysis(plot, found, &rows);
+    }
+
+    // The same recorded answer, held to what both entries answer.
+    fn replay_liveness(&mut self, scene: Scene, ports: &[i64]) {
+        let at = self.tally.at;
+        self.replay_entry(Entry::Flat, scene, ports);
+        self.tally = self.tally.counted(at, 0, 0);
+        self.replay_entry(Entry::Records, scene, ports);
     }
 
     // ---- scenes

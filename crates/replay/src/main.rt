@@ -1,5 +1,5 @@
-// Reads recorded scenes and what the Rust answered to them from standard input, asks the list entries, and writes how many scenes there
-// were, how many recorded numbers were compared, and how many differ.
+// Reads recorded scenes and what the Rust answered to them from standard input, asks the list entries and the one over records, and writes
+// how many scenes there were, how many recorded numbers were compared, and how many differ.
 #![tactic(auto)]
 
 mod answers;

@@ -55,14 +55,14 @@ fn made() -> Option<PathBuf> {
     is_made.then_some(program)
 }
 
-fn start(input: Stdio) -> io::Result<Child> {
+fn start(input: Stdio, output: Stdio) -> io::Result<Child> {
     const FAULT: &str = "`tools/build plotreport` failed in the repository's root";
     static PROGRAM: OnceLock<Option<PathBuf>> = OnceLock::new();
     let program = PROGRAM.get_or_init(made);
     let program = program.as_ref().ok_or_else(|| io::Error::other(FAULT))?;
     Command::new(program)
         .stdin(input)
-        .stdout(Stdio::piped())
+        .stdout(output)
         .stderr(Stdio::piped())
         .spawn()
 }
@@ -81,7 +81,7 @@ fn write_all(mut pipe: ChildStdin, input: &[u8], bytes: usize, pause: Duration) 
 }
 
 fn from_a_pipe(input: &[u8], bytes: usize, pause: Duration) -> io::Result<Output> {
-    let mut child = start(Stdio::piped())?;
+    let mut child = start(Stdio::piped(), Stdio::piped())?;
     let pipe = child.stdin.take();
     let pipe = pipe.ok_or_else(|| io::Error::other("no pipe to the program"))?;
     thread::scope(|scope| {
@@ -93,13 +93,21 @@ fn from_a_pipe(input: &[u8], bytes: usize, pause: Duration) -> io::Result<Output
     })
 }
 
+/// All that the program writes, between what it reads and writes here.
+///
+/// # Errors
+/// Where the program cannot be made or run.
+pub fn run_between(input: Stdio, output: Stdio) -> io::Result<Output> {
+    start(input, output)?.wait_with_output()
+}
+
 fn from_a_file(input: &[u8]) -> io::Result<Output> {
     static FILES: AtomicUsize = AtomicUsize::new(0);
     let number = FILES.fetch_add(1, Ordering::Relaxed);
     let name = format!("plotreport-{}-{number}.sheet", std::process::id());
     let path = std::env::temp_dir().join(name);
     fs::write(&path, input)?;
-    let output = File::open(&path).and_then(|file| start(file.into())?.wait_with_output());
+    let output = File::open(&path).and_then(|file| run_between(file.into(), Stdio::piped()));
     fs::remove_file(&path)?;
     output
 }

@@ -1,11 +1,14 @@
 //! The program `plotreport` against the restatement and the examples: its
-//! input from files and pipes, sheets and reports at the ends of its buffers.
+//! input from files and pipes, sheets and reports at the ends of its buffers,
+//! reads and writes that fail.
 
+use std::fs::File;
 use std::io;
 use std::path::PathBuf;
+use std::process::{Output, Stdio};
 use std::time::Duration;
 
-use checks::program::{Feed, run};
+use checks::program::{Feed, run, run_between};
 use checks::runs::{self, Seeds};
 use paper::program::{BUFFER, plotreport};
 use paper::report::report;
@@ -33,7 +36,7 @@ fn hold(input: &[u8], wanted: &[u8], feed: Feed, case: &str) -> io::Result<()> {
     assert!(output.stdout == wanted, "{case}, {feed:?}: {given}");
     assert!(output.stderr.is_empty(), "{case}, {feed:?}: errors");
     let status = output.status;
-    assert!(status.code().is_some(), "{case}, {feed:?}: {status}");
+    assert!(status.success(), "{case}, {feed:?}: {status}");
     Ok(())
 }
 
@@ -69,6 +72,32 @@ fn on_the_examples() -> io::Result<()> {
 fn on_nothing() -> io::Result<()> {
     let wanted = hold_by_every_feed(b"", "nothing")?;
     assert_eq!(wanted, b"answer=9\nlist=3\nitem=0\n");
+    Ok(())
+}
+
+/// A read or a write that failed: it is said, and is no answer.
+fn hold_failed(output: &Output, kind: &str) {
+    let said = output.stderr.escape_ascii().to_string();
+    assert!(said.starts_with("Error: ") && said.contains(kind), "{said}");
+    assert_eq!(output.status.code(), Some(1), "{said}");
+    assert!(output.stdout.is_empty(), "{said}");
+}
+
+#[test]
+fn on_input_that_cannot_be_read() -> io::Result<()> {
+    let folder = File::open(env!("CARGO_MANIFEST_DIR"))?;
+    hold_failed(&run_between(folder.into(), Stdio::piped())?, "IsADirectory");
+    Ok(())
+}
+
+/// A report, and a refusal.
+#[test]
+fn on_output_that_cannot_be_written() -> io::Result<()> {
+    let examples = PathBuf::from(env!("CARGO_MANIFEST_DIR")).join("../../examples");
+    let full = || File::options().write(true).open("/dev/full");
+    let sheet = File::open(examples.join("lever-and-repeater.sheet"))?;
+    hold_failed(&run_between(sheet.into(), full()?.into())?, "StorageFull");
+    hold_failed(&run_between(Stdio::null(), full()?.into())?, "StorageFull");
     Ok(())
 }
 
