@@ -4,7 +4,9 @@ use checks::refusals::liveness_lists;
 use circuit::{fragment_nets, from_parts};
 use inputs::{InputSources, required_input};
 use lists::ends::Ends;
-use lists::{COMPONENT, COMPONENTS, CONNECTION, CONNECTIONS, FRONTIER, FRONTIERS, PORT, Refusal};
+use lists::{
+    COMPONENT, COMPONENTS, CONNECTION, CONNECTIONS, FRONTIER, FRONTIERS, PORT, Refusal, list_number,
+};
 use liveness::{Analysis, analyze_signal_liveness};
 use records::{PortRecord, analyze_records};
 use scene::connections::port_connections;
@@ -235,6 +237,45 @@ impl Replay {
         let mut ports = [0i64; CONNECTIONS * PORT];
         let n = self.read_given(b"given", &mut ports);
         self.replay_liveness(scene, &ports[..n]);
+    }
+
+    // What an entry says of a scene that it is to refuse: number, list and item, or no refusal.
+    fn replay_refusal(&mut self, entry: Entry, scene: Scene, ports: &[i64]) {
+        let mut rows = Rows {
+            regions: [0; COMPONENTS],
+            sources: [0; SOURCES * 2],
+            inputs: [0; INPUTS * 3],
+        };
+        let said = match entry.analyze(scene, ports, &mut rows) {
+            Ok(_) => [0, 0, 0],
+            Err(refusal) => [
+                u64::from(refusal.fault),
+                list_number(refusal.list),
+                refusal.item as u64,
+            ],
+        };
+        self.compare(b"refusal", &said);
+    }
+
+    // Replays a scene at the front of the text that both liveness entries are to refuse, and brings the next one there.
+    pub(crate) fn replay_refused(&mut self) {
+        let mut components = [0i64; COMPONENTS * COMPONENT];
+        let mut ports = [0i64; CONNECTIONS * PORT];
+        let mut seeds = [0i64; 1];
+        self.read_given(b"refused", &mut seeds);
+        let c = self.read_given(b"components", &mut components);
+        let p = self.read_given(b"given", &mut ports);
+        let scene = Scene {
+            components: &components[..c],
+            connections: &[],
+            frontiers: &[],
+        };
+        let at = self.tally.at;
+        self.replay_refusal(Entry::Flat, scene, &ports[..p]);
+        self.tally = self.tally.counted(at, 0, 0);
+        self.replay_refusal(Entry::Records, scene, &ports[..p]);
+        self.tally = self.tally.with_scene();
+        self.go_on();
     }
 
     // What is recorded of a scene behind its three lists.

@@ -11,14 +11,18 @@ use compare::{Replay, TEXT, Tally};
 // More scenes than any input has.
 const SCENES: u64 = 1 << 32;
 
-// Replays all scenes of standard input. Behind the end of a text there are zeros.
+// Replays all scenes of standard input, accepted ones and those to be refused. Behind the end of a text there are zeros.
 fn replay_all(replay: &mut Replay) {
     replay.go_on();
     for _ in 0..SCENES {
         if replay.text[0] == 0 {
             return;
         }
-        replay.replay_scene();
+        if replay.text[0] == b'r' {
+            replay.replay_refused();
+        } else {
+            replay.replay_scene();
+        }
     }
 }
 
