@@ -14,6 +14,7 @@ pub fn read_front<R: Read>(input: &mut R, out: &mut [u8]) -> io::Result<usize>
     ensures end { IfOk result (λ n. n < length out.new → IsAtEnd (R.remaining input.new)) }
 {
     let mut n = 0;
+    // By hand: no range says how many reads it takes.
     while n < out.len() {
         let more = input.read(&mut out[n..])?;
         if more == 0 {
