@@ -1,25 +1,26 @@
 -- What the program prints: the lines of any refusal have room in its buffer; a sheet that is too long is refused before all else.
 --     refusal_room               the lines of a refusal
 --     long_sheet, short_sheet    the first stage
---     refusal_shown              of a refusal, what stands in the buffer is what is to be printed
+--     refusal_shown, report_shown     what stands in the buffer is what is to be printed
+--     printed_demand             of an accepted sheet, demand 3 of what is printed
 -- Assumes nothing.
 use Rattle.lists.specs.Refusal.{fault_number, list_number}
 use Rattle.lists.specs.declared.Fault.{Fault}
 use Rattle.std.specs.Prelude.{None}
 use Rattle.std.specs.Prelude.{⊤, Result, Ok, Err}
-use mathlib.Core.Path.{◌≡◌, ap, ◌∙◌}
+use mathlib.Core.Path.{◌≡◌, refl, sym, ap, ◌∙◌}
 use mathlib.Core.Bool.{Bool, true, false, cond}
-use mathlib.Core.List.{List, [], ◌∷◌, ◌++◌}
-use Prim.Native.Nat.{ℕ, zero, suc, ◌+◌, ◌/◌, ◌%◌, ◌≤◌, ◌<◌}
+use mathlib.Core.List.{List, [], ◌∷◌, ◌++◌, append-nil}
+use Prim.Native.Nat.{ℕ, zero, suc, ◌+◌, ◌*◌, ◌/◌, ◌%◌, ◌≤◌, ◌<◌}
 use native.Mathlib.Omega.{arith}
 use Rattle.lists.specs.Slices.{laid}
 use lib.Dec.{ltb}
 use lib.IntN.{pos}
 use lib.ListN.{length, take, length-append}
 use borrow.Author.Tests.{le-leb, lt-leb}
-use Rattle.checks.specs.Refusals.{refuse, ◌or_else◌}
+use Rattle.checks.specs.Refusals.{refuse, ◌or_else◌, sheet_refusal}
 use Rattle.lists.specs.declared.Refusal.{Refusal}
-use Rattle.checks.proofs.Chain.{refused_not}
+use Rattle.checks.proofs.Chain.{refused_not, both_accept}
 use Rattle.lines.specs.Text.{ascii}
 use Rattle.lines.specs.Decimal.{digits_then, line_of}
 use Rattle.lines.proofs.Writing.{line_size}
@@ -27,8 +28,11 @@ use Rattle.blocks.specs.Lines.{refusal_lines}
 use Rattle.blocks.specs.Printed.{Printed}
 use Rattle.blocks.proofs.Printing.{printed_end}
 use Rattle.report.proofs.Scenes.{front_is}
-use Rattle.report.specs.Entry.{answer_by}
-use Rattle.plotreport.specs.Program.{sheet_bytes, report_bytes, too_long_sheet, sheet_report, program_checked, printed_by, printed, ProgramPrinted}
+use Rattle.report.specs.Entry.{answer_by, report_checked, lists_checked, fits}
+use Rattle.report.proofs.ReadBack.{regions_printed}
+use Rattle.sheet.specs.Entry.{components_of, connections_of, frontiers_of, sheet_checked}
+use Rattle.lists.specs.Limits.{component_width, connection_width, frontier_width}
+use Rattle.plotreport.specs.Program.{sheet_bytes, report_bytes, too_long_sheet, sheet_report, program_checked, printed_by, printed, ProgramPrinted, RegionsOfSheet, parsed_by, components, connections, frontiers}
 
 -- ---- the lines of a refusal
 
@@ -86,3 +90,34 @@ refusal_shown text {out} {mid} {out'} {r} {n} long p q =
       inside = omega (arith, refusal_room r, ap length same, long, put.1, q.long);
       front = front_is (refusal_lines r) mid put.0 n put.1 ∙ rw stopped at shown;
     }
+
+accepted : (checks : Result ⊤ Refusal) (text : List ℕ) {n : ℕ} → Ok n ≡ answer_by checks text → (checks ≡ Ok tt) × (n ≡ length text)
+accepted (Ok _) text e = (refl, cc)
+accepted (Err r) text e = let z : ◌≡◌ {A = ℕ} 0 1 = cc in absurd (omega arith)
+
+pub report_shown : (text : List ℕ) {out out' : List ℕ} {n : ℕ} → length out ≡ report_bytes → ProgramPrinted text out out' (Ok n)
+    → take n out' ≡ printed text
+report_shown text {out} {out'} {n} long p =
+    let went = accepted (program_checked text (length out)) (sheet_report text) p.by.answer in
+    let left : out' ≡ laid (sheet_report text) out = rw went.0 at p.by.left in
+    let shown = ap (λ room. printed_by (program_checked text room) (sheet_report text)) long in
+    front_is (sheet_report text) out left n went.1 ∙ rw went.0 at shown
+
+-- ---- demand 3
+
+-- of an accepted sheet, on what is printed
+pub printed_demand : (text out : List ℕ) → out ≡ printed text → program_checked text report_bytes ≡ Ok tt → RegionsOfSheet text out
+printed_demand text out is e =
+    let p = parsed_by text in
+    let cs = components_of p in
+    let ps = connections_of p in
+    let fs = frontiers_of p in
+    let report = sheet_report text in
+    let a = components * component_width in
+    let b = connections * connection_width in
+    let c = frontiers * frontier_width in
+    let read = both_accept (refuse Fault.ListLength None (too_long_sheet text)) (report_checked p a b c report_bytes) e in
+    let lists = both_accept (sheet_checked p a b c) (lists_checked cs ps fs report_bytes) read.1 in
+    let scene = both_accept (sheet_refusal cs ps fs) (fits report report_bytes) lists.1 in
+    let same : out ≡ report = is ∙ ap (λ checks. printed_by checks report) e in
+    rw (same, sym (append-nil report)) (regions_printed cs ps fs scene.0 [])

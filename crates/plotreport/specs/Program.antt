@@ -60,8 +60,10 @@ printed_by (Err r) report = refusal_lines r
 abbrev pub printed : List ℕ → List ℕ
 printed text = printed_by (program_checked text report_bytes) (sheet_report text)
 
+-- demand 3 of the lists that were read, on the numbers that `out` begins with
+abbrev pub RegionsOfSheet : List ℕ → List ℕ → Type 0
+RegionsOfSheet text out = let cs = components_of (parsed_by text) in RegionsPrinted cs (kept_list cs (connections_of (parsed_by text))) out
+
 pub record ProgramPrinted (text out out' : List ℕ) (r : Result ℕ Refusal) : Type 0 where
   pub by : PrintedBy (program_checked text (length out)) (sheet_report text) out out' r
-  -- demand 3, on the numbers printed
-  pub demand : program_checked text (length out) ≡ Ok tt
-      → RegionsPrinted (components_of (parsed_by text)) (kept_list (components_of (parsed_by text)) (connections_of (parsed_by text))) out'
+  pub demand : program_checked text (length out) ≡ Ok tt → RegionsOfSheet text out'

@@ -1,6 +1,6 @@
 // What the program plotreport prints for the bytes that it read. Its limits stand here.
-ghost use Rattle.std.specs.Prelude.{◌≡◌};
-ghost use Rattle.plotreport.specs.Program.{ProgramPrinted, printed};
+ghost use Rattle.std.specs.Prelude.{◌≡◌, Ok};
+ghost use Rattle.plotreport.specs.Program.{ProgramPrinted, RegionsOfSheet, program_checked, printed, report_bytes};
 
 use blocks::answer::put_refusal;
 use lists::{COMPONENT, CONNECTION, FRONTIER, Fault, Refusal};
@@ -51,7 +51,8 @@ fn report_sheet(text: &[u8], out: &mut [u8]) -> Result<usize, Refusal>
 // The bytes to print, made in `out`: the report, or the lines of the refusal. The buffer is long enough for both. `room` is a slice, since a
 // part of an array behind a reference is not covered.
 pub fn answer<'a>(text: &[u8], out: &'a mut [u8; BYTES]) -> &'a [u8]
-    ensures { result.now ≡ printed text.now }
+    ensures printed { result.now ≡ printed text.now }
+    ensures demand { program_checked text.now report_bytes ≡ Ok tt → RegionsOfSheet text.now result.now }
 {
     let room: &'a mut [u8] = out;
     match report_sheet(text, room) {
