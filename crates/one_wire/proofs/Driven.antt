@@ -35,7 +35,7 @@ use Rattle.liveness.specs.Demand.{Chain}
 use Rattle.liveness.specs.Meaning.{FedFrom}
 use Rattle.liveness.specs.Scene.{Scene}
 use Rattle.liveness.proofs.Demands.{signals_within, chain_reach, reach_chain}
-use Rattle.liveness.proofs.Meanings.{walked_from}
+use Rattle.liveness.proofs.Meanings.{fed_walk}
 use Rattle.one_wire.specs.Added.{Added}
 use Rattle.one_wire.specs.Ports.{is_driven, is_reachable, newly, Meanings}
 use Rattle.one_wire.proofs.Shifted.{longer, at_before, at_after, port_in, port_there}
@@ -48,14 +48,8 @@ module _ (cs ps : List ℤ) (scene : Scene cs ps) where
   n = component_count cs
 
   driven_is : (fs : List ℤ) → FedFrom cs ps (is_drive cs fs) (is_driven cs ps fs)
-  unfolding members_where drive
-  driven_is fs = record {
-    exactly = λ p h.
-        let walked = walked_from n (signals cs ps) (signals_within cs ps scene) n (is_drive cs fs) (member_of cs) (λ q l _. member_below cs q l) (member_of cs p) in (
-          λ t. let (q, l, d, path) = walked.0 t in (q, l, d, reach_chain cs ps scene path q p l h refl refl),
-          λ (q, l, d, c). walked.1 (q, l, d, chain_reach cs ps c),
-        );
-  }
+  unfolding drive
+  driven_is fs = fed_walk cs ps scene (is_drive cs fs)
 
   module _ (q p : ℕ) (l : q < n) (h : p < n) where
     laws : ReachLaws n (signals cs ps) (tabulate (eqb (member_of cs q)) n)
