@@ -27,7 +27,7 @@ use Rattle.regions.specs.Theorems.{ReachLaws}
 use Rattle.regions.proofs.Theorems.{reach_laws}
 use Rattle.signals.specs.Signals.{is_signal, signals}
 use Rattle.signals.specs.Sources.{is_drive}
-use Rattle.signals.specs.Drive.{members_where, drive}
+use Rattle.signals.specs.Drive.{drive}
 use Rattle.signals.proofs.Tabulated.{tabulated_at}
 use Rattle.signals.proofs.Tested.{same_truth}
 use Rattle.signals.proofs.Ends.{found_place, ends_below}

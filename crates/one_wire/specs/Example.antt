@@ -28,10 +28,12 @@ pub record Reached : Type 0 where
   pub joining_added : (kind : ℕ) → Added connection_width [] 0 (joining kind)
   -- one net fewer, and with a kind above 4 none
   pub net_accepted : grouping_lists lever_and_repeater (joining 4) [] true ≡ Ok tt
-  pub nets : (net_count lever_and_repeater [] ≡ 2) × (net_count lever_and_repeater (joining 4) ≡ 1) × (net_count lever_and_repeater (joining 5) ≡ 2)
+  pub nets : (net_count lever_and_repeater [] ≡ 2) × (net_count lever_and_repeater (joining 4) ≡ 1)
+      × (net_count lever_and_repeater (joining 5) ≡ 2)
   -- one fragment fewer, and with kind 9 none
   pub fragment_accepted : grouping_lists lever_and_repeater (joining 8) [] true ≡ Ok tt
-  pub fragments : (fragment_count lever_and_repeater [] ≡ 2) × (fragment_count lever_and_repeater (joining 8) ≡ 1) × (fragment_count lever_and_repeater (joining 9) ≡ 2)
+  pub fragments : (fragment_count lever_and_repeater [] ≡ 2) × (fragment_count lever_and_repeater (joining 8) ≡ 1)
+      × (fragment_count lever_and_repeater (joining 9) ≡ 2)
   -- one component newly driven, and one reachable from the sink: itself
   pub feed_added : Added port_width [] 0 feed
   pub feed_signal : is_signal feed 0 ≡ true

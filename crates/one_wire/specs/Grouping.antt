@@ -4,7 +4,7 @@
 --     GroupCounts               what one connection does to the counts
 --     OneGroupingConnection     the statement, of the definitions
 --     OneGroupingAnswer         the same of what `circuit::from_parts` answers
--- The theorems are `one_grouping_connection` and `one_grouping_answer` of proofs/Theorems.antt. No definition here takes a rules number.
+-- The theorems are `one_grouping_connection` and `one_grouping_answer` of proofs/Theorems.antt.
 -- Assumes nothing: these are statements.
 use Rattle.std.specs.Prelude.{Ok, ℕ, suc, ◌<◌, ◌≡◌, Bool, List, ◌⊎◌, ℤ}
 use Rattle.lists.specs.Limits.{connection_width}
@@ -34,7 +34,8 @@ pub record GroupCounts (cs ps ps' : List ℤ) (kind : ℕ) : Type 0 where
 
 -- of the lists only those with the connection need be accepted, by the grouping entry or in a sheet, whatever slices are lent
 abbrev pub OneGroupingConnection : Type 0
-OneGroupingConnection = (cs ps ps' fs : List ℤ) (i : ℕ) (enough : Bool) → Added connection_width ps i ps' → grouping_lists cs ps' fs enough ≡ Ok tt
+OneGroupingConnection = (cs ps ps' fs : List ℤ) (i : ℕ) (enough : Bool) → Added connection_width ps i ps'
+    → grouping_lists cs ps' fs enough ≡ Ok tt
     → GroupCounts cs ps ps' (connection ps' i).kind
 
 -- two answers of the entry, neither a refusal
