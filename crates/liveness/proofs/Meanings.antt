@@ -1,6 +1,7 @@
 -- What a walk visits, in chains of edges and of port connections.
 --     walked_from      from the nodes that some numbers lead to
---     fed_from         from the components of a test, in chains of an accepted scene's port connections
+--     fed_walk         from the components of a test, in chains of an accepted scene's port connections
+--     fed_from         the same of the set that an answer keeps
 -- Assumes nothing.
 use mathlib.Core.Path.{◌≡◌, refl, sym, ◌∙◌}
 use mathlib.Core.Bool.{Bool, true, false, ◌&&◌}
@@ -52,19 +53,23 @@ module _ (n : ℕ) (edge : Edges) (within : Within n edge) (m : ℕ) (P : ℕ �
 pub asked_below : {n : ℕ} {P : ℕ → Bool} {words : List ℕ} → SetWhere n P words → (k : ℕ) → k < n → member_of words k ≡ P k
 asked_below {n} {P} s k h = s.member k ∙ rw (lt-ltb k n h)
 
--- the set of what the components of a test reach
+-- what a walk from the components of a test visits
+pub fed_walk : (cs ps : List ℤ) → Scene cs ps → (P : ℕ → Bool)
+    → FedFrom cs ps P (λ p. marked (reached (component_count cs) (signals cs ps) (members_where cs P)) (Ids.member_of cs p))
+unfolding members_where
+fed_walk cs ps scene P = record {
+  exactly = λ p h.
+      let walked = walked_from (component_count cs) (signals cs ps) (signals_within cs ps scene) (component_count cs) P (Ids.member_of cs)
+      (λ q l _. member_below cs q l) (Ids.member_of cs p) in (
+        λ e. let (q, l, holds, path) = walked.0 e in (q, l, holds, reach_chain cs ps scene path q p l h refl refl),
+        λ (q, l, holds, chain). walked.1 (q, l, holds, chain_reach cs ps chain),
+      );
+}
+
+-- the set of these
 pub fed_from : (cs ps : List ℤ) → Scene cs ps → (P : ℕ → Bool) {words : List ℕ}
     → SetWhere (component_count cs) (marked (reached (component_count cs) (signals cs ps) (members_where cs P))) words
     → FedFrom cs ps P (λ p. member_of words (Ids.member_of cs p))
-unfolding members_where
 fed_from cs ps scene P s = record {
-  exactly = λ p h.
-      let walked = walked_from (component_count cs) (signals cs ps) (signals_within cs ps scene) (component_count cs) P (Ids.member_of cs)
-      (λ q l _. member_below cs q l) (Ids.member_of cs p) in
-      let asked = asked_below s (Ids.member_of cs p) (member_below cs p h) in (
-        λ e.
-            let (q, l, holds, path) = walked.0 (sym asked ∙ e) in
-            (q, l, holds, reach_chain cs ps scene path q p l h refl refl),
-        λ (q, l, holds, chain). asked ∙ walked.1 (q, l, holds, chain_reach cs ps chain),
-      );
+  exactly = λ p h. rw (asked_below s (Ids.member_of cs p) (member_below cs p h)) ((fed_walk cs ps scene P).exactly p h);
 }
