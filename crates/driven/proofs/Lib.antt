@@ -4,8 +4,14 @@
 --     Examples     small graphs
 --     Reported     the verdict rows of an analysis
 --     Driven       what specs/Status.antt states
+--     Frames       the open calls of `seek` as a stack of frames
+--     Stack        seek_from
+--     Starts       seek_all
 pub mod Passing
 pub mod Sought
 pub mod Examples
 pub mod Reported
 pub mod Driven
+pub mod Frames
+pub mod Stack
+pub mod Starts
