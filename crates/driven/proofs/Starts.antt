@@ -1,6 +1,6 @@
 -- The loop of `seek_all`: searches from the starts, one after the other. Its invariant is `Going`.
 -- Assumes nothing.
-use mathlib.Core.Path.{◌≡◌, refl, sym, ap, ap₂, ◌∙◌}
+use mathlib.Core.Path.{◌≡◌, refl, sym, ap, ap₂, subst, ◌∙◌}
 use mathlib.Core.Bool.{Bool, true, false, cond}
 use mathlib.Core.List.{List, [], ◌∷◌, ◌++◌}
 use Prim.Native.Nat.{ℕ, zero, suc, ◌+◌, ◌-◌, ◌≤◌, ◌<◌}
@@ -10,10 +10,9 @@ use lib.ListN.{length, replicate}
 use Rattle.regions.specs.Graph.{marked, range, filter, each}
 use Rattle.regions.specs.Kosaraju.{starts_of}
 use Rattle.regions.specs.Keys.{edges}
-use Rattle.regions.specs.Search.{Zeros}
 use Rattle.regions.proofs.Laws.Loops.{each_append}
 use Rattle.driven.specs.Seek.{Search, seek, seeking, sought}
-use Rattle.driven.specs.Search.{search_of, SeekRoom, SeeksFrom, SeeksIf, Seeks}
+use Rattle.driven.specs.Search.{search_of, SeekRoom, SeeksFrom, Seeks}
 use Rattle.driven.proofs.Passing.{each_stopped}
 
 -- ---- the starts, by rising number
@@ -76,14 +75,39 @@ going_begin {n} {keys} {goals} {met₀} {met} {stack} starts r e same = record {
   };
 }
 
+module _ {n : ℕ} {keys : List ℕ} {goals starts met : List Bool} {stack : List ℕ} {start : ℕ} (g : Going n keys goals starts met stack start) where
+  -- a node that is no start
+  pub going_skip : marked starts start ≡ false → Going n keys goals starts met stack (start + 1)
+  going_skip e = record {
+    goes =
+        g.goes
+        ∙ ap (λ (b : Bool). cond b (f start so_far) so_far) (sym e)
+        ∙ sym (each_one f starts (seeking (replicate n false)) start);
+    room = g.room;
+  }
+    where
+      f : ℕ → Search → Search
+      f = seek n (edges n keys) goals n
+
+      so_far : Search
+      so_far = each f (starts_of start starts) (seeking (replicate n false))
+
 module _ {n : ℕ} {keys : List ℕ} {goals starts met : List Bool} {stack : List ℕ} {start : ℕ} (g : Going n keys goals starts met stack start)
-    {met' : List Bool} {stopped : Bool} {stack' : List ℕ} (s : SeeksIf n (edges n keys) goals starts start met met' stopped stack') where
+    (marks : marked starts start ≡ true) {met' : List Bool} {stopped : Bool} {stack' : List ℕ}
+    (s : SeeksFrom (length met) (edges (length met) keys) goals start met met' stopped stack') where
+  here : SeeksFrom n (edges n keys) goals start met met' stopped stack'
+  here = subst (λ (m : ℕ). SeeksFrom m (edges m keys) goals start met met' stopped stack') g.room.met_length s
+
   -- after one start more
   after : search_of met' stopped ≡ each (seek n (edges n keys) goals n) (starts_of (start + 1) starts) (seeking (replicate n false))
   after =
-      s.seeks
-      ∙ ap (λ (t : Search). cond (marked starts start) (seek n (edges n keys) goals n start t) t) g.goes
+      here.seeks
+      ∙ ap (seek n (edges n keys) goals n start) g.goes
+      ∙ ap (λ (b : Bool). cond b (seek n (edges n keys) goals n start so_far) so_far) (sym marks)
       ∙ sym (each_one (seek n (edges n keys) goals n) starts (seeking (replicate n false)) start)
+    where
+      so_far : Search
+      so_far = each (seek n (edges n keys) goals n) (starts_of start starts) (seeking (replicate n false))
 
   pub going_on : stopped ≡ false → length met' ≡ length met → length stack' ≡ length stack → Going n keys goals starts met' stack' (start + 1)
   going_on e lm ls = record {
@@ -125,19 +149,3 @@ going_end {n} {keys} {goals} {starts} {start = start} g le ge =
       seeks = g.goes ∙ ap (λ (j : ℕ). each (seek n (edges n keys) goals n) (starts_of j starts) (seeking (replicate n false))) e;
       stack_zeros = g.room.stack_zeros;
     }
-
--- ---- one start
-
-pub seeks_start : {n : ℕ} (keys : List ℕ) {goals : List Bool} (starts : List Bool) {x : ℕ} {met met' : List Bool} {stopped : Bool} {stack : List ℕ} → marked starts x ≡ true
-    → SeeksFrom n (edges n keys) goals x met met' stopped stack → SeeksIf n (edges n keys) goals starts x met met' stopped stack
-seeks_start {n} keys {goals} starts {x} {met} m s = record {
-  seeks = s.seeks ∙ ap (λ (b : Bool). cond b (seek n (edges n keys) goals n x (seeking met)) (seeking met)) (sym m);
-  stack_zeros = s.stack_zeros;
-}
-
-pub seeks_none : (n : ℕ) (keys : List ℕ) (goals starts : List Bool) (x : ℕ) (met : List Bool) (stack : List ℕ) → Zeros stack → marked starts x ≡ false
-    → SeeksIf n (edges n keys) goals starts x met met false stack
-seeks_none n keys goals starts x met stack z m = record {
-  seeks = ap (λ (b : Bool). cond b (seek n (edges n keys) goals n x (seeking met)) (seeking met)) (sym m);
-  stack_zeros = z;
-}

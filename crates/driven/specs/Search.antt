@@ -1,10 +1,10 @@
 -- What the contracts say of a search: what it asks of the arrays that it is lent, and how they hold the states of `Seek`. The stack is the one
 -- that the caller lends, n pairs of a node and the place of its next key; it is zero before and after.
 -- Assumes nothing: these are definitions.
-use Rattle.std.specs.Prelude.{◌≡◌, Bool, cond, List, ℕ, ◌*◌, ◌≤◌, length}
+use Rattle.std.specs.Prelude.{◌≡◌, Bool, List, ℕ, ◌*◌, ◌≤◌, length}
 use Rattle.tables.specs.Order.{Ascending}
 use Rattle.tables.specs.Pairs.{span}
-use Rattle.regions.specs.Graph.{Edges, marked}
+use Rattle.regions.specs.Graph.{Edges}
 use Rattle.regions.specs.Search.{Zeros}
 use Rattle.driven.specs.Seek as Seek
 use Rattle.driven.specs.Seek.{seek, sought, seeking}
@@ -25,11 +25,6 @@ pub record SeekRoom (n : ℕ) (keys : List ℕ) (goals met : List Bool) (stack :
 -- what a search from x does: it is `seek` of a walk that goes on, and it leaves the stack zero
 pub record SeeksFrom (n : ℕ) (edge : Edges) (goals : List Bool) (x : ℕ) (met₀ met : List Bool) (stopped : Bool) (stack : List ℕ) : Type 0 where
   pub seeks : search_of met stopped ≡ seek n edge goals n x (seeking met₀)
-  pub stack_zeros : Zeros stack
-
--- the same from x where it is marked as a start
-pub record SeeksIf (n : ℕ) (edge : Edges) (goals starts : List Bool) (x : ℕ) (met₀ met : List Bool) (stopped : Bool) (stack : List ℕ) : Type 0 where
-  pub seeks : search_of met stopped ≡ cond (marked starts x) (seek n edge goals n x (seeking met₀)) (seeking met₀)
   pub stack_zeros : Zeros stack
 
 -- what the searches from the starts do
