@@ -7,6 +7,7 @@
 --     Frames       the open calls of `seek` as a stack of frames
 --     Stack        seek_from
 --     Starts       seek_all
+--     Sources      flag_immediate, drive_members
 pub mod Passing
 pub mod Sought
 pub mod Examples
@@ -15,3 +16,4 @@ pub mod Driven
 pub mod Frames
 pub mod Stack
 pub mod Starts
+pub mod Sources

@@ -4,9 +4,7 @@ ghost use Rattle.std.specs.Prelude.{◌<◌, length};
 ghost use Rattle.regions.specs.Keys.{edges};
 ghost use Rattle.driven.specs.Search.{SeekRoom, SeeksFrom, Seeks};
 
-use regions::{Graph, HINTED};
-use tables::SECOND_BITS;
-use tables::rows::hint_rows;
+use regions::Graph;
 
 // Meets the nodes that `start` leads to over nodes that are not met, each one's own neighbours before the next, up to the first goal; answers
 // whether it met one. The stack holds, for each open call, its node and the place of the key to look at next.
@@ -57,19 +55,17 @@ fn seek_from(
 
 // Meets what the marked starts lead to, by rising start, up to the first goal; answers whether it met one.
 pub fn seek_all(
-    keys: &[u64],
+    graph: Graph,
     starts: &[bool],
     goals: &[bool],
     met: &mut [bool],
     stack: &mut [usize],
 ) -> bool
-    requires { SeekRoom (length starts.now) keys.now goals.now met.old stack.old }
-    ensures { let n = length starts.now in Seeks n (edges n keys.now) goals.now starts.now met.new result stack.new }
+    requires { SeekRoom (length starts.now) graph.keys.now goals.now met.old stack.old }
+    ensures { let n = length starts.now in
+        Seeks n (edges n graph.entry.keys.now) goals.now starts.now met.new result stack.new }
 {
     met.fill(false);
-    let mut rows = [0usize; HINTED];
-    hint_rows(keys, SECOND_BITS, &mut rows);
-    let graph = Graph { keys, rows: &rows };
     for (start, is_start) in starts.iter().enumerate() {
         if *is_start && seek_from(graph, start, goals, met, stack) {
             return true;

@@ -5,4 +5,4 @@ use Rattle.driven.proofs.Starts.{Going}
 use Rattle.driven.proofs.seek.seek_all.Given as goal
 
 abbrev pub invariant-loop-start : goal.invariant-loop-start
-invariant-loop-start l = Going (length l.fn.starts) l.fn.keys l.fn.goals l.fn.starts l.met l.stack l.start
+invariant-loop-start l = Going (length l.fn.starts) l.fn.graph.keys.now l.fn.goals l.fn.starts l.met l.stack l.start
