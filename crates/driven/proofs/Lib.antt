@@ -8,6 +8,7 @@
 --     Stack        seek_from
 --     Starts       seek_all
 --     Sources      flag_immediate, drive_members
+--     Asking       driven_in, driven_plot
 pub mod Passing
 pub mod Sought
 pub mod Examples
@@ -17,3 +18,4 @@ pub mod Frames
 pub mod Stack
 pub mod Starts
 pub mod Sources
+pub mod Asking

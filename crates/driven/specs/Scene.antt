@@ -3,7 +3,7 @@
 use Rattle.std.specs.Prelude.{ℕ, ◌*◌, ◌≤◌, ◌≡◌, Bool, ◌&&◌, List, eqb, length, ℤ}
 use Rattle.tables.specs.Order.{Ascending}
 use Rattle.lists.specs.Limits.{component_limit}
-use Rattle.lists.specs.Records.{port_connection}
+use Rattle.lists.specs.Records.{port_connection, component_count, port_count}
 use Rattle.regions.specs.Graph.{Edges, marked}
 use Rattle.regions.specs.Search.{Zeros}
 use Rattle.signals.specs.Signals.{is_signal}
@@ -14,6 +14,13 @@ use Rattle.driven.specs.declared.DrivenInput.{DrivenInput}
 -- port connection k carries a signal to the port of the component with the id
 abbrev pub feeds_id : List ℤ → ℕ → ℕ → ℕ → Bool
 feeds_id ps id port k = is_signal ps k && (eqb (port_connection ps k).sink id && eqb (port_connection ps k).sink_port_of port)
+
+-- room for a key to a port connection, one flag to a member, and two numbers to a member
+pub record AskRoom (cs ps : List ℤ) (backward : List ℕ) (starts goals : List Bool) (stack : List ℕ) : Type 0 where
+  pub backward_room : length backward ≡ port_count ps
+  pub starts_room : length starts ≡ component_count cs
+  pub goals_room : length goals ≡ component_count cs
+  pub stack_room : 2 * component_count cs ≤ length stack
 
 -- what a search asks of as many nodes as there are starts
 pub record SearchRoom (keys : List ℕ) (starts goals : List Bool) (stack : List ℕ) : Type 0 where

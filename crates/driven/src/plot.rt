@@ -11,7 +11,7 @@ ghost use Rattle.regions.specs.Keys.{edges};
 ghost use Rattle.regions.specs.Search.{Zeros};
 ghost use Rattle.inputs.specs.Query.{row_place};
 ghost use Rattle.driven.specs.Driven.{AskedBy};
-ghost use Rattle.driven.specs.Scene.{SearchRoom, Upstream};
+ghost use Rattle.driven.specs.Scene.{AskRoom, SearchRoom, Upstream};
 
 use super::DrivenInput;
 use super::port::{drive_members, flag_immediate, upstream_edges};
@@ -42,6 +42,32 @@ fn search_upstream(
     }
 }
 
+// The question of a port of the component with the id, in arrays that are lent.
+fn driven_in(
+    plot: &Plot,
+    id: u64,
+    port: u64,
+    backward: &mut [u64],
+    starts: &mut [bool],
+    goals: &mut [bool],
+    stack: &mut [usize],
+) -> DrivenInput
+    requires { AskRoom plot.now.components.now plot.now.ports.now backward.old starts.old goals.old stack.old }
+    ensures { let l = plot.now in (p : ℕ) → (component l.components.now p).id ≡ id →
+        AskedBy (Ok tt) l.components.now l.ports.now l.frontiers.now (Some p) port stack.old stack.new (Ok result) }
+{
+    let mut rows = [0usize; HINTED];
+    upstream_edges(plot, backward, &mut rows);
+    flag_immediate(plot, id, port, starts);
+    drive_members(plot, goals);
+    stack.fill(0);
+    let graph = Graph {
+        keys: backward,
+        rows: &rows,
+    };
+    search_upstream(graph, starts, goals, stack)
+}
+
 // The question of a port of the component with the id.
 fn driven_port(plot: &Plot, id: u64, port: u64, stack: &mut [usize]) -> DrivenInput
     requires { 2 * component_count plot.now.components.now ≤ length stack.old }
@@ -51,18 +77,17 @@ fn driven_port(plot: &Plot, id: u64, port: u64, stack: &mut [usize]) -> DrivenIn
     let n = plot.keys.len();
     let m = plot.port_list().count();
     let mut backward = [0u64; CONNECTIONS];
-    let mut rows = [0usize; HINTED];
     let mut starts = [false; COMPONENTS];
     let mut goals = [false; COMPONENTS];
-    upstream_edges(plot, &mut backward[..m], &mut rows);
-    flag_immediate(plot, id, port, &mut starts[..n]);
-    drive_members(plot, &mut goals[..n]);
-    stack.fill(0);
-    let graph = Graph {
-        keys: &backward[..m],
-        rows: &rows,
-    };
-    search_upstream(graph, &starts[..n], &goals[..n], stack)
+    driven_in(
+        plot,
+        id,
+        port,
+        &mut backward[..m],
+        &mut starts[..n],
+        &mut goals[..n],
+        stack,
+    )
 }
 
 // The question of a plot; 8 where the port asked for has no verdict row.
