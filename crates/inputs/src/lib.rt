@@ -5,7 +5,7 @@
 
 pub mod asked;
 mod query;
-mod row;
+pub mod row;
 mod slot;
 
 ghost use Rattle.std.specs.Prelude.{List, ℕ, ℤ, None};

@@ -27,7 +27,7 @@ fn with_row(components: ComponentList, port: u64, p: usize) -> Option<usize>
 }
 
 // Where the component of the port asked for stands, if the port has a verdict row.
-pub(crate) fn row_place(
+pub fn row_place(
     keys: &[u64],
     components: ComponentList,
     id: u64,

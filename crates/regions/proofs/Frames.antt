@@ -44,7 +44,7 @@ module _ {n : ℕ} {keys : List ℕ} (nodes : n ≤ span) (rise : Ascending keys
   opened : (fuel : ℕ) {k i : ℕ} (s : Walk) → k < n → LowerBound keys (k * span) i → length s.visited ≡ n → marked s.visited k ≡ false
       → push k (each (visit n (edges n keys) fuel) (row n k (drop i keys)) (mark k s)) ≡ visit n (edges n keys) (suc fuel) k s
   opened fuel {k} {i} s lt start len new =
-      ap (push k) (row_next n k fuel keys nodes lt rise start (mark k s) (length-set s.visited k true ∙ len))
+      ap (push k) (row_next n k keys nodes lt rise start fuel (mark k s) (length-set s.visited k true ∙ len))
       ∙ sym (visit_new n (edges n keys) fuel k s new)
 
   pub finish_start : (fuel : ℕ) {x i : ℕ} (s : Walk) → x < n → LowerBound keys (x * span) i → length s.visited ≡ n → marked s.visited x ≡ false

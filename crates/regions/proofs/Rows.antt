@@ -65,11 +65,7 @@ ascending_tail a = record { at = λ i j le h. a.at (suc i) (suc j) (omega arith)
 ascending_head : {key : ℕ} {l : List ℕ} → Ascending (key ∷ l) → (j : ℕ) → j < length l → key ≤ get_or l j 0
 ascending_head a j h = a.at 0 (suc j) (omega arith) (omega arith)
 
-module _ (n : ℕ) (edge : Edges) (x fuel : ℕ) where
-  -- the walks from the neighbours that the run holds, from `from` on
-  abbrev Follows : List ℕ → ℕ → Type 0
-  Follows l from = (s : Walk) → length s.visited ≡ n → each (visit n edge fuel) (row n x l) s ≡ each (visit n edge fuel) (onward n edge x from) s
-
+module _ (n : ℕ) (edge : Edges) (x : ℕ) where
   -- the run begins at the keys of x and `from`, and holds all its neighbours from there on
   record Run (l : List ℕ) (from : ℕ) : Type 0 where
     from_le : from ≤ n
@@ -77,16 +73,23 @@ module _ (n : ℕ) (edge : Edges) (x fuel : ℕ) where
     low : (j : ℕ) → j < length l → pair x from ≤ get_or l j 0
     holds : (j : ℕ) → from ≤ j → j < n → edge x j ≡ member (pair x j) l
 
+-- Any walk: it does f at each node, f keeps P, and where P holds f done twice at a node is f done once.
+module _ (n : ℕ) (edge : Edges) (x : ℕ) {S : Type 0} (f : ℕ → S → S) (P : S → Type 0)
+    (keeps : (k : ℕ) (s : S) → P s → P (f k s)) (again : (k : ℕ) (s : S) → k < n → P s → f k (f k s) ≡ f k s) where
+  -- the walks from the neighbours that the run holds, from `from` on
+  abbrev Follows : List ℕ → ℕ → Type 0
+  Follows l from = (s : S) → P s → each f (row n x l) s ≡ each f (onward n edge x from) s
+
   -- no key from here on is one of x's
-  follows_none : (l : List ℕ) (from : ℕ) → Run l from → ((j : ℕ) → j < length l → pair x n ≤ get_or l j 0) → (s : Walk)
-      → s ≡ each (visit n edge fuel) (onward n edge x from) s
+  follows_none : (l : List ℕ) (from : ℕ) → Run n edge x l from → ((j : ℕ) → j < length l → pair x n ≤ get_or l j 0) → (s : S)
+      → s ≡ each f (onward n edge x from) s
   unfolding each
   follows_none l from r past s =
-      ap (λ m. each (visit n edge fuel) m s)
+      ap (λ m. each f m s)
       (sym (onward_none n edge x from r.from_le (λ j p q.
       r.holds j p q ∙ member_none (pair x j) l (λ i h w. let f = past i h in omega arith))))
 
-  module _ (k : ℕ) (l : List ℕ) (from : ℕ) (r : Run (pair x k ∷ l) from) (le : from ≤ k) (lt : k < n) where
+  module _ (k : ℕ) (l : List ℕ) (from : ℕ) (r : Run n edge x (pair x k ∷ l) from) (le : from ≤ k) (lt : k < n) where
     edge_k : edge x k ≡ true
     edge_k = r.holds k le lt ∙ at_member (pair x k) (pair x k ∷ l) 0 (omega arith) refl
 
@@ -101,7 +104,7 @@ module _ (n : ℕ) (edge : Edges) (x fuel : ℕ) where
         ∙ onward_some n edge x k lt edge_k
 
     -- the key is there once more
-    run_again : member (pair x k) l ≡ true → Run l k
+    run_again : member (pair x k) l ≡ true → Run n edge x l k
     run_again m =
         record {
           from_le = omega arith;
@@ -110,7 +113,7 @@ module _ (n : ℕ) (edge : Edges) (x fuel : ℕ) where
           holds = λ j p q. ⊎_elim (λ e. ap (edge x) e ∙ edge_k ∙ sym m ∙ ap (λ (i : ℕ). member (pair x i) l) (sym e)) (λ ne. later j (omega arith) q) (same? j k);
         }
 
-    run_on : member (pair x k) l ≡ false → Run l (suc k)
+    run_on : member (pair x k) l ≡ false → Run n edge x l (suc k)
     run_on m =
         record {
           from_le = omega arith;
@@ -122,37 +125,37 @@ module _ (n : ℕ) (edge : Edges) (x fuel : ℕ) where
         }
 
     -- a neighbour, and what the rest of the run does
-    follows_first : ((from : ℕ) → Run l from → Follows l from) → (s : Walk) → length s.visited ≡ n
-        → each (visit n edge fuel) (row n x l) (visit n edge fuel k s) ≡ each (visit n edge fuel) (onward n edge x from) s
+    follows_first : ((from : ℕ) → Run n edge x l from → Follows l from) → (s : S) → P s
+        → each f (row n x l) (f k s) ≡ each f (onward n edge x from) s
     unfolding each
-    follows_first ih s len =
-        go (member (pair x k) l) refl ∙ ap (λ m. each (visit n edge fuel) m s) (sym onward_k)
+    follows_first ih s kept =
+        go (member (pair x k) l) refl ∙ ap (λ m. each f m s) (sym onward_k)
       where
-        t : Walk
-        t = visit n edge fuel k s
+        t : S
+        t = f k s
 
-        t_long : length t.visited ≡ n
-        t_long = visit_long n edge fuel k s len
+        t_kept : P t
+        t_kept = keeps k s kept
 
-        go : (b : Bool) → member (pair x k) l ≡ b → each (visit n edge fuel) (row n x l) t ≡ each (visit n edge fuel) (onward n edge x (suc k)) t
+        go : (b : Bool) → member (pair x k) l ≡ b → each f (row n x l) t ≡ each f (onward n edge x (suc k)) t
         go true m =
-            ih k (run_again m) t t_long
-            ∙ ap (λ o. each (visit n edge fuel) o t) (onward_some n edge x k lt edge_k)
-            ∙ ap (each (visit n edge fuel) (onward n edge x (suc k))) (visit_again n edge k fuel s (omega arith))
-        go false m = ih (suc k) (run_on m) t t_long
+            ih k (run_again m) t t_kept
+            ∙ ap (λ o. each f o t) (onward_some n edge x k lt edge_k)
+            ∙ ap (each f (onward n edge x (suc k))) (again k s lt kept)
+        go false m = ih (suc k) (run_on m) t t_kept
 
-  follows : (l : List ℕ) (from : ℕ) → Run l from → Follows l from
+  follows : (l : List ℕ) (from : ℕ) → Run n edge x l from → Follows l from
   unfolding row each
-  follows [] from r s len = follows_none [] from r (λ j h. absurd (omega arith)) s
-  follows (key ∷ l) from r s len = go (ltb key (pair x n)) refl (follows l)
+  follows [] from r s kept = follows_none [] from r (λ j h. absurd (omega arith)) s
+  follows (key ∷ l) from r s kept = go (ltb key (pair x n)) refl (follows l)
     where
-      go : (b : Bool) → ltb key (pair x n) ≡ b → ((from : ℕ) → Run l from → Follows l from)
-          → each (visit n edge fuel) (cond b ((key - x * span) ∷ row n x l) []) s ≡ each (visit n edge fuel) (onward n edge x from) s
+      go : (b : Bool) → ltb key (pair x n) ≡ b → ((from : ℕ) → Run n edge x l from → Follows l from)
+          → each f (cond b ((key - x * span) ∷ row n x l) []) s ≡ each f (onward n edge x from) s
       go true e ih =
           let less = ltb-true key (pair x n) e in
           let up : pair x from ≤ key = r.low 0 (omega arith) in
           let is : key ≡ pair x (key - x * span) = omega arith in
-          follows_first (key - x * span) l from (subst (λ (y : ℕ). Run (y ∷ l) from) is r) (omega arith) (omega arith) ih s len
+          follows_first (key - x * span) l from (subst (λ (y : ℕ). Run n edge x (y ∷ l) from) is r) (omega arith) (omega arith) ih s kept
       go false e ih =
           let past = ltb-false key (pair x n) e in
           follows_none (key ∷ l) from r (λ j h. let up = r.rise.at 0 j (omega arith) h in omega arith) s
@@ -167,8 +170,8 @@ member_drop v (suc i) (key ∷ keys) before h =
     let low = before 0 (omega arith) in
     ap (λ b. b || member v keys) (ne_eqb v key (λ e. omega arith)) ∙ member_drop v i keys (λ j l. before (suc j) (omega arith)) (omega arith)
 
-module _ (n x fuel : ℕ) (keys : List ℕ) {i : ℕ} (nodes : n ≤ span) (lt : x < n) (rise : Ascending keys) (start : LowerBound keys (x * span) i) where
-  run : Run n (edges n keys) x fuel (drop i keys) 0
+module _ (n x : ℕ) (keys : List ℕ) {i : ℕ} (nodes : n ≤ span) (lt : x < n) (rise : Ascending keys) (start : LowerBound keys (x * span) i) where
+  run : Run n (edges n keys) x (drop i keys) 0
   run =
       record {
         from_le = omega arith;
@@ -180,11 +183,19 @@ module _ (n x fuel : ℕ) (keys : List ℕ) {i : ℕ} (nodes : n ≤ span) (lt :
       inside : (j : ℕ) → j < length (drop i keys) → i + j < length keys
       inside j h = let e = length-drop i keys in omega arith
 
-  pub row_next : (s : Walk) → length s.visited ≡ n
+  -- any walk along the keys of x is the walk along its neighbours
+  pub row_each : {S : Type 0} (f : ℕ → S → S) (P : S → Type 0) → ((k : ℕ) (s : S) → P s → P (f k s))
+      → ((k : ℕ) (s : S) → k < n → P s → f k (f k s) ≡ f k s) → (s : S) → P s
+      → each f (row n x (drop i keys)) s ≡ each f (next n (edges n keys) x) s
+  row_each f P keeps again s kept =
+      follows n (edges n keys) x f P keeps again (drop i keys) 0 run s kept
+      ∙ ap (λ m. each f m s) (sym (next_onward n (edges n keys) x))
+
+  pub row_next : (fuel : ℕ) (s : Walk) → length s.visited ≡ n
       → each (visit n (edges n keys) fuel) (row n x (drop i keys)) s ≡ each (visit n (edges n keys) fuel) (next n (edges n keys) x) s
-  row_next s len =
-      follows n (edges n keys) x fuel (drop i keys) 0 run s len
-      ∙ ap (λ m. each (visit n (edges n keys) fuel) m s) (sym (next_onward n (edges n keys) x))
+  row_next fuel =
+      row_each (visit n (edges n keys) fuel) (λ s. length s.visited ≡ n) (visit_long n (edges n keys) fuel)
+      (λ k s h long. visit_again n (edges n keys) k fuel s (omega arith))
 
 -- ---- the key at a place
 

@@ -34,7 +34,7 @@ get_or_set_zero [] i = refl
 get_or_set_zero (x ∷ l) zero = refl
 get_or_set_zero (x ∷ l) (suc i) = get_or_set_zero l i
 
-zero_set : (l : List ℕ) (i j : ℕ) → (¬ (j ≡ i) → get_or l j 0 ≡ 0) → get_or (set l i 0) j 0 ≡ 0
+pub zero_set : (l : List ℕ) (i j : ℕ) → (¬ (j ≡ i) → get_or l j 0 ≡ 0) → get_or (set l i 0) j 0 ≡ 0
 zero_set l i j h =
     ⊎_elim (λ e. ap (λ (k : ℕ). get_or (set l i 0) k 0) e ∙ get_or_set_zero l i) (λ ne. get_or-set_other l i j 0 0 ne ∙ h ne) (same? j i)
 
@@ -44,7 +44,7 @@ unfoldable pub frames : ℕ → List ℕ → List Frame
 frames zero st = []
 frames (suc d) st = frame (get_or st (2 * d) 0) (get_or st (2 * d + 1) 0) ∷ frames d st
 
-frames_set : (d : ℕ) (st : List ℕ) (i v : ℕ) → 2 * d ≤ i → frames d (set st i v) ≡ frames d st
+pub frames_set : (d : ℕ) (st : List ℕ) (i v : ℕ) → 2 * d ≤ i → frames d (set st i v) ≡ frames d st
 unfolding frames
 frames_set zero st i v h = refl
 frames_set (suc d) st i v h =
@@ -54,7 +54,7 @@ frames_set (suc d) st i v h =
     ap₂ (λ (x : ℕ) (y : ℕ). frame x y ∷ frames d (set st i v)) a b ∙ ap (λ fs. frame (get_or st (2 * d) 0) (get_or st (2 * d + 1) 0) ∷ fs) t
 
 -- the top frame gets another place
-frames_place : (d : ℕ) (st : List ℕ) (v : ℕ) → 2 * d + 1 < length st
+pub frames_place : (d : ℕ) (st : List ℕ) (v : ℕ) → 2 * d + 1 < length st
     → frames (suc d) (set st (2 * d + 1) v) ≡ frame (get_or st (2 * d) 0) v ∷ frames d st
 unfolding frames
 frames_place d st v h =
@@ -64,7 +64,7 @@ frames_place d st v h =
     ap₂ (λ (x : ℕ) (y : ℕ). frame x y ∷ frames d (set st (2 * d + 1) v)) a b ∙ ap (λ fs. frame (get_or st (2 * d) 0) v ∷ fs) t
 
 -- a frame is put on top
-frames_push : (d : ℕ) (st : List ℕ) (v p : ℕ) → 2 * d + 1 < length st → frames (suc d) (set (set st (2 * d) v) (2 * d + 1) p) ≡ frame v p ∷ frames d st
+pub frames_push : (d : ℕ) (st : List ℕ) (v p : ℕ) → 2 * d + 1 < length st → frames (suc d) (set (set st (2 * d) v) (2 * d + 1) p) ≡ frame v p ∷ frames d st
 frames_push d st v p h =
     frames_place d (set st (2 * d) v) p (simp length-set (omega arith))
     ∙ ap₂ (λ (x : ℕ) fs. frame x p ∷ fs) (get_or-set_same st (2 * d) v 0 (omega arith)) (frames_set d st (2 * d) v (omega arith))
@@ -72,12 +72,12 @@ frames_push d st v p h =
 -- ---- the invariant and the measure
 
 -- the keys that are left of the open calls, and one for leaving each
-unfoldable work : ℕ → List Frame → ℕ
+unfoldable pub work : ℕ → List Frame → ℕ
 work m [] = 0
 work m (f ∷ fs) = (suc m - f.place) + work m fs
 
 -- Of m keys: a turn leaves a frame, or passes keys, marks a node and opens a frame with at most m + 1 steps of its own.
-pub effort : ℕ → List Bool → ℕ → List ℕ → ℕ
+unfoldable pub effort : ℕ → List Bool → ℕ → List ℕ → ℕ
 effort m visited depth stack = weight (m + 2) visited + work m (frames depth stack)
 
 -- In the loop: to finish the open calls gives the state `goal`. The arrays were order₀ and stack₀ at the start, and the order had count₀ nodes.
@@ -100,7 +100,7 @@ pub record Open (n : ℕ) (keys : List ℕ) (goal : Walk) (total count₀ : ℕ)
   pub stack_room : 2 * n ≤ length stack₀
 
 -- where a call is opened
-row_placed : {n k i : ℕ} {keys : List ℕ} → Ascending keys → k < n → LowerBound keys (k * span) i → Placed n keys k i
+pub row_placed : {n k i : ℕ} {keys : List ℕ} → Ascending keys → k < n → LowerBound keys (k * span) i → Placed n keys k i
 row_placed rise lt start = record { node_below = lt; place_within = start.within; from_row = start.from rise }
 
 -- ---- a turn of the loop

@@ -28,9 +28,9 @@ pub struct Graph<'a> {
 
 // A neighbour, and the place of its key.
 #[derive(Clone, Copy)]
-struct Neighbour {
-    place: usize,
-    node: usize,
+pub struct Neighbour {
+    pub place: usize,
+    pub node: usize,
 }
 
 impl Graph<'_> {
@@ -45,7 +45,7 @@ impl Graph<'_> {
 
     // The first neighbour of `node` from the place on that is not visited.
     #[tactic(auto, using(crate::proofs::Rows::next_end, crate::proofs::Rows::next_past, crate::proofs::Rows::next_here))]
-    fn next_unvisited(self, node: usize, from: usize, visited: &[bool]) -> Option<Neighbour>
+    pub fn next_unvisited(self, node: usize, from: usize, visited: &[bool]) -> Option<Neighbour>
         requires { let n = length visited.now in (n ≤ span) × (node < n)
             × ((i : ℕ) → from ≤ i → i < length self.keys.now → node * span ≤ get_or self.keys.now i 0) }
         ensures { let n = length visited.now in MatchOption result (Spent n self.entry.keys.now visited.now node from)
@@ -66,7 +66,7 @@ impl Graph<'_> {
     }
 
     // Marks the node and puts its call on the stack: the node, and the place of its first key.
-    fn enter(self, node: usize, visited: &mut [bool], stack: &mut [usize], at: usize)
+    pub fn enter(self, node: usize, visited: &mut [bool], stack: &mut [usize], at: usize)
         requires { (node < span) × (node < length visited.old) × (at + 1 < length stack.old) }
         ensures { Entered self.entry.keys.now node at visited.old stack.old visited.new stack.new }
     {

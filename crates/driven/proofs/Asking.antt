@@ -1,0 +1,69 @@
+-- The answer of a search as the answer to the question.
+--     asked_searched       by the arrays in which the search was made
+--     asked_found          by what was found, with 8 where nothing was
+-- Assumes nothing.
+use Rattle.std.specs.Prelude.{Option, Some, None, Result, Ok}
+use Rattle.lists.specs.declared.Fault.{Fault}
+use Rattle.lists.specs.declared.Refusal.{Refusal}
+use mathlib.Core.Path.{◌≡◌, refl, sym, ap, ap₂, subst, ◌∙◌}
+use mathlib.Core.Bool.{Bool}
+use mathlib.Core.List.{List}
+use Prim.Native.Nat.{ℕ}
+use lib.ListN.{length, replicate}
+use lib.IntN.{ℤ}
+use Rattle.lists.specs.Limits.{component_limit}
+use Rattle.lists.specs.Records.{component_count}
+use Rattle.lists.specs.First.{is_found}
+use Rattle.checks.specs.Refusals.{refuse, too_short}
+use Rattle.regions.specs.Graph.{Edges, marked, flip}
+use Rattle.regions.specs.Keys.{edges}
+use Rattle.regions.proofs.Fill.{zeros_cleared}
+use Rattle.signals.specs.Signals.{signals}
+use Rattle.signals.specs.Keys.{KeysOf}
+use Rattle.signals.proofs.Ends.{ends_within}
+use Rattle.signals.proofs.Graph.{edges_back}
+use Rattle.signals.proofs.Tabulated.{tabulated_length}
+use Rattle.liveness.specs.Scene.{Accepted}
+use Rattle.liveness.proofs.Answers.{set_same}
+use Rattle.inputs.specs.Query.{is_immediate, row_place}
+use Rattle.driven.specs.Seek.{Search, sought}
+use Rattle.driven.specs.Driven.{drive_sources, immediate_sources, upstream_from, AskedBy}
+use Rattle.driven.specs.Scene.{Upstream}
+use Rattle.driven.specs.declared.DrivenInput.{DrivenInput}
+
+-- ---- the arrays of a search
+
+module _ {cs ps : List ℤ} (fs : List ℤ) {keys sources sinks backward : List ℕ} (a : Accepted cs ps keys sources sinks)
+    (table : KeysOf ps sinks sources component_limit backward) where
+  graph : edges (component_count cs) backward ≡ flip (signals cs ps)
+  graph = λ i x y. edges_back a.scene.components.few a.ends.source_members a.ends.sink_members (ends_within cs ps a.scene.ends) table x y i
+
+  module _ (p port : ℕ) {goals starts : List Bool} (goals_are : goals ≡ drive_sources cs fs) (starts_are : starts ≡ immediate_sources cs ps p port) where
+    nodes : length starts ≡ component_count cs
+    nodes = ap length starts_are ∙ tabulated_length (is_immediate cs ps p port) (component_count cs)
+
+    search_is : sought (length starts) (edges (length starts) backward) goals starts ≡ upstream_from cs ps fs p port
+    unfolding upstream_from
+    search_is =
+        ap (λ (k : ℕ). sought k (edges k backward) goals starts) nodes
+        ∙ ap (λ (g : Edges). sought (component_count cs) g goals starts) graph
+        ∙ ap₂ (sought (component_count cs) (flip (signals cs ps))) goals_are starts_are
+
+    pub asked_searched : {stack stack' : List ℕ} {r : DrivenInput} → length stack' ≡ length stack
+        → Upstream (length starts) (edges (length starts) backward) goals starts stack' r → AskedBy (Ok tt) cs ps fs (Some p) port stack stack' (Ok r)
+    asked_searched {stack' = stack'} long u = record {
+      answer = refl;
+      found = record {
+        driven_is = u.driven_is ∙ ap (λ (t : Search). t.stopped) search_is;
+        met_set = set_same nodes (λ k. ap (λ (t : Search). marked t.met k) search_is) u.met_set;
+      };
+      stack_left = zeros_cleared stack' u.stack_zeros ∙ ap (λ (k : ℕ). replicate k 0) long;
+    }
+
+-- ---- by what was found
+
+pub asked_found : {cs ps fs : List ℤ} {port : ℕ} {stack stack' : List ℕ} {r : Result DrivenInput Refusal} (id : ℕ) {found : Option ℕ} → row_place cs id port ≡ found
+    → AskedBy (refuse Fault.NoVerdictRow None (too_short (is_found found))) cs ps fs found port stack stack' r
+    → AskedBy (refuse Fault.NoVerdictRow None (too_short (is_found (row_place cs id port)))) cs ps fs (row_place cs id port) port stack stack' r
+asked_found {cs} {ps} {fs} {port} {stack} {stack'} {r} id e a =
+    subst (λ (f : Option ℕ). AskedBy (refuse Fault.NoVerdictRow None (too_short (is_found f))) cs ps fs f port stack stack' r) (sym e) a

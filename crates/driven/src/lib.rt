@@ -1,0 +1,49 @@
+// Whether one input is driven: a search upstream from it that stops at the first drive source. Nothing else of the plot is analyzed.
+#![tactic(auto)]
+
+mod plot;
+mod port;
+pub mod seek;
+
+ghost use Rattle.driven.specs.Driven.{Asked};
+
+use checks::refusals::{liveness_lists, room_for};
+use lists::ends::Ends;
+use lists::{COMPONENT, COMPONENTS, CONNECTIONS, Refusal};
+use liveness::plot::Plot;
+use plot::driven_plot;
+use sets::ComponentSet;
+
+// Whether an input has status 0, and the components that the search met.
+#[derive(Clone, Copy)]
+pub struct DrivenInput {
+    pub driven: bool,
+    pub met: ComponentSet,
+}
+
+// The refusal of the checks, or whether a port that has a verdict row, by the id of its component, has status 0, and the components met on
+// the way: all upstream of the port, or those up to the first drive source. Any id and port may be asked for.
+pub fn is_driven(
+    components: &[i64],
+    ports: &[i64],
+    frontiers: &[i64],
+    id: u64,
+    port: u64,
+    stack: &mut [usize],
+) -> Result<DrivenInput, Refusal>
+    ensures { Asked components.now ports.now frontiers.now id port stack.old stack.new result }
+{
+    let mut keys = [0u64; COMPONENTS];
+    let mut ends = [Ends { source: 0, sink: 0 }; CONNECTIONS];
+    let count = components.len() / COMPONENT;
+    let enough = room_for(count, 2, stack.len());
+    liveness_lists(components, ports, frontiers, enough, &mut keys, &mut ends)?;
+    let plot = Plot {
+        keys: &keys[..count],
+        components,
+        ports,
+        frontiers,
+        ends: &ends,
+    };
+    driven_plot(&plot, id, port, stack)
+}
