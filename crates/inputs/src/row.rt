@@ -27,12 +27,7 @@ fn with_row(components: ComponentList, port: u64, p: usize) -> Option<usize>
 }
 
 // Where the component of the port asked for stands, if the port has a verdict row.
-pub fn row_place(
-    keys: &[u64],
-    components: ComponentList,
-    id: u64,
-    port: u64,
-) -> Option<usize>
+pub fn row_place(keys: &[u64], components: ComponentList, id: u64, port: u64) -> Option<usize>
     requires { IdTable components.numbers.now keys.now }
     ensures { result ≡ row_place components.entry.numbers.now id port }
 {
