@@ -5,9 +5,11 @@
 //! - [`groups`] joins components into nets and fragments.
 //! - [`liveness`] finds regions of signals that feed each other, the sources of
 //!   signals, what they drive, and a verdict for each required input.
+//! - [`what_if`] and [`what_if_joined`] find what one connection more would
+//!   change of either answer.
 //!
 //! Every list gets an answer or one [`Refusal`] with the place of the fault.
-//! Nothing here panics, and nothing is kept from call to call: both functions
+//! Nothing here panics, and nothing is kept from call to call: every function
 //! may be called from any number of threads at once. A call needs less than
 //! 1 MiB of stack, most of it for the library's own tables.
 //!
@@ -37,7 +39,7 @@
 //! # Ok::<(), dustroute::Refusal>(())
 //! ```
 //!
-//! What both need of their lists: components ascend strictly by position and
+//! What all need of their lists: components ascend strictly by position and
 //! then id, no id occurs twice, coordinates are from -30,000,000 to 30,000,000,
 //! and no list is over its [limit](limits). What is not so is refused, never
 //! put right: a plot that was saved otherwise is a damaged plot.
@@ -59,6 +61,7 @@ mod liveness;
 mod numbers;
 mod refusal;
 mod scene;
+mod what_if;
 
 pub use codes::{BlockKind, ConnectionKind, Facing, TransferKind};
 pub use groups::{ComponentGroups, Groups, groups};
@@ -68,6 +71,7 @@ pub use liveness::{
 };
 pub use refusal::{List, Place, Reason, Refusal};
 pub use scene::{Component, ComponentId, Connection, PortConnection, PortRef, Position};
+pub use what_if::{Change, ChangedInput, Joined, what_if, what_if_joined};
 
 /// The code in README.md is run as well.
 #[cfg(doctest)]
