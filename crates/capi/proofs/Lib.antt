@@ -1,4 +1,5 @@
 -- Lemmas for the proofs of this crate, and what a host can rely on (Laws).
 mod LivenessLaws
 mod Demands
+mod OneInput
 pub mod Laws

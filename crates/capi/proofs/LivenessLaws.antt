@@ -2,6 +2,7 @@
 --     short_refused                    without room for the sets a scene is refused
 --     refused, accepted, found         what the checks said, and the answer to an accepted scene
 --     regions_there, ..-front          the rows of such a scene stand at the front of their slices
+--     set_words                        the words of a set, by its members
 --     few_regions                      and there are no more regions than components
 --     refused_alive, accepted_alive    the answer and what is left, from the lists of numbers
 --     whole_three, three_fit           lists of bytes that pass number 1, and its refusal as one number
@@ -93,7 +94,7 @@ pub record WordsOfSet (words : List ℕ) : Type 0 where
   pub long : length words ≡ word_count
   pub fit : (i : ℕ) → get_or words i 0 < 2 ^ 64
 
-set_words : {n : ℕ} {P : ℕ → Bool} {words : List ℕ} → WordsOfSet words → SetWhere n P words → words ≡ words_of_set word_count n P
+pub set_words : {n : ℕ} {P : ℕ → Bool} {words : List ℕ} → WordsOfSet words → SetWhere n P words → words ≡ words_of_set word_count n P
 set_words {n} {P} {words} w s = set_unique word_count words n P w.long w.fit s.member
 
 module _ {cs ps fs : List ℤ} {regions regions' sources sources' inputs inputs' stack stack' : List ℕ} {r : Analysis}

@@ -156,19 +156,12 @@ fn by_places(
 }
 
 // The refusal of a scene for whose sets there is no room.
-fn refuse_short(lists: &Lists) -> u64
-    ensures { result ≡ packed (liveness_lists lists.now.components.now lists.now.ports.now lists.now.frontiers.now false) }
+pub(crate) fn refuse_short(components: &[i64], ports: &[i64], frontiers: &[i64]) -> u64
+    ensures { result ≡ packed (liveness_lists components.now ports.now frontiers.now false) }
 {
     let mut keys = [0u64; COMPONENTS];
     let mut ends = [Ends { source: 0, sink: 0 }; CONNECTIONS];
-    pack(liveness_lists(
-        lists.components,
-        lists.ports,
-        lists.frontiers,
-        false,
-        &mut keys,
-        &mut ends,
-    ))
+    pack(liveness_lists(components, ports, frontiers, false, &mut keys, &mut ends))
 }
 
 // The liveness of a scene as bytes.
@@ -186,7 +179,7 @@ fn of_numbers(
     if room_for(SETS, WORDS, sets.len() / NUMBER) {
         return by_places(lists, regions, sources, inputs, sets, stack);
     }
-    refuse_short(lists)
+    refuse_short(lists.components, lists.ports, lists.frontiers)
 }
 
 // The liveness of a scene whose port connections are lent as bytes, of at most N numbers: so many are cleared, not as many as there can be.

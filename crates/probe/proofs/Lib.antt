@@ -1,4 +1,3 @@
 pub mod Placed
 pub mod Selected
-pub mod Asking
 pub mod Table

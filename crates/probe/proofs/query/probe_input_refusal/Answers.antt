@@ -4,7 +4,7 @@ use Rattle.std.specs.Prelude.{⊤, Result}
 use Rattle.lists.specs.declared.Refusal.{Refusal}
 use mathlib.Core.Path.{sym, ap, ◌∙◌, subst}
 use Rattle.checks.specs.Refusals.{Small, packed}
-use Rattle.probe.proofs.Asking.{input_small}
+use Rattle.inputs.proofs.Small.{input_small}
 use Rattle.probe.proofs.query.probe_input_refusal.Goals as goal
 
 pub pack_refusal-requires : goal.pack_refusal-requires
