@@ -13,6 +13,9 @@
  * first, whatever the byte order of the host. Numbers of lists are signed, in
  * two's complement. A slice passes as a pointer and then a length in bytes.
  *
+ * dustroute_driven alone takes numbers as the host has them, int64_t for lists:
+ * there a slice passes as a pointer and then a count of numbers.
+ *
  *     list          numbers of a record, in this order
  *     components    id 0..4294967295; x, y, z each -30000000..30000000;
  *                   kind; facing; support; conducts 0 or 1
@@ -58,8 +61,10 @@
  *     5   an id already used by an earlier component; the later of the pair
  *     6   grouping connections not strictly ascending; the later of the pair
  *     7   an endpoint of a non-support port connection is no component
+ *     8   the port asked for has no verdict row; list 3, item 0
  *
- * 6 is of dustroute_groups alone, 7 of dustroute_liveness alone.
+ * 6 is of dustroute_groups alone, 7 of the two others, 8 of dustroute_driven
+ * alone.
  *
  *
  * WHAT IS WRITTEN
@@ -72,12 +77,13 @@
  *
  * WHAT THE HOST OWES
  *
- * - Each pointer is to as many bytes as the length beside it says, and is not
- *   null even where the length is 0. Any alignment will do. The bytes of lists
- *   are initialized; those of outputs need not be.
+ * - Each pointer is to as many bytes, or numbers, as the length beside it says,
+ *   and is not null even where the length is 0. For bytes any alignment will
+ *   do; a pointer to numbers is aligned as C has it. Lists are initialized;
+ *   outputs need not be.
  * - A slice that is written overlaps no other slice of the call, and nothing
  *   else reads or writes it, or writes a list, until the call returns.
- * - A stack of 1 MiB is enough for either call, whatever the lists
+ * - A stack of 1 MiB is enough for any call, whatever the lists
  *   (docs/ARCHITECTURE.md has the sizes). Pages are touched in order, so that a
  *   guard page stops a stack that is too small.
  *
@@ -110,6 +116,10 @@
 #define DUSTROUTE_INPUTS_BYTES(components) ((components) * (size_t)(4 * 3 * 8))
 #define DUSTROUTE_STACK_BYTES(components) ((components) * (size_t)(2 * 8))
 #define DUSTROUTE_SETS_BYTES (4 * 16 * 8)
+
+/* Numbers that the slices of dustroute_driven must have. */
+#define DUSTROUTE_MET_NUMBERS 16
+#define DUSTROUTE_DRIVEN_STACK_NUMBERS(components) ((components) * (size_t)2)
 
 /* The parts of an answer. */
 #define DUSTROUTE_ACCEPTED(answer) (((answer) & 0xffff) == 0)
@@ -170,6 +180,27 @@ uint64_t dustroute_liveness(
     uint8_t *inputs, size_t inputs_len,
     uint8_t *sets, size_t sets_len,
     uint8_t *stack, size_t stack_len);
+
+/*
+ * Whether the required input at a port of the component with the id has status
+ * 0, DrivenByKnownSource: a search upstream from it, which stops at the first
+ * drive source. Any id and port may be asked for; those without a verdict row
+ * are refused with 8.
+ *
+ * met       a set of sixteen words, as above: the components that the search
+ *           met. Each feeds the input or is upstream of one that does. At a yes
+ *           exactly one is a drive source; at a no these are all, and none is.
+ * stack     for work
+ *
+ * Counts: 1 for yes, 0 for no.
+ */
+uint64_t dustroute_driven(
+    const int64_t *components, size_t components_len,
+    const int64_t *ports, size_t ports_len,
+    const int64_t *frontiers, size_t frontiers_len,
+    uint64_t id, uint64_t port,
+    uint64_t *met, size_t met_len,
+    size_t *stack, size_t stack_len);
 
 #ifdef __cplusplus
 }

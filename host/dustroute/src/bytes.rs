@@ -1,4 +1,4 @@
-//! The two entries as they are: lists lent as bytes, one number back, nothing
+//! The two entries on bytes as they are: lists lent, one number back, nothing
 //! allocated. `include/dustroute.h` tells every slice and the number in full;
 //! [`Refusal::of`](crate::Refusal::of) reads a refusal from the number.
 //!

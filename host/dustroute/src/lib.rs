@@ -5,6 +5,8 @@
 //! - [`groups`] joins components into nets and fragments.
 //! - [`liveness`] finds regions of signals that feed each other, the sources of
 //!   signals, what they drive, and a verdict for each required input.
+//! - [`driven`] tells of one required input whether it is driven, without the
+//!   rest of the plot.
 //! - [`what_if`] and [`what_if_joined`] find what one connection more would
 //!   change of either answer.
 //!
@@ -55,6 +57,7 @@
 
 pub mod bytes;
 mod codes;
+mod driven;
 mod groups;
 pub mod limits;
 mod liveness;
@@ -64,6 +67,7 @@ mod scene;
 mod what_if;
 
 pub use codes::{BlockKind, ConnectionKind, Facing, TransferKind};
+pub use driven::{DrivenInput, driven};
 pub use groups::{ComponentGroups, Groups, groups};
 pub use liveness::{
     ComponentLiveness, Liveness, Region, RequiredInput, RequiredInputStatus, SignalSource,

@@ -112,10 +112,10 @@ impl RequiredInputStatus {
 
 /// A set of numbers as it comes from the library: number k is bit k % 64 of
 /// word k / 64.
-struct Set([u64; WORDS]);
+pub struct Set(pub [u64; WORDS]);
 
 impl Set {
-    fn contains(&self, number: usize) -> bool {
+    pub fn contains(&self, number: usize) -> bool {
         let word = self.0.get(number / 64);
         word.is_some_and(|word| (word >> (number % 64)) & 1 == 1)
     }
@@ -245,7 +245,7 @@ fn analyzed(
 
 /// The member that each component is in the library's sets, in list order:
 /// member k is the component with the k-th smallest id.
-fn members(components: &[Component]) -> Vec<usize> {
+pub fn members(components: &[Component]) -> Vec<usize> {
     let ids = components.iter().map(|component| component.id);
     let mut places: Vec<(ComponentId, usize)> = ids.zip(0..).collect();
     places.sort_unstable();

@@ -1,6 +1,6 @@
-//! Records lent as bytes, and numbers read back. What is read is checked
-//! although the library's contract leaves no doubt: an archive of another
-//! version must not pass for this one.
+//! Records lent as numbers or as bytes, and numbers read back. What is read is
+//! checked although the library's contract leaves no doubt: an archive of
+//! another version must not pass for this one.
 
 use crate::bytes::NUMBER;
 use crate::{ComponentId, PortRef, Refusal};
@@ -10,14 +10,17 @@ pub type Bytes = [u8; NUMBER];
 
 /// The records of a list. Beyond the limit one more is lent, for which the
 /// whole list is refused.
+pub fn records<T, R>(list: &[T], limit: usize, record: impl Fn(&T) -> R) -> Vec<R> {
+    list.iter().take(limit + 1).map(record).collect()
+}
+
+/// The same as bytes.
 pub fn lend<T, const WIDTH: usize>(
     list: &[T],
     limit: usize,
     record: impl Fn(&T) -> [i64; WIDTH],
 ) -> Vec<[Bytes; WIDTH]> {
-    let some = list.iter().take(limit + 1);
-    some.map(|item| record(item).map(i64::to_le_bytes))
-        .collect()
+    records(list, limit, |item| record(item).map(i64::to_le_bytes))
 }
 
 /// The counts of an accepted answer.

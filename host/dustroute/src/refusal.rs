@@ -76,6 +76,9 @@ pub enum Reason {
     ConnectionOrder,
     /// 7: an endpoint of a non-support port connection is no component.
     MissingEndpoint,
+    /// 8: the port asked for has no verdict: there is no such component, or the
+    /// port is no required input of it. Only of [`driven`](crate::driven).
+    NoVerdict,
     /// No refusal: the answer is none that the library's contract allows, so
     /// the archive that was linked is not the one of this crate's version.
     Unreadable,
@@ -83,7 +86,7 @@ pub enum Reason {
 
 impl Reason {
     /// The reasons by their numbers from 1.
-    const NUMBERED: [Self; 7] = [
+    const NUMBERED: [Self; 8] = [
         Self::Length,
         Self::ShortSlice,
         Self::OutOfRange,
@@ -91,6 +94,7 @@ impl Reason {
         Self::RepeatedId,
         Self::ConnectionOrder,
         Self::MissingEndpoint,
+        Self::NoVerdict,
     ];
 
     /// The number of the refusal, 0 for [`Reason::Unreadable`].
@@ -115,6 +119,7 @@ impl fmt::Display for Reason {
             Self::RepeatedId => "an id already used by an earlier component",
             Self::ConnectionOrder => "grouping connections not strictly ascending",
             Self::MissingEndpoint => "an endpoint of a non-support port connection is no component",
+            Self::NoVerdict => "the port asked for is no required input",
             Self::Unreadable => "the answer of an archive of another version",
         })
     }
@@ -215,7 +220,7 @@ mod tests {
 
     #[test]
     fn other_answers_are_unreadable() {
-        for answer in [8, 255, 256, 1 + 256 * 4, 65_535, u64::MAX] {
+        for answer in [9, 255, 256, 1 + 256 * 4, 65_535, u64::MAX] {
             assert_eq!(Refusal::of(answer), Some(Refusal::UNREADABLE), "{answer}");
         }
         assert_eq!(Reason::Unreadable.number(), 0);
