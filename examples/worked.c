@@ -182,6 +182,35 @@ static void refusals(void)
     hold(is_refusal(analyzed(length, fed, 0, sizeof stack), 7, 1, 1), "7: a cleared source");
 }
 
+/* One input asked: a number more than is asked for in the set and the stack,
+   both dirty, then a number too few in each, and a port without a verdict. */
+static void one_input(void)
+{
+    enum { MET = DUSTROUTE_MET_NUMBERS, WORK = 4 };
+    const int64_t fed[] = {1, 1, 2, 1, 4};
+    uint64_t met[MET + 1];
+    size_t work[WORK + 1];
+    memset(met, FILLING, sizeof met);
+    memset(work, FILLING, sizeof work);
+    const uint64_t dirty = met[MET];
+    uint64_t answer = dustroute_driven(
+        lever_and_repeater, 16, fed, 5, fed, 0, 2, 1, met, MET - 1, work, WORK + 1);
+    hold(DUSTROUTE_NUMBER(answer) == 2 && DUSTROUTE_LIST(answer) == 3, "2: no room for the set");
+    answer = dustroute_driven(
+        lever_and_repeater, 16, fed, 5, fed, 0, 2, 1, met, MET + 1, work, WORK - 1);
+    hold(DUSTROUTE_NUMBER(answer) == 2 && DUSTROUTE_LIST(answer) == 3, "2: no room for the stack");
+    answer = dustroute_driven(
+        lever_and_repeater, 16, fed, 5, fed, 0, 1, 1, met, MET + 1, work, WORK + 1);
+    hold(DUSTROUTE_NUMBER(answer) == 8 && DUSTROUTE_LIST(answer) == 3, "8: a lever has no verdict");
+    hold(met[0] == dirty && met[MET - 1] == dirty && work[0] == (size_t)dirty, "nothing written");
+    answer = dustroute_driven(
+        lever_and_repeater, 16, fed, 5, fed, 0, 2, 1, met, MET + 1, work, WORK + 1);
+    hold(DUSTROUTE_ACCEPTED(answer) && DUSTROUTE_COUNT(answer, 0) == 1, "the repeater is driven");
+    hold(met[0] == 1 && met[MET - 1] == 0 && met[MET] == dirty, "the lever was met");
+    for (size_t k = 0; k <= WORK; k++)
+        hold(work[k] == 0, "work zero");
+}
+
 /* A ring of wires through as many components as there may be, four connections
    from each to the next, and frontiers that are all the origin. */
 static void full_lists(void)
@@ -293,6 +322,7 @@ int main(int count, char **arguments)
         worked_groups();
         worked_liveness();
         refusals();
+        one_input();
         full_plot();
     }
     if (faults == 0)

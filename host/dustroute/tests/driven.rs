@@ -4,31 +4,49 @@
 #[expect(dead_code, reason = "the grouping connections have no part in it")]
 mod typed;
 
-use std::collections::BTreeSet;
+use std::collections::{BTreeMap, BTreeSet};
 
 use dustroute::{
     ComponentId, Liveness, PortConnection, PortRef, Reason, Refusal, RequiredInputStatus,
     SignalSourceKind, TransferKind, driven, liveness,
 };
-use scenes::Profile;
+use scenes::damage::{pair, single};
+use scenes::random::Random;
+use scenes::{Profile, Scene, exhaustive};
 use typed::Lists;
 
-/// The immediate sources of an input, and all upstream of them.
-fn upstream(connections: &[PortConnection], input: PortRef) -> BTreeSet<ComponentId> {
-    let signals = || {
-        let all = connections.iter();
-        all.filter(|it| it.transfer != TransferKind::StructuralSupport)
-    };
-    let immediate = signals().filter(|it| it.sink == input);
-    let mut left: Vec<ComponentId> = immediate.map(|it| it.source.component).collect();
-    let mut reached = BTreeSet::new();
-    while let Some(id) = left.pop() {
-        if reached.insert(id) {
-            let feeding = signals().filter(|it| it.sink.component == id);
-            left.extend(feeding.map(|it| it.source.component));
+/// The request restated: upstream from an input, sources by rising id and each
+/// one's own before the next, until the first drive source is met. Whether it
+/// stopped, and the components met.
+fn search(
+    connections: &[PortConnection],
+    input: PortRef,
+    drive: &BTreeSet<ComponentId>,
+) -> (bool, BTreeSet<ComponentId>) {
+    let mut feeding: BTreeMap<ComponentId, BTreeSet<ComponentId>> = BTreeMap::new();
+    let mut immediate = BTreeSet::new();
+    for it in connections {
+        if it.transfer == TransferKind::StructuralSupport {
+            continue;
+        }
+        let sources = feeding.entry(it.sink.component).or_default();
+        sources.insert(it.source.component);
+        if it.sink == input {
+            immediate.insert(it.source.component);
         }
     }
-    reached
+    let mut met = BTreeSet::new();
+    // The next one stands last.
+    let mut left: Vec<ComponentId> = immediate.into_iter().rev().collect();
+    while let Some(id) = left.pop() {
+        if met.insert(id) {
+            if drive.contains(&id) {
+                return (true, met);
+            }
+            left.extend(feeding.get(&id).into_iter().flatten().rev());
+        }
+    }
+    (false, met)
 }
 
 fn drive_sources(found: &Liveness) -> BTreeSet<ComponentId> {
@@ -37,58 +55,114 @@ fn drive_sources(found: &Liveness) -> BTreeSet<ComponentId> {
     drive.map(|it| it.component).collect()
 }
 
+/// How many answers were yes, no, and a yes before all upstream was met.
+#[derive(Default)]
+struct Asked {
+    yes: u64,
+    no: u64,
+    early: u64,
+    refused: u64,
+}
+
+impl Asked {
+    /// Every verdict of a scene, or its refusal.
+    fn hold(&mut self, scene: &Scene, case: &str) {
+        // A damaged number may be no kind or face.
+        let Some(lists) = Lists::of(scene) else {
+            return;
+        };
+        let Lists {
+            components,
+            ports,
+            frontiers,
+            ..
+        } = &lists;
+        let whole = liveness(components, ports, frontiers);
+        let Ok(whole) = whole else {
+            let nobody = PortRef::new(ComponentId(0), 0);
+            let asked = driven(components, ports, frontiers, nobody);
+            assert_eq!(asked.err(), whole.err(), "{case}");
+            self.refused += 1;
+            return;
+        };
+        let sources = drive_sources(&whole);
+        for row in whole.inputs.iter().take(40) {
+            let found = driven(components, ports, frontiers, row.input);
+            let Ok(found) = found else {
+                panic!("{case}: {found:?} of {row:?}");
+            };
+            let is = row.status == RequiredInputStatus::DrivenByKnownSource;
+            assert_eq!(found.driven, is, "{case}: {row:?}");
+            let met: BTreeSet<ComponentId> = found.met.iter().copied().collect();
+            let (stopped, wanted) = search(ports, row.input, &sources);
+            assert_eq!((found.driven, &met), (stopped, &wanted), "{case}: {row:?}");
+            let (_, all) = search(ports, row.input, &BTreeSet::new());
+            assert!(met.is_subset(&all), "{case}: {row:?}");
+            let ends = met.intersection(&sources).count();
+            assert_eq!(ends, usize::from(found.driven), "{case}: {row:?}");
+            self.yes += u64::from(found.driven);
+            self.no += u64::from(!found.driven);
+            self.early += u64::from(met.len() < all.len());
+        }
+    }
+
+    fn assert_met(&self, name: &str) {
+        let Self {
+            yes,
+            no,
+            early,
+            refused,
+        } = self;
+        println!(
+            "{name}: {yes} driven, {early} of them before all upstream was met, {no} not; \
+             {refused} scenes refused"
+        );
+        assert!(*yes > 100 && *no > 100 && *early > 100);
+    }
+}
+
 #[test]
 fn every_verdict_of_the_profiles() {
-    let (mut yes, mut no) = (0, 0);
+    let mut asked = Asked::default();
     for profile in Profile::ALL {
-        let seeds = if profile.is_large() { 2 } else { 200 };
+        let seeds = if profile.is_large() { 2 } else { 2_000 };
         for seed in 50_000..50_000 + seeds {
             let case = format!("{} seed {seed}", profile.name());
-            let Some(lists) = Lists::of(&profile.scene(seed)) else {
-                panic!("{case} cannot be typed");
-            };
-            let Lists {
-                components,
-                ports,
-                frontiers,
-                ..
-            } = &lists;
-            let whole = liveness(components, ports, frontiers);
-            let Ok(whole) = whole else {
-                let asked = driven(
-                    components,
-                    ports,
-                    frontiers,
-                    PortRef::new(ComponentId(0), 0),
-                );
-                assert_eq!(asked.err(), whole.err(), "{case}");
-                continue;
-            };
-            let sources = drive_sources(&whole);
-            for row in whole.inputs.iter().take(40) {
-                let found = driven(components, ports, frontiers, row.input);
-                let Ok(found) = found else {
-                    panic!("{case}: {found:?} of {row:?}");
-                };
-                let is = row.status == RequiredInputStatus::DrivenByKnownSource;
-                assert_eq!(found.driven, is, "{case}: {row:?}");
-                let met: BTreeSet<ComponentId> = found.met.iter().copied().collect();
-                let all = upstream(ports, row.input);
-                let ends = met.intersection(&sources).count();
-                if found.driven {
-                    assert!(met.is_subset(&all), "{case}: {row:?}");
-                    assert_eq!(ends, 1, "{case}: {row:?}");
-                    yes += 1;
-                } else {
-                    assert_eq!(met, all, "{case}: {row:?}");
-                    assert_eq!(ends, 0, "{case}: {row:?}");
-                    no += 1;
-                }
+            asked.hold(&profile.scene(seed), &case);
+        }
+    }
+    asked.assert_met("profiles");
+}
+
+#[test]
+fn every_verdict_of_the_small_scenes() {
+    let mut asked = Asked::default();
+    for (place, scene) in exhaustive::scenes().enumerate() {
+        asked.hold(&scene, &format!("scene {place}"));
+    }
+    asked.assert_met("small scenes");
+}
+
+/// One fault and two at once: the refusal is that of the whole analysis.
+#[test]
+fn damaged_scenes_are_refused_in_the_same_words() {
+    let mut asked = Asked::default();
+    let mut random = Random::new(17);
+    for profile in Profile::ALL.into_iter().filter(|it| !it.is_large()) {
+        for seed in 60_000..60_010 {
+            let scene = profile.scene(seed);
+            for damage in single(&scene) {
+                let case = format!("{} seed {seed}, {damage:?}", profile.name());
+                asked.hold(&damage.apply(&scene), &case);
+            }
+            if let Some([one, other]) = pair(&scene, &mut random) {
+                let case = format!("{} seed {seed}, {one:?}, {other:?}", profile.name());
+                asked.hold(&other.apply(&one.apply(&scene)), &case);
             }
         }
     }
-    println!("{yes} driven, {no} not");
-    assert!(yes > 0 && no > 0);
+    asked.assert_met("damaged");
+    assert!(asked.refused > 100);
 }
 
 #[test]
