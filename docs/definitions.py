@@ -17,11 +17,13 @@ ENTRIES = {
     "faces/select": ["select_port", "transfer_of"],
     "liveness/lib": ["analyze_signal_liveness"],
     "inputs/lib": ["required_input"],
+    "driven/lib": ["is_driven"],
     "records/lib": ["analyze_records"],
     "sheet/lib": ["read_sheet"],
     "report/lib": ["report"],
     "plotreport/program": ["answer"],
     "capi/lib": ["dustroute_groups", "dustroute_liveness"],
+    "capi/one_input": ["dustroute_driven"],
 }
 STATEMENTS = [
     ("regions", "Theorems", "RegionLaws"),
@@ -29,11 +31,16 @@ STATEMENTS = [
     ("inputs", "Same", "SameConnections"),
     ("inputs", "Same", "SameAnswer"),
     ("circuit", "Connected", "Joined"),
+    ("driven", "Status", "DrivenLaws"),
+    ("driven", "Status", "AnswerLaws"),
+    ("one_wire", "Grouping", "OneGroupingConnection"),
+    ("one_wire", "Ports", "OnePortConnection"),
+    ("one_wire", "Ports", "RepeatedPortConnection"),
     ("sheet", "Writing", "sheet_of"),
 ]
 HEAD = re.compile(r"^(?:abbrev |unfoldable |pub |record |data )*([^\s:]+)")
 WORD = re.compile(r"[^\s(){}\[\],;.]+")
-USE = re.compile(r"use Rattle\.([a-z]+)\.specs\.([A-Z]\w*)([^\n;]*)")
+USE = re.compile(r"use Rattle\.([a-z_]+)\.specs\.([A-Z]\w*)([^\n;]*)")
 
 
 def imports(text):
