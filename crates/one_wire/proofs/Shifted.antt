@@ -1,5 +1,6 @@
 -- The records of a list with one put in: those before it and after it are records of the old list.
 --     at_before, at_after           the numbers
+--     there, back                   records of any kind: each old one stands among the new, and each new one but that put in among the old
 --     connection_there, ..back      grouping connections
 --     port_there, ..back            port connections
 -- Assumes nothing.
@@ -64,6 +65,30 @@ module _ {width : ℕ} {old : List ℤ} {i : ℕ} {new : List ℤ} (added : Adde
   natural_after : (j k : ℕ) → i * width ≤ k → j ≡ k + width → natural_at new j ≡ natural_at old k
   natural_after j k h e = ap (natural_at new) e ∙ ap nat_abs (at_after k h)
 
+-- ---- records
+
+-- m records of any kind, one more put in at place i: those before it are as they were, those behind it have moved on by one
+module _ {A : Type 0} (old new : ℕ → A) (i m m' : ℕ) (more : m' ≡ suc m) (inside : i ≤ m)
+    (before : (k : ℕ) → k < i → new k ≡ old k) (after : (k : ℕ) → i ≤ k → new (suc k) ≡ old k) where
+  there : (k : ℕ) → k < m → (j : ℕ) × (j < m') × (new j ≡ old k)
+  there k h =
+      ⊎_elim
+      (λ (le : i ≤ k). (suc k, omega (arith, more), after k le))
+      (λ (lt : k < i). (k, omega (arith, more), before k lt))
+      (order? i k)
+
+  back : (j : ℕ) → j < m' → (j ≡ i) ⊎ ((k : ℕ) × (k < m) × (new j ≡ old k))
+  back j h =
+      ⊎_elim
+      (λ (le : i ≤ j). ⊎_elim
+      (λ (e : i ≡ j). inl (sym e))
+      (λ (lt : i < j).
+      let s : j ≡ suc (j - 1) = omega arith in
+      inr (j - 1, omega (arith, more), ap new s ∙ after (j - 1) (omega arith)))
+      (eq-or-lt_of_le le))
+      (λ (lt : j < i). inr (j, omega (arith, inside), before j lt))
+      (order? i j)
+
 -- ---- grouping connections
 
 module _ {ps : List ℤ} {i : ℕ} {ps' : List ℤ} (added : Added connection_width ps i ps') where
@@ -85,23 +110,12 @@ module _ {ps : List ℤ} {i : ℕ} {ps' : List ℤ} (added : Added connection_wi
   connection_in = omega (arith, longer added, room added)
 
   pub connection_there : (k : ℕ) → k < connection_count ps → (j : ℕ) × (j < connection_count ps') × (connection ps' j ≡ connection ps k)
-  connection_there k h =
-      ⊎_elim
-      (λ (le : i ≤ k). (suc k, omega (arith, longer added), connection_after k le))
-      (λ (lt : k < i). (k, omega (arith, longer added), connection_before k lt))
-      (order? i k)
+  connection_there =
+      there (connection ps) (connection ps') i (connection_count ps) (connection_count ps') (omega (arith, longer added)) (omega (arith, room added)) connection_before connection_after
 
   pub connection_back : (j : ℕ) → j < connection_count ps' → (j ≡ i) ⊎ ((k : ℕ) × (k < connection_count ps) × (connection ps' j ≡ connection ps k))
-  connection_back j h =
-      ⊎_elim
-      (λ (le : i ≤ j). ⊎_elim
-      (λ (e : i ≡ j). inl (sym e))
-      (λ (lt : i < j).
-      let s : j ≡ suc (j - 1) = omega arith in
-      inr (j - 1, omega (arith, longer added), ap (connection ps') s ∙ connection_after (j - 1) (omega arith)))
-      (eq-or-lt_of_le le))
-      (λ (lt : j < i). inr (j, omega (arith, longer added, room added), connection_before j lt))
-      (order? i j)
+  connection_back =
+      back (connection ps) (connection ps') i (connection_count ps) (connection_count ps') (omega (arith, longer added)) (omega (arith, room added)) connection_before connection_after
 
 -- ---- port connections
 
@@ -128,20 +142,9 @@ module _ {ps : List ℤ} {i : ℕ} {ps' : List ℤ} (added : Added port_width ps
   port_in = omega (arith, longer added, room added)
 
   pub port_there : (k : ℕ) → k < port_count ps → (j : ℕ) × (j < port_count ps') × (port_connection ps' j ≡ port_connection ps k)
-  port_there k h =
-      ⊎_elim
-      (λ (le : i ≤ k). (suc k, omega (arith, longer added), port_after k le))
-      (λ (lt : k < i). (k, omega (arith, longer added), port_before k lt))
-      (order? i k)
+  port_there =
+      there (port_connection ps) (port_connection ps') i (port_count ps) (port_count ps') (omega (arith, longer added)) (omega (arith, room added)) port_before port_after
 
   pub port_back : (j : ℕ) → j < port_count ps' → (j ≡ i) ⊎ ((k : ℕ) × (k < port_count ps) × (port_connection ps' j ≡ port_connection ps k))
-  port_back j h =
-      ⊎_elim
-      (λ (le : i ≤ j). ⊎_elim
-      (λ (e : i ≡ j). inl (sym e))
-      (λ (lt : i < j).
-      let s : j ≡ suc (j - 1) = omega arith in
-      inr (j - 1, omega (arith, longer added), ap (port_connection ps') s ∙ port_after (j - 1) (omega arith)))
-      (eq-or-lt_of_le le))
-      (λ (lt : j < i). inr (j, omega (arith, longer added, room added), port_before j lt))
-      (order? i j)
+  port_back =
+      back (port_connection ps) (port_connection ps') i (port_count ps) (port_count ps') (omega (arith, longer added)) (omega (arith, room added)) port_before port_after
