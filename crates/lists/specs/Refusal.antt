@@ -15,6 +15,7 @@ fault_number Fault.UnsortedConnections = 6
 fault_number Fault.MissingEnd = 7
 fault_number Fault.NoVerdictRow = 8
 fault_number Fault.BadLine = 9
+fault_number Fault.NotDriven = 10
 
 -- 0 components, 1 connections, 2 frontiers, 3 none
 abbrev pub list_number : Option Section → ℕ
