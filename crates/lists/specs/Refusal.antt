@@ -4,7 +4,7 @@ use Rattle.std.specs.Prelude.{ℕ, zero, suc, Option, Some, None}
 use Rattle.lists.specs.declared.Fault.{Fault}
 use Rattle.lists.specs.declared.Section.{Section}
 
--- 1 to 9
+-- 1 to 10
 abbrev pub fault_number : Fault → ℕ
 fault_number Fault.ListLength = 1
 fault_number Fault.ShortSlice = 2
