@@ -1,20 +1,15 @@
-// What the search from one port of a plot is made along and from: its immediate sources, the drive sources, and the signal edges turned around.
+// What a search from one port of a plot is made from and to: its immediate sources, and the drive sources.
 ghost use Rattle.std.specs.Prelude.{◌≡◌, ℕ, ◌<◌, length};
-ghost use Rattle.lists.specs.Limits.{component_limit};
 ghost use Rattle.lists.specs.Records.{component, component_count, port_count};
-ghost use Rattle.lists.specs.Ends.{sources_of, sinks_of};
-ghost use Rattle.signals.specs.Keys.{KeysOf};
-ghost use Rattle.driven.specs.Driven.{drive_sources, immediate_sources};
-ghost use Rattle.driven.specs.Scene.{feeds_id};
+ghost use Rattle.inputs.specs.Port.{drive_sources, immediate_sources, feeds_id};
 
 use assessment::sources::{drive_flags, frontier_flags};
 use lists::ids::SUPPORT;
 use lists::views::PortList;
-use lists::{COMPONENT, COMPONENTS, CONNECTIONS};
+use lists::{COMPONENT, COMPONENTS};
 use liveness::plot::Plot;
-use regions::HINTED;
 use signals::flags::gather;
-use signals::stages::{build_tables, place_members};
+use signals::stages::place_members;
 
 // Whether port connection k carries a signal to the port of the component with the id.
 fn feeds(ports: PortList, k: usize, id: u64, port: u64) -> bool
@@ -25,7 +20,7 @@ fn feeds(ports: PortList, k: usize, id: u64, port: u64) -> bool
 }
 
 // Flags the members that feed the port of the component with the id, and clears the others.
-pub(crate) fn flag_immediate(plot: &Plot, id: u64, port: u64, starts: &mut [bool])
+pub fn flag_immediate(plot: &Plot, id: u64, port: u64, starts: &mut [bool])
     requires { length starts.old ≡ component_count plot.now.components.now }
     ensures { let l = plot.now in
         (p : ℕ) → (component l.components.now p).id ≡ id → starts.new ≡ immediate_sources l.components.now l.ports.now p port }
@@ -40,7 +35,7 @@ pub(crate) fn flag_immediate(plot: &Plot, id: u64, port: u64, starts: &mut [bool
 }
 
 // Flags the drive sources, by member.
-pub(crate) fn drive_members(plot: &Plot, goals: &mut [bool])
+pub fn drive_members(plot: &Plot, goals: &mut [bool])
     requires { length goals.old ≡ component_count plot.now.components.now }
     ensures { goals.new ≡ drive_sources plot.now.components.now plot.now.frontiers.now }
 {
@@ -52,23 +47,4 @@ pub(crate) fn drive_members(plot: &Plot, goals: &mut [bool])
     place_members(plot.keys, &mut members);
     let count = plot.components.len() / COMPONENT;
     gather(&members[..count], &drive_at, goals);
-}
-
-// Sorts the signal edges by their sinks, with hints of where the rows end.
-pub(crate) fn upstream_edges(plot: &Plot, backward: &mut [u64], rows: &mut [usize; HINTED])
-    requires { length backward.old ≡ port_count plot.now.ports.now }
-    ensures { let l = plot.now in
-        KeysOf l.ports.now (sinks_of l.ends.now) (sources_of l.ends.now) component_limit backward.new }
-{
-    let mut forward = [0u64; CONNECTIONS];
-    let mut forward_rows = [0usize; HINTED];
-    let m = plot.port_list().count();
-    build_tables(
-        plot.port_list(),
-        plot.ends,
-        &mut forward[..m],
-        backward,
-        &mut forward_rows,
-        rows,
-    );
 }

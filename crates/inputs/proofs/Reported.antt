@@ -20,7 +20,7 @@ use Rattle.faces.specs.Ports.{ports_of}
 use Rattle.assessment.specs.Verdicts.{is_required, status_of, port_rows, verdict_rows, input_rows}
 use Rattle.inputs.specs.Query.{with_row, row_place}
 use Rattle.inputs.proofs.Inputs.{row_found}
-use Rattle.driven.specs.Status.{HasRow}
+use Rattle.inputs.specs.Port.{HasRow}
 
 -- ---- rows of three numbers
 

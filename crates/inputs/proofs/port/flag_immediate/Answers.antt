@@ -9,10 +9,10 @@ use Rattle.lists.specs.Records.{port_count}
 use Rattle.lists.proofs.EndLaws.{none, source_of}
 use Rattle.signals.specs.Flags.{GatheredBy}
 use Rattle.signals.proofs.Marks.{by_none}
-use Rattle.driven.specs.Scene.{feeds_id}
-use Rattle.driven.proofs.Sources.{by_set, by_pass, source_low, immediate_are}
-use Rattle.driven.proofs.port.flag_immediate.Goals as goal
-use Rattle.driven.proofs.port.flag_immediate.Goals.{After-feeds, then-feeds, else-feeds}
+use Rattle.inputs.specs.Port.{feeds_id}
+use Rattle.inputs.proofs.Sources.{by_set, by_pass, source_low, immediate_are}
+use Rattle.inputs.proofs.port.flag_immediate.Goals as goal
+use Rattle.inputs.proofs.port.flag_immediate.Goals.{After-feeds, then-feeds, else-feeds}
 
 -- the source of a connection that feeds the port has a flag
 low : (c : After-feeds) → c.feeds.result ≡ true → (get_or c.args.plot.now.ends.now c.loop-k.k none).source < length c.loop-k.starts

@@ -1,4 +1,4 @@
--- `driven::port::drive_members` meets its contract: the drive sources by list place, gathered by member.
+-- `inputs::port::drive_members` meets its contract: the drive sources by list place, gathered by member.
 -- Assumes nothing.
 use mathlib.Core.Path.{sym, ◌∙◌}
 use Rattle.lists.specs.Records.{component_count}
@@ -7,9 +7,9 @@ use Rattle.signals.specs.Flags.{Numbers}
 use Rattle.signals.proofs.Lent.{indices_same, indices_front, gathered_front}
 use Rattle.signals.proofs.Staged.{members_below, marks_are}
 use Rattle.liveness.proofs.Lent.{nodes_few}
-use Rattle.driven.proofs.Sources.{drives_too}
-use Rattle.driven.proofs.port.drive_members.Goals as goal
-use Rattle.driven.proofs.port.drive_members.Goals.{After-place_members}
+use Rattle.inputs.proofs.Sources.{drives_too}
+use Rattle.inputs.proofs.port.drive_members.Goals as goal
+use Rattle.inputs.proofs.port.drive_members.Goals.{After-place_members}
 
 -- the member of each component
 numbers : (c : After-place_members) → Numbers (component_count c.args.plot.now.components.now) (member_of c.args.plot.now.components.now) c.place_members.new.members

@@ -26,8 +26,8 @@ use Rattle.signals.proofs.Marks.{by_more}
 use Rattle.signals.proofs.Tabulated.{first_cong, tabulated_length, tabulated_at}
 use Rattle.liveness.specs.Scene.{Accepted}
 use Rattle.inputs.specs.Query.{is_immediate}
-use Rattle.driven.specs.Driven.{immediate_sources}
-use Rattle.driven.specs.Scene.{feeds_id}
+use Rattle.inputs.specs.Port.{immediate_sources}
+use Rattle.inputs.specs.Port.{feeds_id}
 
 -- ---- one test more
 
