@@ -6,6 +6,7 @@
 --     Queued, Spread, Spreading      the search for levels
 --     Starting     start_of
 --     Walking      step_down, walk_down
+--     Found        find_way
 pub mod Best
 pub mod Shortest
 pub mod Renamed
@@ -15,3 +16,4 @@ pub mod Spread
 pub mod Spreading
 pub mod Starting
 pub mod Walking
+pub mod Found

@@ -1,18 +1,24 @@
 -- The keys of one node stand between two lower bounds: they are the edges from it, by rising node.
 -- Assumes nothing.
-use Prim.Native.Nat.{ℕ, ◌+◌, ◌*◌, ◌-◌, ◌%◌, ◌≤◌, ◌<◌}
+use Prim.Native.Nat.{ℕ, ◌+◌, ◌*◌, ◌-◌, ◌≤◌, ◌<◌}
 use mathlib.Core.Path.{◌≡◌, sym, ap, ◌∙◌}
-use mathlib.Core.Bool.{true}
 use mathlib.Core.List.{List}
 use mathlib.Core.Logic.{⊎_elim}
 use native.Mathlib.Omega.{arith}
 use lib.ListN.{length, get_or, take, drop}
+use Rattle.std.proofs.lemmas.Grind.{common_steps}
 use Rattle.tables.specs.Order.{Ascending, LowerBound}
 use Rattle.tables.specs.Laws.{order?, at_member, member_at}
 use Rattle.tables.specs.Pairs.{span, pair}
-use Rattle.regions.specs.Keys.{edges}
 use Rattle.regions.proofs.Laws.Keys.{edges_within, edges_pair}
 use Rattle.trail.specs.Ways.{led_to, RowKeys}
+
+-- the part of a list between two places
+cut_at : (keys : List ℕ) (a b i : ℕ) → b ≤ length keys → i < b - a → get_or (take (b - a) (drop a keys)) i 0 ≡ get_or keys (a + i) 0
+cut_at keys a b i h l = grind (arith, common_steps)
+
+cut_long : (keys : List ℕ) (a b : ℕ) → b ≤ length keys → length (take (b - a) (drop a keys)) ≡ b - a
+cut_long keys a b h = grind (arith, common_steps)
 
 module _ {n : ℕ} {keys : List ℕ} {node first past : ℕ} (nodes : n ≤ span) (inside : node < n) (rise : Ascending keys)
     (low : LowerBound keys (node * span) first) (high : LowerBound keys (node * span + n) past) where
@@ -27,7 +33,7 @@ module _ {n : ℕ} {keys : List ℕ} {node first past : ℕ} (nodes : n ≤ span
   key_low : (i : ℕ) → i < past - first → (node * span ≤ get_or keys (first + i) 0) × (get_or keys (first + i) 0 < node * span + n)
   key_low i h = (low.from rise (first + i) (omega arith) (omega (arith, high.within)), high.before rise (first + i) (omega arith))
 
-  module _ {cut : List ℕ} (cut_is : (i : ℕ) → i < length cut → get_or cut i 0 ≡ get_or keys (first + i) 0) (long : length cut ≡ past - first) where
+  module _ (cut : List ℕ) (cut_is : (i : ℕ) → i < length cut → get_or cut i 0 ≡ get_or keys (first + i) 0) (long : length cut ≡ past - first) where
     led : (i : ℕ) → i < length cut → node * span + led_to cut i ≡ get_or keys (first + i) 0
     led i h = let is = cut_is i h in let k = key_low i (omega (arith, long)) in omega (arith, nodes, is, k.0, k.1)
 
@@ -54,3 +60,6 @@ module _ {n : ℕ} {keys : List ℕ} {node first past : ℕ} (nodes : n ≤ span
           let at = led (k - first) h ∙ ap (λ (j : ℕ). get_or keys j 0) same in
           (k - first, h, omega (arith, at, is));
     }
+
+  pub row_cut : RowKeys n keys node (take (past - first) (drop first keys))
+  row_cut = row_of _ (λ i h. cut_at keys first past i high.within (omega (arith, h, cut_long keys first past high.within))) (cut_long keys first past high.within)

@@ -1,14 +1,15 @@
 -- Levels that are given on along the queue: one node noted, one place of the queue passed, and the end.
 -- Assumes nothing.
-use Prim.Native.Nat.{ℕ, zero, suc, ◌+◌, ◌≤◌, ◌<◌}
+use Prim.Native.Nat.{ℕ, suc, ◌+◌, ◌≤◌, ◌<◌}
 use mathlib.Core.Path.{◌≡◌, sym, ap, ◌∙◌, subst}
 use mathlib.Core.Bool.{Bool, true, false, false≢true}
 use mathlib.Core.List.{List}
 use mathlib.Core.Logic.{◌⊎◌, ⊎_elim}
 use native.Mathlib.Omega.{arith}
-use lib.ListN.{length, set, replicate, length-set, get_or-replicate, get_or-eq_default}
+use lib.ListN.{length, set, replicate, length-set, get_or-replicate}
 use Rattle.tables.specs.Laws.{same?, order?}
 use Rattle.regions.specs.Graph.{Edges, at, marked}
+use Rattle.inputs.proofs.Status.{marked_below}
 use Rattle.trail.specs.Levels.{Levels}
 use Rattle.trail.specs.Waves.{zeros, Queue, level_at, Noted, Wave, Seeded}
 use Rattle.trail.proofs.Queued.{held, look, zeros_none, keeps, queue_old, level_old, level_at_lem, queue_add}
@@ -125,9 +126,6 @@ module _ {n : ℕ} {edge : Edges} {feeds : ℕ → Bool} {levels queue : List �
 
 -- ---- the nodes that feed the port
 
-pub marked_place : (feeds : List Bool) (y : ℕ) → marked feeds y ≡ true → y < length feeds
-marked_place feeds y h = ⊎_elim (λ le. absurd (false≢true (sym (get_or-eq_default feeds false le) ∙ h))) (λ lt. lt) (order? (length feeds) y)
-
 pub seeded_wave : {feeds : List Bool} {levels queue : List ℕ} {tail : ℕ} → Seeded feeds (length feeds) levels queue tail → (edge : Edges)
     → Wave (length feeds) edge (marked feeds) levels queue 0 tail
 seeded_wave {feeds} {levels} {queue} {tail} s edge =
@@ -137,7 +135,7 @@ seeded_wave {feeds} {levels} {queue} {tail} s edge =
       rising = λ i j le h. let a = one i (omega arith) in let b = one j h in omega (arith, a, b);
       near = λ i j le hi hj. let a = one i hi in let b = one j hj in omega (arith, a, b);
       low = λ i h. let a = one i h in omega (arith, a);
-      feeders = λ x h. s.ones x (marked_place feeds x h) h;
+      feeders = λ x h. s.ones x (marked_below feeds x h) h;
       only_feeders = λ x h. (s.only x (omega arith)).1;
       closed = λ i x h e. absurd (omega arith);
       down = λ x k h. absurd (let e = (s.only x (omega arith)).2 in omega arith);

@@ -20,7 +20,7 @@ use Rattle.trail.specs.Ways.{led_to, RowKeys, WalkedDown}
 abbrev pub NonePassed : List ℕ → List ℕ → ℕ → ℕ → Type 0
 NonePassed cut levels level place = (i : ℕ) → i < place → at levels (led_to cut i) ≡ level → ⊥
 
-module _ {n : ℕ} {keys cut levels : List ℕ} {node level : ℕ} (r : RowKeys n keys node cut) (is : at levels node ≡ suc level) where
+module _ {n : ℕ} {keys cut : List ℕ} (levels : List ℕ) {node level : ℕ} (r : RowKeys n keys node cut) (is : at levels node ≡ suc level) where
   pub first_lower : (place : ℕ) → NonePassed cut levels level place → place < length cut → at levels (led_to cut place) ≡ level
       → StepDown (edges n keys) levels node (led_to cut place)
   first_lower place before lt here = record {

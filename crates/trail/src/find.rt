@@ -15,7 +15,7 @@ use tables::SPAN;
 
 // The least drive source among those of the least level; none where no drive source has a level.
 fn start_of(drives: &[bool], levels: &[usize]) -> Option<usize>
-    requires { let n = length drives.now in (length levels.now ≡ n) × ((n ≤ span) × ((x : ℕ) → at levels.now x ≤ n)) }
+    requires { let n = length drives.now in (length levels.now ≡ n) × (n ≤ span) × ((x : ℕ) → at levels.now x ≤ n) }
     ensures { MatchOption result ((z : ℕ) → marked drives.now z ≡ true → at levels.now z ≡ 0)
         (StartAt (marked drives.now) levels.now) }
 {
@@ -32,8 +32,8 @@ fn start_of(drives: &[bool], levels: &[usize]) -> Option<usize>
 
 // The least node one level lower to which an edge leads from `node`, which some edge does.
 fn step_down(graph: Graph, node: usize, levels: &[usize]) -> usize
-    requires { let n = length levels.now in (n ≤ span) × (Ascending graph.keys.now × ((node < n)
-        × ((y : ℕ) × ((edges n graph.keys.now node y ≡ true) × (at levels.now node ≡ suc (at levels.now y)))))) }
+    requires { let n = length levels.now in (n ≤ span) × Ascending graph.keys.now × (node < n)
+        × ((y : ℕ) × (edges n graph.keys.now node y ≡ true) × (at levels.now node ≡ suc (at levels.now y))) }
     ensures { StepDown (edges (length levels.now) graph.entry.keys.now) levels.now node result }
 {
     let lower = levels[node] - 1;
@@ -49,7 +49,7 @@ fn step_down(graph: Graph, node: usize, levels: &[usize]) -> usize
 // Writes the way from `start` down the levels to the front of `way`.
 fn walk_down(graph: Graph, start: usize, levels: &[usize], way: &mut [usize])
     requires { let n = length levels.now in (n ≤ span)
-        × (Ascending graph.keys.now × WalkRoom n (edges n graph.keys.now) levels.now start way.old) }
+        × Ascending graph.keys.now × WalkRoom n (edges n graph.keys.now) levels.now start way.old }
     ensures { WalkedDown (edges (length levels.now) graph.entry.keys.now) levels.now start way.new }
 {
     let mut node = start;

@@ -12,13 +12,7 @@ use regions::Graph;
 use tables::SPAN;
 
 // Gives the node the level and puts it into the queue, where it has none. Answers the new length of the queue.
-fn note(
-    levels: &mut [usize],
-    queue: &mut [usize],
-    tail: usize,
-    node: usize,
-    level: usize,
-) -> usize
+fn note(levels: &mut [usize], queue: &mut [usize], tail: usize, node: usize, level: usize) -> usize
     requires { (node < length levels.old) × (at levels.old node ≡ 0 → tail < length queue.old) }
     ensures { Noted node level levels.old queue.old tail levels.new queue.new result }
 {
@@ -54,8 +48,8 @@ fn spread(
     queue: &mut [usize],
     tail: usize,
 ) -> usize
-    requires { let n = length levels.old in (n ≤ span) × (Ascending graph.keys.now × ((head < tail)
-        × ((feeds : ℕ → Bool) × Wave n (flip (edges n graph.keys.now)) feeds levels.old queue.old head tail))) }
+    requires { let n = length levels.old in (n ≤ span) × Ascending graph.keys.now × (head < tail)
+        × ((feeds : ℕ → Bool) × Wave n (flip (edges n graph.keys.now)) feeds levels.old queue.old head tail) }
     ensures { let n = length levels.old in let edge = flip (edges n graph.entry.keys.now) in
         (feeds : ℕ → Bool) → Wave n edge feeds levels.old queue.old head tail → Wave n edge feeds levels.new queue.new (suc head) result }
 {

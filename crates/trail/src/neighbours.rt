@@ -10,7 +10,7 @@ use tables::rows::lower_bound_in;
 
 // The keys of the edges from `node` to nodes below n, which stand side by side.
 pub(crate) fn row_keys<'a>(graph: Graph<'a>, n: usize, node: usize) -> &'a [u64]
-    requires { (n ≤ span) × (Ascending graph.keys.now × (node < n)) }
+    requires { (n ≤ span) × Ascending graph.keys.now × (node < n) }
     ensures { RowKeys n graph.entry.keys.now node result.now }
 {
     let past = node as u64 * SPAN + n as u64;
