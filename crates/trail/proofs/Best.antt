@@ -2,28 +2,18 @@
 -- Assumes nothing.
 use Prim.Native.Nat.{ℕ, zero, suc, ◌≤◌, ◌<◌}
 use mathlib.Core.Path.{◌≡◌, refl, ap}
-use mathlib.Core.Bool.{Bool, true, false, ◌&&◌, false≢true}
+use mathlib.Core.Bool.{Bool, true, false≢true}
 use mathlib.Core.List.{List, [], ◌∷◌}
 use mathlib.Core.Logic.{inl, inr, ⊎_elim}
 use native.Mathlib.Omega.{arith}
 use lib.ListN.{length}
+use Rattle.std.proofs.lemmas.Bool.{false_from_ne_true}
 use Rattle.tables.specs.Laws.{same?}
+use Rattle.lists.proofs.Search.{both}
+use Rattle.lists.proofs.Some.{and_true}
 use Rattle.regions.specs.Graph.{Edges, at}
 use Rattle.trail.specs.Trail.{onward, trail, NotAfter, BestTrail, NoTrail}
 use Rattle.trail.specs.Levels.{Levels, StartAt, Descends}
-
-pub and_both : {a b : Bool} → (a && b) ≡ true → (a ≡ true) × (b ≡ true)
-and_both {a = true} h = (refl, h)
-and_both {a = false} h = absurd (false≢true h)
-
-pub both_and : {a b : Bool} → a ≡ true → b ≡ true → (a && b) ≡ true
-both_and {a = true} p q = q
-both_and {a = false} p q = p
-
--- what is not true is false
-pub not_so : (b : Bool) → (b ≡ true → ⊥) → b ≡ false
-not_so true h = absurd (h refl)
-not_so false h = refl
 
 -- ---- there is one best trail
 
@@ -51,7 +41,7 @@ module _ {n : ℕ} {edge : Edges} {feeds : ℕ → Bool} {levels : List ℕ} (v 
   unfolding onward
   onward_level x [] h = let e = v.feeders x h in (omega arith, omega arith)
   onward_level x (y ∷ l) h =
-      let w = and_both h in
+      let w = both _ _ h in
       let r = onward_level y l w.1 in
       let c = v.closed x y w.0 r.0 in
       (c.0, omega (arith, r.1, c.1))
@@ -63,7 +53,7 @@ module _ {n : ℕ} {edge : Edges} {feeds : ℕ → Bool} {levels : List ℕ} (v 
   descends_onward x (y ∷ l) d =
       let r = descends_onward y l d.1 in
       let e = d.0.lower in
-      (both_and d.0.along r.0, omega (arith, r.1, e))
+      (and_true _ _ d.0.along r.0, omega (arith, r.1, e))
 
   -- and comes after no other way of so many nodes from x on
   pub descends_least : (x : ℕ) (l m : List ℕ) → Descends edge levels x l → onward edge feeds x m ≡ true → length m ≡ length l → NotAfter l m
@@ -71,7 +61,7 @@ module _ {n : ℕ} {edge : Edges} {feeds : ℕ → Bool} {levels : List ℕ} (v 
   descends_least x [] m d h e = tt
   descends_least x (y ∷ l) [] d h e = absurd (omega arith)
   descends_least x (y ∷ l) (z ∷ m) d h e =
-      let w = and_both h in
+      let w = both _ _ h in
       let own = descends_onward y l d.1 in
       let other = onward_level z m w.1 in
       let c = v.closed x z w.0 other.0 in
@@ -90,7 +80,7 @@ module _ {n : ℕ} {edge : Edges} {feeds : ℕ → Bool} {levels : List ℕ} (v 
   levels_way (suc k) x e =
       let d = v.down x k e in
       let w = levels_way k d.0 d.2 in
-      (d.0 ∷ w.0, both_and d.1 w.1, ap suc w.2)
+      (d.0 ∷ w.0, and_true _ _ d.1 w.1, ap suc w.2)
 
   module _ {drive : ℕ → Bool} where
     -- from the start down, it is the best trail
@@ -98,7 +88,7 @@ module _ {n : ℕ} {edge : Edges} {feeds : ℕ → Bool} {levels : List ℕ} (v 
     unfolding trail
     best_down s l t d =
         record {
-          accepted = both_and t.drives own.0;
+          accepted = and_true _ _ t.drives own.0;
           shortest = λ m h. short m h;
           least = λ m h e. less m h e;
         }
@@ -109,7 +99,7 @@ module _ {n : ℕ} {edge : Edges} {feeds : ℕ → Bool} {levels : List ℕ} (v 
         short : (m : List ℕ) → trail drive edge feeds m ≡ true → suc (length l) ≤ length m
         short [] h = absurd (false≢true h)
         short (z ∷ m) h =
-            let w = and_both h in
+            let w = both _ _ h in
             let r = onward_level z m w.1 in
             let near = t.nearest z w.0 r.0 in
             omega (arith, own.1, r.1)
@@ -117,7 +107,7 @@ module _ {n : ℕ} {edge : Edges} {feeds : ℕ → Bool} {levels : List ℕ} (v 
         less : (m : List ℕ) → trail drive edge feeds m ≡ true → length m ≡ suc (length l) → NotAfter (s ∷ l) m
         less [] h e = absurd (false≢true h)
         less (z ∷ m) h e =
-            let w = and_both h in
+            let w = both _ _ h in
             let r = onward_level z m w.1 in
             let near = t.nearest z w.0 r.0 in
             let le = t.first z w.0 (omega (arith, own.1, r.1)) in
@@ -130,7 +120,7 @@ module _ {n : ℕ} {edge : Edges} {feeds : ℕ → Bool} {levels : List ℕ} (v 
     pub none_down : ((z : ℕ) → drive z ≡ true → at levels z ≡ 0) → NoTrail drive edge feeds
     unfolding trail
     none_down none [] = refl
-    none_down none (z ∷ m) = not_so _ (λ h. let w = and_both h in let r = onward_level z m w.1 in let e = none z w.0 in omega (arith, r.0))
+    none_down none (z ∷ m) = false_from_ne_true _ (λ h. let w = both _ _ h in let r = onward_level z m w.1 in let e = none z w.0 in omega (arith, r.0))
 
 -- ---- there is one list of levels
 

@@ -7,6 +7,11 @@
 --     Starting     start_of
 --     Walking      step_down, walk_down
 --     Found        find_way
+--     Named        the trails of a port by members and by ids
+--     Status       a port has a trail exactly if its status is 0
+--     Written      write_ids, way_in, trail_port
+--     Checked      goes_on, is_trail
+--     Answered     trail_plot, check_plot
 pub mod Best
 pub mod Shortest
 pub mod Renamed
@@ -17,3 +22,8 @@ pub mod Spreading
 pub mod Starting
 pub mod Walking
 pub mod Found
+pub mod Named
+pub mod Status
+pub mod Written
+pub mod Checked
+pub mod Answered

@@ -11,7 +11,9 @@ use lib.ListN.{length, length-map}
 use Rattle.tables.specs.Order.{All}
 use Rattle.regions.specs.Graph.{Edges}
 use Rattle.trail.specs.Trail.{onward, trail, NotAfter, BestTrail, NoTrail}
-use Rattle.trail.proofs.Best.{and_both, both_and, not_so}
+use Rattle.std.proofs.lemmas.Bool.{false_from_ne_true}
+use Rattle.lists.proofs.Search.{both}
+use Rattle.lists.proofs.Some.{and_true}
 
 -- the tests of a node, and of its name; f names a node, and g finds it again
 pub record Renaming (drive : ℕ → Bool) (edge : Edges) (feeds : ℕ → Bool) (drive' : ℕ → Bool) (edge' : Edges) (feeds' : ℕ → Bool) (f g : ℕ → ℕ) : Type 0 where
@@ -34,12 +36,12 @@ module _ {drive : ℕ → Bool} {edge : Edges} {feeds : ℕ → Bool} {drive' : 
   onward_found : (x : ℕ) (m : List ℕ) → onward edge' feeds' x m ≡ true → onward edge feeds (g x) (map g m) ≡ true
   unfolding onward
   onward_found x [] h = r.feeds_from x h
-  onward_found x (y ∷ m) h = let w = and_both h in both_and (r.edge_from x y w.0) (onward_found y m w.1)
+  onward_found x (y ∷ m) h = let w = both _ _ h in and_true _ _ (r.edge_from x y w.0) (onward_found y m w.1)
 
   pub trail_found : (m : List ℕ) → trail drive' edge' feeds' m ≡ true → trail drive edge feeds (map g m) ≡ true
   unfolding trail
   trail_found [] h = absurd (false≢true h)
-  trail_found (x ∷ m) h = let w = and_both h in both_and (r.drive_from x w.0) (onward_found x m w.1)
+  trail_found (x ∷ m) h = let w = both _ _ h in and_true _ _ (r.drive_from x w.0) (onward_found x m w.1)
 
 module _ {drive : ℕ → Bool} {edge : Edges} {feeds : ℕ → Bool} {drive' : ℕ → Bool} {edge' : Edges} {feeds' : ℕ → Bool} {f g : ℕ → ℕ}
     (r : Renaming drive edge feeds drive' edge' feeds' f g) where
@@ -50,7 +52,7 @@ module _ {drive : ℕ → Bool} {edge : Edges} {feeds : ℕ → Bool} {drive' : 
   onward_to : (a : ℕ) (l : List ℕ) → onward edge feeds a l ≡ true → onward edge' feeds' (f a) (map f l) ≡ true
   unfolding onward
   onward_to a [] h = r.feeds_to a h
-  onward_to a (b ∷ l) h = let w = and_both h in both_and (r.edge_to a b w.0) (onward_to b l w.1)
+  onward_to a (b ∷ l) h = let w = both _ _ h in and_true _ _ (r.edge_to a b w.0) (onward_to b l w.1)
 
   finds : Finds drive edge feeds drive' edge' feeds' g
   finds = record { drive_from = λ x h. (r.drive_from x h).0; edge_from = λ x y h. (r.edge_from x y h).0; feeds_from = r.feeds_from }
@@ -58,17 +60,17 @@ module _ {drive : ℕ → Bool} {edge : Edges} {feeds : ℕ → Bool} {drive' : 
   onward_named : (x : ℕ) (m : List ℕ) → onward edge' feeds' x m ≡ true → Named m
   unfolding onward
   onward_named x [] h = tt
-  onward_named x (y ∷ m) h = let w = and_both h in ((r.edge_from x y w.0).1, onward_named y m w.1)
+  onward_named x (y ∷ m) h = let w = both _ _ h in ((r.edge_from x y w.0).1, onward_named y m w.1)
 
   trail_to : (l : List ℕ) → trail drive edge feeds l ≡ true → trail drive' edge' feeds' (map f l) ≡ true
   unfolding trail
   trail_to [] h = absurd (false≢true h)
-  trail_to (a ∷ l) h = let w = and_both h in both_and (r.drive_to a w.0) (onward_to a l w.1)
+  trail_to (a ∷ l) h = let w = both _ _ h in and_true _ _ (r.drive_to a w.0) (onward_to a l w.1)
 
   trail_named : (m : List ℕ) → trail drive' edge' feeds' m ≡ true → Named m
   unfolding trail
   trail_named [] h = tt
-  trail_named (x ∷ m) h = let w = and_both h in ((r.drive_from x w.0).1, onward_named x m w.1)
+  trail_named (x ∷ m) h = let w = both _ _ h in ((r.drive_from x w.0).1, onward_named x m w.1)
 
   after_to : (l m : List ℕ) → Named m → NotAfter l (map g m) → NotAfter (map f l) m
   after_to [] m n h = tt
@@ -90,4 +92,4 @@ module _ {drive : ℕ → Bool} {edge : Edges} {feeds : ℕ → Bool} {drive' : 
       }
 
   pub renamed_none : NoTrail drive edge feeds → NoTrail drive' edge' feeds'
-  renamed_none none m = not_so _ (λ h. false≢true (sym (none (map g m)) ∙ trail_found finds m h))
+  renamed_none none m = false_from_ne_true _ (λ h. false≢true (sym (none (map g m)) ∙ trail_found finds m h))

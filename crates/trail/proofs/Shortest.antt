@@ -10,7 +10,10 @@ use lib.Seq.{length-take-le}
 use Rattle.regions.specs.Graph.{Edges}
 use Rattle.trail.specs.Trail.{onward, trail, BestTrail}
 use Rattle.trail.specs.Theorems.{TrailLaws}
-use Rattle.trail.proofs.Best.{and_both, both_and, not_so, best_once}
+use Rattle.std.proofs.lemmas.Bool.{false_from_ne_true}
+use Rattle.lists.proofs.Search.{both}
+use Rattle.lists.proofs.Some.{and_true}
+use Rattle.trail.proofs.Best.{best_once}
 
 module _ (drive : ℕ → Bool) (edge : Edges) (feeds : ℕ → Bool) where
   -- from each place of a way on it is a way
@@ -18,7 +21,7 @@ module _ (drive : ℕ → Bool) (edge : Edges) (feeds : ℕ → Bool) where
   unfolding onward
   onward_on x l zero h e = e
   onward_on x [] (suc k) h e = absurd (omega arith)
-  onward_on x (y ∷ l) (suc k) h e = onward_on y l k (omega arith) (and_both {a = edge x y} e).1
+  onward_on x (y ∷ l) (suc k) h e = onward_on y l k (omega arith) (both (edge x y) _ e).1
 
   -- a way up to a place, and from that node on another way
   onward_cut : (x : ℕ) (l : List ℕ) (i : ℕ) (m : List ℕ) → i < length (x ∷ l) → onward edge feeds x l ≡ true → onward edge feeds (get_or (x ∷ l) i 0) m ≡ true
@@ -26,25 +29,25 @@ module _ (drive : ℕ → Bool) (edge : Edges) (feeds : ℕ → Bool) where
   unfolding onward
   onward_cut x l zero m h e f = f
   onward_cut x [] (suc i) m h e f = absurd (omega arith)
-  onward_cut x (y ∷ l) (suc i) m h e f = let w = and_both {a = edge x y} e in both_and w.0 (onward_cut y l i m (omega arith) w.1 f)
+  onward_cut x (y ∷ l) (suc i) m h e f = let w = both (edge x y) _ e in and_true _ _ w.0 (onward_cut y l i m (omega arith) w.1 f)
 
   -- a drive source further on would begin a shorter trail
   later_drive : (l : List ℕ) (k : ℕ) → k < length l → trail drive edge feeds l ≡ true → drive (get_or l k 0) ≡ true → (m : List ℕ) × (trail drive edge feeds m ≡ true) × (length m ≡ length l - k)
   unfolding trail
   later_drive [] k h e d = absurd (omega arith)
   later_drive (x ∷ l) k h e d =
-      (get_or (x ∷ l) k 0 ∷ drop (suc k) (x ∷ l), both_and d (onward_on x l k h (and_both {a = drive x} e).1), let s = length-drop k l in omega (arith, s))
+      (get_or (x ∷ l) k 0 ∷ drop (suc k) (x ∷ l), and_true _ _ d (onward_on x l k h (both (drive x) _ e).1), let s = length-drop k l in omega (arith, s))
 
   -- a node that stands twice would let a part of the trail be left out
   twice : (l : List ℕ) (i j : ℕ) → i < j → j < length l → trail drive edge feeds l ≡ true → get_or l i 0 ≡ get_or l j 0 → (m : List ℕ) × (trail drive edge feeds m ≡ true) × (length m < length l)
   unfolding trail
   twice [] i j a b e same = absurd (omega arith)
   twice (x ∷ l) i j a b e same =
-      let w = and_both {a = drive x} e in
+      let w = both (drive x) _ e in
       let rest = onward_on x l j b w.1 in
       let way = onward_cut x l i (drop (suc j) (x ∷ l)) (omega arith) w.1 (subst (λ (y : ℕ). onward edge feeds y (drop (suc j) (x ∷ l)) ≡ true) (sym same) rest) in (
         x ∷ (take i l ++ drop j l),
-        both_and w.0 way,
+        and_true _ _ w.0 way,
         let s = length-append (take i l) (drop j l) in
             let t = length-take-le i l (omega arith) in
             let d = length-drop j l in
@@ -55,7 +58,7 @@ module _ (drive : ℕ → Bool) (edge : Edges) (feeds : ℕ → Bool) where
   trail_laws {l} b =
       record {
         once = λ m c. best_once c b;
-        one_drive = λ k p h. not_so _ (λ d.
+        one_drive = λ k p h. false_from_ne_true _ (λ d.
             let m = later_drive l k h b.accepted d in
             let s = b.shortest m.0 m.1 in
             let e = m.2 in
