@@ -12,6 +12,8 @@
 --     Written      write_ids, way_in, trail_port
 --     Checked      goes_on, is_trail
 --     Answered     trail_plot, check_plot
+--     Theorems     what specs/Theorems.antt states of the entries
+--     Examples     a small plot
 pub mod Best
 pub mod Shortest
 pub mod Renamed
@@ -27,3 +29,5 @@ pub mod Status
 pub mod Written
 pub mod Checked
 pub mod Answered
+pub mod Theorems
+pub mod Examples

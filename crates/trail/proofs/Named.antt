@@ -14,12 +14,12 @@ use lib.IntN.{ℤ}
 use Rattle.tables.specs.Order.{All}
 use Rattle.tables.specs.Laws.{order?}
 use Rattle.lists.specs.Records.{component, port_connection, component_count, port_count}
-use Rattle.lists.specs.First.{is_found, some, tabulate}
-use Rattle.lists.specs.Ids.{place_below, place_of, has_component, IdTable, smaller_ids, member_of}
+use Rattle.lists.specs.First.{first_from, is_found, some, tabulate}
+use Rattle.lists.specs.Ids.{place_below, place_of, has_component, IdTable, smaller_ids, member_of, first_repeated}
 use Rattle.lists.proofs.Search.{first_is}
 use Rattle.lists.proofs.Some.{some_at, some_found}
 use Rattle.lists.proofs.Table.{table_long}
-use Rattle.lists.proofs.Members.{count_mono, ids_distinct, member_below, member_key, member_id_lem}
+use Rattle.lists.proofs.Members.{count_mono, ids_distinct, member_inj, member_below, member_key, member_id_lem}
 use Rattle.regions.specs.Graph.{marked}
 use Rattle.signals.specs.Signals.{is_signal, source_member, sink_member, signals}
 use Rattle.signals.specs.Sources.{is_drive}
@@ -57,6 +57,13 @@ smaller_mono cs a b h =
 
 module _ (cs ps fs : List ℤ) (scene : Scene cs ps) where
   -- ---- from ids to members
+
+  place_is : (p : ℕ) → p < component_count cs → place_of cs (component cs p).id ≡ Some p
+  unfolding place_below
+  place_is p h =
+      first_is (λ k. eqb (component cs k).id (component cs p).id) 0 (component_count cs) p (omega arith) (omega arith)
+      (eq-eqb (component cs p).id (component cs p).id refl)
+      (λ j a b. ne_eqb (component cs j).id (component cs p).id (λ e. let same = ids_distinct cs scene.distinct j p (omega arith) h e in omega arith))
 
   drive_found : (x : ℕ) → is_drive_id cs fs x ≡ true → (p : ℕ) × (place_of cs x ≡ Some p) × (is_drive cs fs p ≡ true)
   unfolding is_drive_id
@@ -136,65 +143,45 @@ module _ (cs ps fs : List ℤ) (scene : Scene cs ps) where
     pub finding : Finds (marked (drive_sources cs fs)) (signals cs ps) (marked (immediate_sources cs ps p port)) (is_drive_id cs fs) (feeds_next ps) (feeds_into ps id port) (smaller_ids cs)
     finding = record { drive_from = drive_from; edge_from = edge_from; feeds_from = feeds_from }
 
-module _ (cs ps fs : List ℤ) {keys : List ℕ} (scene : Scene cs ps) (t : IdTable cs keys) where
-  -- ---- ids
+-- a name for each member: its component's id
+abbrev pub Names : List ℤ → (ℕ → ℕ) → Type 0
+Names cs name = (p : ℕ) → p < component_count cs → name (member_of cs p) ≡ (component cs p).id
 
-  -- the id of the member that stands for a component
-  id_at_lem : (p : ℕ) → p < component_count cs → id_of keys (member_of cs p) ≡ (component cs p).id
-  id_at_lem p h = member_id_lem (member_key t (member_of cs p) (omega (arith, table_long t, member_below cs p h))) scene.distinct p h refl
+module _ (cs ps fs : List ℤ) (scene : Scene cs ps) (name : ℕ → ℕ) (names : Names cs name) where
+  -- ---- from members to ids
 
-  id_member : (p a : ℕ) → p < component_count cs → member_of cs p ≡ a → id_of keys a ≡ (component cs p).id
-  id_member p a h e = subst (λ (m : ℕ). id_of keys m ≡ (component cs p).id) e (id_at_lem p h)
+  name_is : (p a : ℕ) → p < component_count cs → member_of cs p ≡ a → name a ≡ (component cs p).id
+  name_is p a h e = subst (λ (m : ℕ). name m ≡ (component cs p).id) e (names p h)
 
   -- an id that a component has is that of its member
-  id_back : (x : ℕ) → has_component cs x ≡ true → id_of keys (smaller_ids cs x) ≡ x
-  id_back x h = let f = found_place cs x h in id_member f.0 (smaller_ids cs x) f.1 (ap (smaller_ids cs) f.2) ∙ f.2
+  name_back : (x : ℕ) → has_component cs x ≡ true → name (smaller_ids cs x) ≡ x
+  name_back x h = let f = found_place cs x h in name_is f.0 (smaller_ids cs x) f.1 (ap (smaller_ids cs) f.2) ∙ f.2
 
-  -- a smaller member has a smaller id
-  id_rises : (a y : ℕ) → a < smaller_ids cs y → id_of keys a < y
-  id_rises a y h =
-      let low : a < length keys = omega (arith, table_long t, members_small cs y) in
-      let m = member_key t a low in
-      let is : smaller_ids cs (id_of keys a) ≡ a = ap (smaller_ids cs) m.id ∙ m.stands.member scene.distinct in
-      ⊎_elim (λ le. absurd (let s = smaller_mono cs y (id_of keys a) le in omega (arith, s, is, h))) (λ lt. lt) (order? y (id_of keys a))
-
-  place_is : (p : ℕ) → p < component_count cs → place_of cs (component cs p).id ≡ Some p
-  unfolding place_below
-  place_is p h =
-      first_is (λ k. eqb (component cs k).id (component cs p).id) 0 (component_count cs) p (omega arith) (omega arith)
-      (eq-eqb (component cs p).id (component cs p).id refl)
-      (λ j a b. ne_eqb (component cs j).id (component cs p).id (λ e. let same = ids_distinct cs scene.distinct j p (omega arith) h e in omega arith))
-
-  -- ---- drive sources
-
-  drive_to : (a : ℕ) → marked (drive_sources cs fs) a ≡ true → is_drive_id cs fs (id_of keys a) ≡ true
+  drive_to : (a : ℕ) → marked (drive_sources cs fs) a ≡ true → is_drive_id cs fs (name a) ≡ true
   unfolding members_where is_drive_id
   drive_to a e =
       let w = tabulated_true (λ m. some (λ p. is_drive cs fs p && eqb (member_of cs p) m) (component_count cs)) (component_count cs) a e in
       let s = some_found (λ p. is_drive cs fs p && eqb (member_of cs p) a) (component_count cs) w.1 in
       let b = both _ _ s.2 in
-      let is = id_member s.0 a s.1 (eqb-true (member_of cs s.0) a b.1) in
-      ap (λ (x : ℕ). drive_at cs fs (place_of cs x)) is ∙ ap (drive_at cs fs) (place_is s.0 s.1) ∙ b.0
-
-  -- ---- edges
+      let is = name_is s.0 a s.1 (eqb-true (member_of cs s.0) a b.1) in
+      ap (λ (x : ℕ). drive_at cs fs (place_of cs x)) is ∙ ap (drive_at cs fs) (place_is cs ps fs scene s.0 s.1) ∙ b.0
 
   module _ (k : ℕ) (h : k < port_count ps) (signal : is_signal ps k ≡ true) where
-    source_id : (a : ℕ) → source_member cs ps k ≡ a → (port_connection ps k).source ≡ id_of keys a
-    source_id a e = sym (ap (id_of keys) (sym e) ∙ id_back (port_connection ps k).source (ends_below cs ps scene.ends k h signal).source_found)
+    source_id : (a : ℕ) → source_member cs ps k ≡ a → (port_connection ps k).source ≡ name a
+    source_id a e = sym (ap name (sym e) ∙ name_back (port_connection ps k).source (ends_below cs ps scene.ends k h signal).source_found)
 
-    sink_id : (a : ℕ) → sink_member cs ps k ≡ a → (port_connection ps k).sink ≡ id_of keys a
-    sink_id a e = sym (ap (id_of keys) (sym e) ∙ id_back (port_connection ps k).sink (ends_below cs ps scene.ends k h signal).sink_found)
+    sink_id : (a : ℕ) → sink_member cs ps k ≡ a → (port_connection ps k).sink ≡ name a
+    sink_id a e = sym (ap name (sym e) ∙ name_back (port_connection ps k).sink (ends_below cs ps scene.ends k h signal).sink_found)
 
-  edge_to : (a b : ℕ) → signals cs ps a b ≡ true → feeds_next ps (id_of keys a) (id_of keys b) ≡ true
+  edge_to : (a b : ℕ) → signals cs ps a b ≡ true → feeds_next ps (name a) (name b) ≡ true
   unfolding feeds_next
   edge_to a b e =
       let (k, h, signal, p, q) = signal_at cs ps a b e in
-      some_at (carries ps (id_of keys a) (id_of keys b)) (port_count ps) k h (carrying cs ps fs scene (id_of keys a) (id_of keys b) k signal (source_id k h signal a p) (sink_id k h signal b q))
-
-  -- ---- immediate sources
+      some_at (carries ps (name a) (name b)) (port_count ps) k h
+      (carrying cs ps fs scene (name a) (name b) k signal (source_id k h signal a p) (sink_id k h signal b q))
 
   module _ (p port id : ℕ) (is : (component cs p).id ≡ id) where
-    feeds_to : (a : ℕ) → marked (immediate_sources cs ps p port) a ≡ true → feeds_into ps id port (id_of keys a) ≡ true
+    feeds_to : (a : ℕ) → marked (immediate_sources cs ps p port) a ≡ true → feeds_into ps id port (name a) ≡ true
     unfolding feeds_into is_immediate
     feeds_to a e =
         let w = tabulated_true (is_immediate cs ps p port) (component_count cs) a e in
@@ -203,19 +190,48 @@ module _ (cs ps fs : List ℤ) {keys : List ℕ} (scene : Scene cs ps) (t : IdTa
         let b = both _ _ s.2 in
         let c = both _ _ b.0 in
         let d = both _ _ c.1 in
-        some_at (λ k. carries ps (id_of keys a) id k && eqb (port_connection ps k).sink_port_of port) (port_count ps) k s.1
+        some_at (λ k. carries ps (name a) id k && eqb (port_connection ps k).sink_port_of port) (port_count ps) k s.1
         (and_true _ _
-        (carrying cs ps fs scene (id_of keys a) id k c.0 (source_id k s.1 c.0 a (eqb-true (source_member cs ps k) a b.1)) (eqb-true (port_connection ps k).sink (component cs p).id d.0 ∙ is))
+        (carrying cs ps fs scene (name a) id k c.0 (source_id k s.1 c.0 a (eqb-true (source_member cs ps k) a b.1))
+        (eqb-true (port_connection ps k).sink (component cs p).id d.0 ∙ is))
         d.1)
 
-    pub naming : Renaming (marked (drive_sources cs fs)) (signals cs ps) (marked (immediate_sources cs ps p port)) (is_drive_id cs fs) (feeds_next ps) (feeds_into ps id port) (id_of keys) (smaller_ids cs)
-    naming =
-        record {
-          drive_to = drive_to;
-          edge_to = edge_to;
-          feeds_to = feeds_to;
-          drive_from = λ x e. (drive_from cs ps fs scene x e, id_back x (drive_has cs ps fs scene x e));
-          edge_from = λ x y e. (edge_from cs ps fs scene x y e, id_back y (edge_has cs ps fs scene x y e));
-          feeds_from = feeds_from cs ps fs scene p port id is;
-          rises = id_rises;
-        }
+    pub naming : Renaming (marked (drive_sources cs fs)) (signals cs ps) (marked (immediate_sources cs ps p port))
+        (is_drive_id cs fs) (feeds_next ps) (feeds_into ps id port) name (smaller_ids cs)
+    naming = record {
+      drive_to = drive_to;
+      edge_to = edge_to;
+      feeds_to = feeds_to;
+      drive_from = λ x e. (drive_from cs ps fs scene x e, name_back x (drive_has cs ps fs scene x e));
+      edge_from = λ x y e. (edge_from cs ps fs scene x y e, name_back y (edge_has cs ps fs scene x y e));
+      feeds_from = feeds_from cs ps fs scene p port id is;
+    }
+
+-- ---- the names by the table of ids
+
+module _ {cs : List ℤ} {keys : List ℕ} (t : IdTable cs keys) (once : first_repeated cs ≡ None) where
+  pub table_names : Names cs (id_of keys)
+  table_names p h = member_id_lem (member_key t (member_of cs p) (omega (arith, table_long t, member_below cs p h))) once p h refl
+
+  -- a smaller member has a smaller id
+  pub table_rises : (a y : ℕ) → a < smaller_ids cs y → id_of keys a < y
+  table_rises a y h =
+      let low : a < length keys = omega (arith, table_long t, members_small cs y) in
+      let m = member_key t a low in
+      let is : smaller_ids cs (id_of keys a) ≡ a = ap (smaller_ids cs) m.id ∙ m.stands.member once in
+      ⊎_elim (λ le. absurd (let s = smaller_mono cs y (id_of keys a) le in omega (arith, s, is, h))) (λ lt. lt) (order? y (id_of keys a))
+
+-- ---- the names without it: the id of the first component that the member stands for
+
+abbrev pub id_at_place : List ℤ → Option ℕ → ℕ
+id_at_place cs (Some p) = (component cs p).id
+id_at_place cs None = 0
+
+abbrev pub first_name : List ℤ → ℕ → ℕ
+first_name cs a = id_at_place cs (first_from (λ p. eqb (member_of cs p) a) 0 (component_count cs))
+
+pub first_names : (cs : List ℤ) → first_repeated cs ≡ None → Names cs (first_name cs)
+first_names cs once p h =
+    ap (id_at_place cs)
+    (first_is (λ q. eqb (member_of cs q) (member_of cs p)) 0 (component_count cs) p (omega arith) (omega arith) (eq-eqb (member_of cs p) (member_of cs p) refl)
+    (λ j a b. ne_eqb (member_of cs j) (member_of cs p) (λ e. let same = member_inj cs once j p (omega arith) h e in omega arith)))

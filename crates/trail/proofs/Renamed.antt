@@ -23,7 +23,6 @@ pub record Renaming (drive : ℕ → Bool) (edge : Edges) (feeds : ℕ → Bool)
   pub drive_from : (x : ℕ) → drive' x ≡ true → (drive (g x) ≡ true) × (f (g x) ≡ x)
   pub edge_from : (x y : ℕ) → edge' x y ≡ true → (edge (g x) (g y) ≡ true) × (f (g y) ≡ y)
   pub feeds_from : (x : ℕ) → feeds' x ≡ true → feeds (g x) ≡ true
-  pub rises : (a y : ℕ) → a < g y → f a < y
 
 -- the way back alone
 pub record Finds (drive : ℕ → Bool) (edge : Edges) (feeds : ℕ → Bool) (drive' : ℕ → Bool) (edge' : Edges) (feeds' : ℕ → Bool) (g : ℕ → ℕ) : Type 0 where
@@ -62,7 +61,7 @@ module _ {drive : ℕ → Bool} {edge : Edges} {feeds : ℕ → Bool} {drive' : 
   onward_named x [] h = tt
   onward_named x (y ∷ m) h = let w = both _ _ h in ((r.edge_from x y w.0).1, onward_named y m w.1)
 
-  trail_to : (l : List ℕ) → trail drive edge feeds l ≡ true → trail drive' edge' feeds' (map f l) ≡ true
+  pub trail_to : (l : List ℕ) → trail drive edge feeds l ≡ true → trail drive' edge' feeds' (map f l) ≡ true
   unfolding trail
   trail_to [] h = absurd (false≢true h)
   trail_to (a ∷ l) h = let w = both _ _ h in and_true _ _ (r.drive_to a w.0) (onward_to a l w.1)
@@ -72,23 +71,24 @@ module _ {drive : ℕ → Bool} {edge : Edges} {feeds : ℕ → Bool} {drive' : 
   trail_named [] h = tt
   trail_named (x ∷ m) h = let w = both _ _ h in ((r.drive_from x w.0).1, onward_named x m w.1)
 
-  after_to : (l m : List ℕ) → Named m → NotAfter l (map g m) → NotAfter (map f l) m
-  after_to [] m n h = tt
-  after_to (a ∷ l) [] n h = h
-  after_to (a ∷ l) (y ∷ m) n h =
+  after_to : ((a y : ℕ) → a < g y → f a < y) → (l m : List ℕ) → Named m → NotAfter l (map g m) → NotAfter (map f l) m
+  after_to rises [] m n h = tt
+  after_to rises (a ∷ l) [] n h = h
+  after_to rises (a ∷ l) (y ∷ m) n h =
       ⊎_elim
-      (λ lt. inl (r.rises a y lt))
-      (λ e. inr (ap f e.0 ∙ n.0, after_to l m n.1 e.1))
+      (λ lt. inl (rises a y lt))
+      (λ e. inr (ap f e.0 ∙ n.0, after_to rises l m n.1 e.1))
       h
 
-  pub renamed_best : {l : List ℕ} → BestTrail drive edge feeds l → BestTrail drive' edge' feeds' (map f l)
-  renamed_best {l} b =
+  -- where a smaller node has a smaller name
+  pub renamed_best : ((a y : ℕ) → a < g y → f a < y) → {l : List ℕ} → BestTrail drive edge feeds l → BestTrail drive' edge' feeds' (map f l)
+  renamed_best rises {l} b =
       record {
         accepted = trail_to l b.accepted;
         shortest = λ m h. let s = b.shortest (map g m) (trail_found finds m h) in omega (arith, s, length-map l f, length-map m g);
         least = λ m h e.
             let same : length (map g m) ≡ length l = omega (arith, e, length-map l f, length-map m g) in
-            after_to l m (trail_named m h) (b.least (map g m) (trail_found finds m h) same);
+            after_to rises l m (trail_named m h) (b.least (map g m) (trail_found finds m h) same);
       }
 
   pub renamed_none : NoTrail drive edge feeds → NoTrail drive' edge' feeds'

@@ -56,7 +56,7 @@ module _ (cs ps fs : List ℤ) (scene : Scene cs ps) (p port : ℕ) where
   unfolding trail fed_by drive
   trail_fed [] h = absurd (false≢true h)
   trail_fed (s ∷ l) h =
-      let w = both _ _ h in
+      let w = both (marked (drive_sources cs fs) s) _ h in
       let r = onward_reach s l w.1 in
       let f = source_found cs ps fs p port r.0 (tabulated_true (is_immediate cs ps p port) n r.0 r.2).1 in
       let low : s < n = omega (arith, marked_below (drive_sources cs fs) s w.0, flags_long cs (is_drive cs fs)) in

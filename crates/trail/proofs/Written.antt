@@ -39,7 +39,7 @@ use Rattle.trail.specs.Trail.{onward, trail, BestTrail, NoTrail}
 use Rattle.trail.specs.Scene.{id_of, FoundWay}
 use Rattle.trail.specs.Entries.{status_refusal, FindingBy}
 use Rattle.trail.proofs.Renamed.{renamed_best}
-use Rattle.trail.proofs.Named.{naming}
+use Rattle.trail.proofs.Named.{naming, table_names, table_rises}
 use Rattle.trail.proofs.Status.{status_trail}
 
 -- ---- the lent list
@@ -84,7 +84,7 @@ module _ (cs ps fs : List ℤ) (scene : Scene cs ps) (feeds : ℕ → Bool) wher
   unfolding trail
   trail_members [] h = tt
   trail_members (x ∷ l) h =
-      let w = both _ _ h in
+      let w = both (marked (drive_sources cs fs) x) _ h in
       (omega (arith, marked_below (drive_sources cs fs) x w.0, flags_long cs (is_drive cs fs)), onward_members x l w.1)
 
   pub way_members : {keys l : List ℕ} → IdTable cs keys → BestTrail (marked (drive_sources cs fs)) (signals cs ps) feeds l
@@ -119,7 +119,7 @@ module _ {cs ps : List ℤ} (fs : List ℤ) {keys : List ℕ} (scene : Scene cs 
         answer = refl;
         found = record {
           found = map (id_of keys) (take count way);
-          best = renamed_best (naming cs ps fs scene t p port id is) best;
+          best = renamed_best (naming cs ps fs scene (id_of keys) (table_names t scene.distinct) p port id is) (table_rises t scene.distinct) best;
           few = omega (arith, few, long);
           count_is = sym long;
           trail_left = left;

@@ -64,7 +64,7 @@ pub record Finding (cs ps fs : List ℤ) (id port : ℕ) (trail trail' : List �
 
 pub record CheckingBy (checks : Result ⊤ Refusal) (cs ps fs : List ℤ) (id port : ℕ) (trail : List ℕ) (r : Result Bool Refusal) : Type 0 where
   pub answer : checked r ≡ checks
-  pub accepts : IfOk r (λ yes. yes ≡ port_trail cs ps fs id port trail)
+  pub accepts : IfOk r (λ accepted. accepted ≡ port_trail cs ps fs id port trail)
 
 pub record Checking (cs ps fs : List ℤ) (id port : ℕ) (trail : List ℕ) (r : Result Bool Refusal) : Type 0 where
   pub by : CheckingBy (check_refusal cs ps fs id port) cs ps fs id port trail r
