@@ -20,7 +20,9 @@ fn carries_signal(ports: PortList, k: usize, a: u64, b: u64) -> bool
     requires { k < port_count ports.numbers.now }
     ensures { result ≡ carries ports.entry.numbers.now a b k }
 {
-    ports.transfer(k) != SUPPORT && ports.source(k) == a && ports.sink(k) == b
+    let signal = ports.transfer(k) != SUPPORT;
+    let source = ports.source(k) == a;
+    signal & (source & (ports.sink(k) == b))
 }
 
 // Whether the component with one id feeds that with another.
