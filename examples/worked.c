@@ -211,6 +211,37 @@ static void one_input(void)
         hold(work[k] == 0, "work zero");
 }
 
+/* Two levers, which one? The second stands by the wire and is connected; the
+   first is not. Then a list that begins at the first, and one place too few. */
+static void the_way(void)
+{
+    const int64_t plot[] = {
+        7, 0, 0, 0, 4, 0, 0, 0,
+        5, 0, 0, 1, 4, 0, 0, 0,
+        9, 1, 0, 1, 0, 0, 0, 0,
+        2, 2, 0, 1, 1, 2, 0, 0,
+    };
+    const int64_t fed[] = {5, 0, 9, 0, 1, 9, 0, 2, 1, 4};
+    uint64_t way[5];
+    memset(way, FILLING, sizeof way);
+    const uint64_t dirty = way[4];
+    uint64_t answer = dustroute_trail(plot, 32, fed, 10, fed, 0, 2, 1, way, 3);
+    hold(DUSTROUTE_NUMBER(answer) == 2 && DUSTROUTE_LIST(answer) == 3, "2: no room for the trail");
+    answer = dustroute_trail(plot, 32, fed, 5, fed, 0, 2, 1, way, 5);
+    hold(DUSTROUTE_NUMBER(answer) == 10 && DUSTROUTE_LIST(answer) == 3, "10: not driven");
+    hold(way[0] == dirty && way[4] == dirty, "no trail written");
+    answer = dustroute_trail(plot, 32, fed, 10, fed, 0, 2, 1, way, 5);
+    hold(DUSTROUTE_ACCEPTED(answer) && DUSTROUTE_COUNT(answer, 0) == 2, "two blocks lead there");
+    hold(way[0] == 5 && way[1] == 9 && way[2] == dirty, "from the second lever");
+    answer = dustroute_check_trail(plot, 32, fed, 10, fed, 0, 2, 1, way, 2);
+    hold(DUSTROUTE_ACCEPTED(answer) && DUSTROUTE_COUNT(answer, 0) == 1, "which is a way");
+    way[0] = 7;
+    answer = dustroute_check_trail(plot, 32, fed, 10, fed, 0, 2, 1, way, 2);
+    hold(DUSTROUTE_ACCEPTED(answer) && DUSTROUTE_COUNT(answer, 0) == 0, "from the first lever is none");
+    answer = dustroute_check_trail(plot, 32, fed, 10, fed, 0, 7, 1, way, 2);
+    hold(DUSTROUTE_NUMBER(answer) == 8, "8: a lever has no verdict");
+}
+
 /* A ring of wires through as many components as there may be, four connections
    from each to the next, and frontiers that are all the origin. */
 static void full_lists(void)
@@ -323,6 +354,7 @@ int main(int count, char **arguments)
         worked_liveness();
         refusals();
         one_input();
+        the_way();
         full_plot();
     }
     if (faults == 0)

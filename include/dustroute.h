@@ -13,8 +13,9 @@
  * first, whatever the byte order of the host. Numbers of lists are signed, in
  * two's complement. A slice passes as a pointer and then a length in bytes.
  *
- * dustroute_driven alone takes numbers as the host has them, int64_t for lists:
- * there a slice passes as a pointer and then a count of numbers.
+ * Only dustroute_groups and dustroute_liveness take bytes. The other entries take
+ * numbers as the host has them, int64_t for lists: there a slice passes as a
+ * pointer and then a count of numbers.
  *
  *     list          numbers of a record, in this order
  *     components    id 0..4294967295; x, y, z each -30000000..30000000;
@@ -62,9 +63,10 @@
  *     6   grouping connections not strictly ascending; the later of the pair
  *     7   an endpoint of a non-support port connection is no component
  *     8   the port asked for has no verdict row; list 3, item 0
+ *     10  the row's status is not 0; list 3, item 0
  *
- * 6 is of dustroute_groups alone, 7 of the two others, 8 of dustroute_driven
- * alone.
+ * 6 is of dustroute_groups alone, 7 of the others; 8 is of dustroute_driven,
+ * dustroute_trail and dustroute_check_trail, 10 of dustroute_trail alone.
  *
  *
  * WHAT IS WRITTEN
@@ -201,6 +203,41 @@ uint64_t dustroute_driven(
     uint64_t id, uint64_t port,
     uint64_t *met, size_t met_len,
     size_t *stack, size_t stack_len);
+
+/*
+ * The way from a drive source to the required input at a port of the component
+ * with the id: the ids of the components that the signal goes through, the drive
+ * source first and one that feeds the port last, as few as there can be. Among
+ * equally short ways it is the one with the smaller id where they first differ,
+ * from the drive source on. Any id and port may be asked for; those without a
+ * verdict row are refused with 8, those whose row has another status than 0
+ * with 10.
+ *
+ * trail     the ids; a place for each component is room enough
+ *
+ * Counts: how many ids were written.
+ */
+uint64_t dustroute_trail(
+    const int64_t *components, size_t components_len,
+    const int64_t *ports, size_t ports_len,
+    const int64_t *frontiers, size_t frontiers_len,
+    uint64_t id, uint64_t port,
+    uint64_t *trail, size_t trail_len);
+
+/*
+ * Whether a list of ids is a way from a drive source to that input: whether its
+ * first is a drive source, each next one is fed by the one before, and the last
+ * feeds the port. The list may have any length and any numbers; one of length 0
+ * is no way. A port without a verdict row is refused with 8.
+ *
+ * Counts: 1 for yes, 0 for no.
+ */
+uint64_t dustroute_check_trail(
+    const int64_t *components, size_t components_len,
+    const int64_t *ports, size_t ports_len,
+    const int64_t *frontiers, size_t frontiers_len,
+    uint64_t id, uint64_t port,
+    const uint64_t *trail, size_t trail_len);
 
 #ifdef __cplusplus
 }

@@ -2,4 +2,5 @@
 mod LivenessLaws
 mod Demands
 mod OneInput
+mod WaySmall
 pub mod Laws

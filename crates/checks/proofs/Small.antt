@@ -64,6 +64,7 @@ fault_within Fault.UnsortedConnections = (lit< tt, lit< tt)
 fault_within Fault.MissingEnd = (lit< tt, lit< tt)
 fault_within Fault.NoVerdictRow = (lit< tt, lit< tt)
 fault_within Fault.BadLine = (lit< tt, lit< tt)
+fault_within Fault.NotDriven = (lit< tt, lit< tt)
 
 pub list_few : (list : Option Section) → list_number list < 256
 list_few (Some Section.Components) = lit< tt

@@ -27,7 +27,8 @@ use Rattle.liveness.specs.Scene.{Accepted}
 use Rattle.liveness.proofs.Answers.{set_same}
 use Rattle.inputs.specs.Query.{is_immediate, row_place}
 use Rattle.driven.specs.Seek.{Search, sought}
-use Rattle.driven.specs.Driven.{drive_sources, immediate_sources, upstream_from, AskedBy}
+use Rattle.inputs.specs.Port.{drive_sources, immediate_sources}
+use Rattle.driven.specs.Driven.{upstream_from, AskedBy}
 use Rattle.driven.specs.Scene.{Upstream}
 use Rattle.driven.specs.declared.DrivenInput.{DrivenInput}
 

@@ -1,58 +1,47 @@
 -- The search upstream of a port on an accepted scene (specs/Status.antt): yes exactly if the status is 0.
 -- Assumes nothing.
 use mathlib.Core.Path.{◌≡◌, refl, sym, ap, subst, ◌∙◌}
-use mathlib.Core.Bool.{Bool, true, false, not, cond, ◌&&◌, false≢true}
+use mathlib.Core.Bool.{Bool, true, false, ◌&&◌}
 use mathlib.Core.List.{List}
 use mathlib.Core.Logic.{⊎_elim}
 use Prim.Native.Nat.{ℕ, ◌≤◌, ◌<◌}
 use native.Mathlib.Omega.{arith}
-use lib.Dec.{eqb}
 use lib.ListN.{length, get_or-eq_default}
 use lib.IntN.{ℤ}
-use borrow.Author.Tests.{eqb-true, eq-eqb, lt-ltb, le-ltb}
+use borrow.Author.Tests.{lt-ltb, le-ltb}
 use Rattle.tables.specs.Laws.{order?}
 use Rattle.lists.specs.Records.{component_count, port_count}
-use Rattle.lists.specs.First.{is_found, some}
+use Rattle.lists.specs.First.{is_found}
 use Rattle.std.specs.Prelude.{Option, Some, None, Ok}
 use Rattle.lists.specs.declared.Fault.{Fault}
 use Rattle.checks.specs.Refusals.{refuse, too_short, room_for, query_refusal}
 use Rattle.checks.proofs.Chain.{both_accept, refused_not}
 use Rattle.checks.proofs.Accepted.{liveness_accept}
 use Rattle.sets.specs.Members.{member_of}
-use Rattle.lists.proofs.Search.{both}
-use Rattle.lists.proofs.Some.{some_at, some_found}
+use Rattle.lists.proofs.Some.{some_at}
 use Rattle.regions.specs.Graph.{Within, marked, flip}
 use Rattle.regions.specs.Kosaraju.{reached}
 use Rattle.regions.proofs.Laws.Walks.{Reach·flip}
 use Rattle.regions.proofs.Theorems.{reach_laws}
 use Rattle.signals.specs.Signals.{signals, source_member}
 use Rattle.signals.specs.Sources.{is_drive}
-use Rattle.signals.specs.Drive.{drive, potential}
+use Rattle.signals.specs.Drive.{drive}
 use Rattle.signals.proofs.Tabulated.{tabulated_at}
 use Rattle.signals.proofs.Within.{signals_within}
-use Rattle.assessment.specs.Verdicts.{feeds_port, fed_by, status_of, input_rows}
+use Rattle.assessment.specs.Verdicts.{feeds_port, fed_by, input_rows}
 use Rattle.liveness.specs.Scene.{Scene}
 use Rattle.liveness.specs.Sets.{SetWhere}
 use Rattle.liveness.proofs.Answers.{scene_of_lem}
 use Rattle.inputs.specs.Query.{is_immediate, upstream, row_place, input_refusal}
 use Rattle.inputs.proofs.Inputs.{flags_long}
 use Rattle.driven.specs.Theorems.{SoughtLaws}
-use Rattle.driven.specs.Driven.{drive_sources, immediate_sources, upstream_from, PortDriven, Asked}
-use Rattle.driven.specs.Status.{DrivenLaws, HasRow, AnswerLaws}
+use Rattle.inputs.specs.Port.{drive_sources, immediate_sources, HasRow}
+use Rattle.inputs.proofs.Status.{marked_below, source_found, source_at, fed_found, fed_zero, zero_fed}
+use Rattle.driven.specs.Driven.{upstream_from, PortDriven, Asked}
+use Rattle.driven.specs.Status.{DrivenLaws, AnswerLaws}
 use Rattle.driven.specs.declared.DrivenInput.{DrivenInput}
 use Rattle.driven.proofs.Sought.{sought_laws}
-use Rattle.driven.proofs.Reported.{row_there, row_status}
-
--- a flag that is set stands in the list
-marked_below : (l : List Bool) (k : ℕ) → marked l k ≡ true → k < length l
-marked_below l k e = ⊎_elim (λ h. absurd (false≢true (sym (get_or-eq_default l false h) ∙ e))) (λ h. h) (order? (length l) k)
-
--- status 0 of the three tests, where the second holds only if the first does
-zero_back : (a b c : Bool) → cond {A = ℕ} (not a) 2 (cond b 0 (cond c 1 3)) ≡ 0 → b ≡ true
-zero_back true true c e = refl
-zero_back true false true e = absurd (omega arith)
-zero_back true false false e = absurd (omega arith)
-zero_back false b c e = absurd (omega arith)
+use Rattle.inputs.proofs.Reported.{row_there, row_status}
 
 module _ (cs ps fs : List ℤ) (scene : Scene cs ps) (p port : ℕ) where
   abbrev n : ℕ
@@ -71,22 +60,6 @@ module _ (cs ps fs : List ℤ) (scene : Scene cs ps) (p port : ℕ) where
   abbrev Driving : Type 0
   Driving = (g : ℕ) × (marked (drive_sources cs fs) g ≡ true) × (marked (reached n (flip (signals cs ps)) (immediate_sources cs ps p port)) g ≡ true)
 
-  -- ---- immediate sources
-
-  source_found : (a : ℕ) → is_immediate cs ps p port a ≡ true → (k : ℕ) × (k < port_count ps) × (feeds_port cs ps p port k ≡ true) × (source_member cs ps k ≡ a)
-  unfolding is_immediate
-  source_found a e =
-      let f = some_found (λ k. feeds_port cs ps p port k && eqb (source_member cs ps k) a) (port_count ps) e in
-      let b = both (feeds_port cs ps p port f.0) (eqb (source_member cs ps f.0) a) f.2 in
-      (f.0, f.1, b.0, eqb-true (source_member cs ps f.0) a b.1)
-
-  source_at : (k : ℕ) → k < port_count ps → feeds_port cs ps p port k ≡ true → is_immediate cs ps p port (source_member cs ps k) ≡ true
-  unfolding is_immediate
-  source_at k h e =
-      let a = source_member cs ps k in
-      some_at (λ j. feeds_port cs ps p port j && eqb (source_member cs ps j) a) (port_count ps) k h
-      (ap (λ (t : Bool). t && eqb (source_member cs ps k) a) e ∙ eq-eqb a a refl)
-
   -- ---- a drive source upstream, and an immediate source that is driven
 
   driving_fed : Driving → fed_by cs ps p port (drive cs ps fs) ≡ true
@@ -94,7 +67,7 @@ module _ (cs ps fs : List ℤ) (scene : Scene cs ps) (p port : ℕ) where
   driving_fed (g, goal, up) =
       let from = ((reach_laws n (flip (signals cs ps)) turned (immediate_sources cs ps p port)).exactly g).0 up in
       let s = from.0 in
-      let source = source_found s (sym (tabulated_at (is_immediate cs ps p port) false n s from.1) ∙ from.2) in
+      let source = source_found cs ps fs p port s (sym (tabulated_at (is_immediate cs ps p port) false n s from.1) ∙ from.2) in
       let low : g < n = omega (arith, marked_below (drive_sources cs fs) g goal, flags_long cs (is_drive cs fs)) in
       let driven : marked (reached n (signals cs ps) (drive_sources cs fs)) s ≡ true =
       ((reach_laws n (signals cs ps) within (drive_sources cs fs)).exactly s).1 (g, low, goal, Reach·flip from.3) in
@@ -102,18 +75,10 @@ module _ (cs ps fs : List ℤ) (scene : Scene cs ps) (p port : ℕ) where
       (ap (λ (t : Bool). t && marked (reached n (signals cs ps) (drive_sources cs fs)) (source_member cs ps source.0)) source.2
       ∙ ap (marked (reached n (signals cs ps) (drive_sources cs fs))) source.3 ∙ driven)
 
-  fed_found : fed_by cs ps p port (drive cs ps fs) ≡ true
-      → (k : ℕ) × (k < port_count ps) × (feeds_port cs ps p port k ≡ true) × (marked (drive cs ps fs) (source_member cs ps k) ≡ true)
-  unfolding fed_by
-  fed_found e =
-      let f = some_found (λ k. feeds_port cs ps p port k && marked (drive cs ps fs) (source_member cs ps k)) (port_count ps) e in
-      let b = both (feeds_port cs ps p port f.0) (marked (drive cs ps fs) (source_member cs ps f.0)) f.2 in
-      (f.0, f.1, b.0, b.1)
-
   fed_driving : fed_by cs ps p port (drive cs ps fs) ≡ true → Driving
   unfolding drive
   fed_driving e =
-      let f = fed_found e in
+      let f = fed_found cs ps fs p port e in
       let s = source_member cs ps f.0 in
       let r = reach_laws n (signals cs ps) within (drive_sources cs fs) in
       let low : s < n = omega (arith, marked_below (reached n (signals cs ps) (drive_sources cs fs)) s f.3, r.long) in
@@ -123,27 +88,15 @@ module _ (cs ps fs : List ℤ) (scene : Scene cs ps) (p port : ℕ) where
         ((reach_laws n (flip (signals cs ps)) turned (immediate_sources cs ps p port)).exactly from.0).1 (
           s,
           low,
-          tabulated_at (is_immediate cs ps p port) false n s low ∙ source_at f.0 f.1 f.2,
+          tabulated_at (is_immediate cs ps p port) false n s low ∙ source_at cs ps fs p port f.0 f.1 f.2,
           Reach·flip {edge = flip (signals cs ps)} from.3,
         ),
       )
 
-  -- ---- status 0
-
-  fed_zero : fed_by cs ps p port (drive cs ps fs) ≡ true → status_of cs ps fs p port ≡ 0
-  unfolding status_of
-  fed_zero e =
-      let f = fed_found e in
-      rw (some_at (feeds_port cs ps p port) (port_count ps) f.0 f.1 f.2, e)
-
-  zero_fed : status_of cs ps fs p port ≡ 0 → fed_by cs ps p port (drive cs ps fs) ≡ true
-  unfolding status_of
-  zero_fed e = zero_back (some (feeds_port cs ps p port) (port_count ps)) (fed_by cs ps p port (drive cs ps fs)) (fed_by cs ps p port (potential cs ps fs)) e
-
   pub driven_laws : DrivenLaws cs ps fs p port
   unfolding upstream_from upstream
   driven_laws = record {
-    status = (λ e. fed_zero (driving_fed (laws.stops.0 e)), λ e. laws.stops.1 (fed_driving (zero_fed e)));
+    status = (λ e. fed_zero cs ps fs p port (driving_fed (laws.stops.0 e)), λ e. laws.stops.1 (fed_driving (zero_fed cs ps fs p port e)));
     met_upstream = laws.met_reached;
     one_drive = laws.one_goal;
     all_met = laws.all_met;

@@ -2,20 +2,16 @@
 --     Passing      a walk passes a met node over, and does nothing once it has stopped
 --     Sought       what specs/Theorems.antt states
 --     Examples     small graphs
---     Reported     the verdict rows of an analysis
 --     Driven       what specs/Status.antt states
 --     Frames       the open calls of `seek` as a stack of frames
 --     Stack        seek_from
 --     Starts       seek_all
---     Sources      flag_immediate, drive_members
 --     Asking       driven_in, driven_plot
 pub mod Passing
 pub mod Sought
 pub mod Examples
-pub mod Reported
 pub mod Driven
 pub mod Frames
 pub mod Stack
 pub mod Starts
-pub mod Sources
 pub mod Asking

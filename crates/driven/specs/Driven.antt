@@ -6,25 +6,15 @@
 use Rattle.std.specs.Prelude.{⊤, Option, Some, None, Result, IfOk}
 use Rattle.std.specs.Prelude.{ℕ, ◌≡◌, Bool, false, List, length, ℤ}
 use Rattle.lists.specs.Records.{component_count}
-use Rattle.lists.specs.First.{tabulate}
 use Rattle.lists.specs.Slices.{work_of}
 use Rattle.lists.specs.declared.Refusal.{Refusal}
 use Rattle.regions.specs.Graph.{marked, flip}
 use Rattle.signals.specs.Signals.{signals}
-use Rattle.signals.specs.Sources.{is_drive}
-use Rattle.signals.specs.Drive.{members_where}
 use Rattle.liveness.specs.Sets.{SetWhere, checked}
-use Rattle.inputs.specs.Query.{is_immediate, row_place, input_refusal, at_place}
+use Rattle.inputs.specs.Query.{row_place, input_refusal, at_place}
+use Rattle.inputs.specs.Port.{drive_sources, immediate_sources}
 use Rattle.driven.specs.Seek.{Search, sought}
 use Rattle.driven.specs.declared.DrivenInput.{DrivenInput}
-
--- the drive sources, by member
-abbrev pub drive_sources : List ℤ → List ℤ → List Bool
-drive_sources cs fs = members_where cs (is_drive cs fs)
-
--- the immediate sources of a port of the component at p, by member
-abbrev pub immediate_sources : List ℤ → List ℤ → ℕ → ℕ → List Bool
-immediate_sources cs ps p port = tabulate (is_immediate cs ps p port) (component_count cs)
 
 -- "going upstream from it, .. stopping at the first drive source met"
 unfoldable pub upstream_from : List ℤ → List ℤ → List ℤ → ℕ → ℕ → Search

@@ -1,19 +1,14 @@
 -- What the contracts of the stages say: what each leaves in its arrays.
 -- Assumes nothing: these are definitions.
-use Rattle.std.specs.Prelude.{ℕ, ◌*◌, ◌≤◌, ◌≡◌, Bool, ◌&&◌, List, eqb, length, ℤ}
+use Rattle.std.specs.Prelude.{ℕ, ◌*◌, ◌≤◌, ◌≡◌, Bool, List, length, ℤ}
 use Rattle.tables.specs.Order.{Ascending}
 use Rattle.lists.specs.Limits.{component_limit}
-use Rattle.lists.specs.Records.{port_connection, component_count, port_count}
+use Rattle.lists.specs.Records.{component_count, port_count}
 use Rattle.regions.specs.Graph.{Edges, marked}
 use Rattle.regions.specs.Search.{Zeros}
-use Rattle.signals.specs.Signals.{is_signal}
 use Rattle.liveness.specs.Sets.{SetWhere}
 use Rattle.driven.specs.Seek.{sought}
 use Rattle.driven.specs.declared.DrivenInput.{DrivenInput}
-
--- port connection k carries a signal to the port of the component with the id
-abbrev pub feeds_id : List ℤ → ℕ → ℕ → ℕ → Bool
-feeds_id ps id port k = is_signal ps k && (eqb (port_connection ps k).sink id && eqb (port_connection ps k).sink_port_of port)
 
 -- room for a key to a port connection, one flag to a member, and two numbers to a member
 pub record AskRoom (cs ps : List ℤ) (backward : List ℕ) (starts goals : List Bool) (stack : List ℕ) : Type 0 where

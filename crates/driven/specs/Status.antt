@@ -9,14 +9,15 @@
 -- The theorem is `driven_laws` of proofs/Driven.antt, and `answer_laws` there says the same of what `is_driven` answers.
 -- Assumes nothing: these are statements.
 use Rattle.std.specs.Prelude.{Some}
-use Rattle.std.specs.Prelude.{ℕ, ◌≡◌, true, false, List, [], ◌∷◌, ◌↔◌, ◌⊎◌, ℤ, length}
+use Rattle.std.specs.Prelude.{ℕ, ◌≡◌, true, false, List, ◌↔◌, ℤ, length}
 use Rattle.sets.specs.Members.{member_of}
 use Rattle.lists.specs.Records.{component_count}
 use Rattle.regions.specs.Graph.{marked}
 use Rattle.assessment.specs.Verdicts.{status_of, input_rows}
 use Rattle.inputs.specs.Query.{upstream, row_place}
+use Rattle.inputs.specs.Port.{drive_sources, HasRow}
 use Rattle.driven.specs.Theorems.{OneGoal}
-use Rattle.driven.specs.Driven.{drive_sources, upstream_from}
+use Rattle.driven.specs.Driven.{upstream_from}
 use Rattle.driven.specs.declared.DrivenInput.{DrivenInput}
 
 pub record DrivenLaws (cs ps fs : List ℤ) (p port : ℕ) : Type 0 where
@@ -31,13 +32,6 @@ pub record DrivenLaws (cs ps fs : List ℤ) (p port : ℕ) : Type 0 where
   pub long : length (upstream_from cs ps fs p port).met ≡ component_count cs
 
 -- ---- the answer of `is_driven`, where its checks accept
-
--- a row of these three numbers stands in a list of such rows
-abbrev pub HasRow : ℕ → ℕ → ℕ → List ℕ → Type 0
-HasRow a b c [] = ⊥
-HasRow a b c (x ∷ []) = ⊥
-HasRow a b c (x ∷ y ∷ []) = ⊥
-HasRow a b c (x ∷ y ∷ z ∷ rows) = ((x ≡ a) × (y ≡ b) × (z ≡ c)) ⊎ HasRow a b c rows
 
 pub record AnswerLaws (cs ps fs : List ℤ) (id port : ℕ) (r : DrivenInput) : Type 0 where
   -- the port has a verdict row, of the component at this place

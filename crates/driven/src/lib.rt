@@ -2,7 +2,6 @@
 #![tactic(auto)]
 
 mod plot;
-mod port;
 pub mod seek;
 
 ghost use Rattle.driven.specs.Driven.{Asked};

@@ -3,7 +3,9 @@ ghost use Rattle.std.specs.Prelude.{Some, None, Ok};
 ghost use Rattle.std.specs.Prelude.{◌≡◌, ℕ, ◌*◌, ◌≤◌, length};
 ghost use Rattle.lists.specs.declared.Fault.{Fault};
 ghost use Rattle.lists.specs.Limits.{component_limit};
-ghost use Rattle.lists.specs.Records.{component, component_count};
+ghost use Rattle.lists.specs.Records.{component, component_count, port_count};
+ghost use Rattle.lists.specs.Ends.{sources_of, sinks_of};
+ghost use Rattle.signals.specs.Keys.{KeysOf};
 ghost use Rattle.lists.specs.First.{is_found};
 ghost use Rattle.checks.specs.Refusals.{refuse, too_short};
 ghost use Rattle.tables.specs.Order.{Ascending};
@@ -14,13 +16,33 @@ ghost use Rattle.driven.specs.Driven.{AskedBy};
 ghost use Rattle.driven.specs.Scene.{AskRoom, SearchRoom, Upstream};
 
 use super::DrivenInput;
-use super::port::{drive_members, flag_immediate, upstream_edges};
 use super::seek::seek_all;
+use inputs::port::{drive_members, flag_immediate};
 use inputs::row::row_place;
 use lists::{COMPONENTS, CONNECTIONS, Fault, Refusal};
 use liveness::plot::Plot;
 use regions::{Graph, HINTED};
 use sets::ComponentSet;
+use signals::stages::build_tables;
+
+// Sorts the signal edges by their sinks, with hints of where the rows end.
+fn upstream_edges(plot: &Plot, backward: &mut [u64], rows: &mut [usize; HINTED])
+    requires { length backward.old ≡ port_count plot.now.ports.now }
+    ensures { let l = plot.now in
+        KeysOf l.ports.now (sinks_of l.ends.now) (sources_of l.ends.now) component_limit backward.new }
+{
+    let mut forward = [0u64; CONNECTIONS];
+    let mut forward_rows = [0usize; HINTED];
+    let m = plot.port_list().count();
+    build_tables(
+        plot.port_list(),
+        plot.ends,
+        &mut forward[..m],
+        backward,
+        &mut forward_rows,
+        rows,
+    );
+}
 
 // The search from the flagged members along a graph of edges, as an answer.
 fn search_upstream(

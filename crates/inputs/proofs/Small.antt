@@ -15,11 +15,11 @@ use Rattle.checks.specs.Refusals.{refuse, too_short, room_for, ◌or_else◌, qu
 use Rattle.checks.proofs.Small.{liveness_small}
 use Rattle.inputs.specs.Query.{input_refusal, row_place}
 
-or_small : (a b : Result ⊤ Refusal) → Small a → Small b → Small (a or_else b)
+pub or_small : (a b : Result ⊤ Refusal) → Small a → Small b → Small (a or_else b)
 or_small (Ok tt) b p q = q
 or_small (Err r) b p q = p
 
-row_small : (found : Bool) → Small (refuse Fault.NoVerdictRow None (too_short found))
+pub row_small : (found : Bool) → Small (refuse Fault.NoVerdictRow None (too_short found))
 row_small true = tt
 row_small false = omega arith
 

@@ -4,6 +4,7 @@
 #![tactic(auto)]
 
 pub mod asked;
+pub mod port;
 mod query;
 pub mod row;
 mod slot;

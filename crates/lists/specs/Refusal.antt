@@ -4,7 +4,7 @@ use Rattle.std.specs.Prelude.{ℕ, zero, suc, Option, Some, None}
 use Rattle.lists.specs.declared.Fault.{Fault}
 use Rattle.lists.specs.declared.Section.{Section}
 
--- 1 to 9
+-- 1 to 10
 abbrev pub fault_number : Fault → ℕ
 fault_number Fault.ListLength = 1
 fault_number Fault.ShortSlice = 2
@@ -15,6 +15,7 @@ fault_number Fault.UnsortedConnections = 6
 fault_number Fault.MissingEnd = 7
 fault_number Fault.NoVerdictRow = 8
 fault_number Fault.BadLine = 9
+fault_number Fault.NotDriven = 10
 
 -- 0 components, 1 connections, 2 frontiers, 3 none
 abbrev pub list_number : Option Section → ℕ

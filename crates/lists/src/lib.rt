@@ -87,6 +87,8 @@ pub enum Fault {
     // The port asked for has no verdict row.
     NoVerdictRow,
     BadLine,
+    // The verdict row of the port asked for has another status than 0.
+    NotDriven,
 }
 
 // A refusal: what is wrong, in which list, and at which item, from 0.

@@ -7,6 +7,8 @@
 //!   signals, what they drive, and a verdict for each required input.
 //! - [`driven`] tells of one required input whether it is driven, without the
 //!   rest of the plot.
+//! - [`trail`] shows the way from a drive source to a driven input, and
+//!   [`check_trail`] tells of any list of components whether it is such a way.
 //! - [`what_if`] and [`what_if_joined`] find what one connection more would
 //!   change of either answer.
 //!
@@ -64,6 +66,7 @@ mod liveness;
 mod numbers;
 mod refusal;
 mod scene;
+mod trail;
 mod what_if;
 
 pub use codes::{BlockKind, ConnectionKind, Facing, TransferKind};
@@ -75,6 +78,7 @@ pub use liveness::{
 };
 pub use refusal::{List, Place, Reason, Refusal};
 pub use scene::{Component, ComponentId, Connection, PortConnection, PortRef, Position};
+pub use trail::{check_trail, trail};
 pub use what_if::{Change, ChangedInput, Joined, what_if, what_if_joined};
 
 /// The code in README.md is run as well.

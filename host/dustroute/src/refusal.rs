@@ -77,16 +77,20 @@ pub enum Reason {
     /// 7: an endpoint of a non-support port connection is no component.
     MissingEndpoint,
     /// 8: the port asked for has no verdict: there is no such component, or the
-    /// port is no required input of it. Only of [`driven`](crate::driven).
+    /// port is no required input of it. Only of [`driven`](crate::driven),
+    /// [`trail`](crate::trail) and [`check_trail`](crate::check_trail).
     NoVerdict,
+    /// 10: the input is not driven, so that no way leads to it. Only of
+    /// [`trail`](crate::trail).
+    NotDriven,
     /// No refusal: the answer is none that the library's contract allows, so
     /// the archive that was linked is not the one of this crate's version.
     Unreadable,
 }
 
 impl Reason {
-    /// The reasons by their numbers from 1.
-    const NUMBERED: [Self; 8] = [
+    /// The reasons that a list's entry gives, by rising number.
+    const ALL: [Self; 9] = [
         Self::Length,
         Self::ShortSlice,
         Self::OutOfRange,
@@ -95,6 +99,7 @@ impl Reason {
         Self::ConnectionOrder,
         Self::MissingEndpoint,
         Self::NoVerdict,
+        Self::NotDriven,
     ];
 
     /// The number of the refusal, 0 for [`Reason::Unreadable`].
@@ -102,7 +107,15 @@ impl Reason {
     pub const fn number(self) -> u8 {
         match self {
             Self::Unreadable => 0,
-            reason => reason as u8 + 1,
+            Self::Length => 1,
+            Self::ShortSlice => 2,
+            Self::OutOfRange => 3,
+            Self::ComponentOrder => 4,
+            Self::RepeatedId => 5,
+            Self::ConnectionOrder => 6,
+            Self::MissingEndpoint => 7,
+            Self::NoVerdict => 8,
+            Self::NotDriven => 10,
         }
     }
 }
@@ -120,6 +133,7 @@ impl fmt::Display for Reason {
             Self::ConnectionOrder => "grouping connections not strictly ascending",
             Self::MissingEndpoint => "an endpoint of a non-support port connection is no component",
             Self::NoVerdict => "the port asked for is no required input",
+            Self::NotDriven => "the input asked for is not driven",
             Self::Unreadable => "the answer of an archive of another version",
         })
     }
@@ -154,8 +168,8 @@ impl Refusal {
     }
 
     fn read(number: u8, list: u8, item: u64) -> Option<Self> {
-        let before = usize::from(number).checked_sub(1)?;
-        let reason = Reason::NUMBERED.get(before).copied()?;
+        let mut reasons = Reason::ALL.into_iter();
+        let reason = reasons.find(|it| it.number() == number)?;
         let list = match list {
             0 => List::Components,
             1 => List::Connections,
@@ -194,7 +208,7 @@ mod tests {
 
     #[test]
     fn every_number_is_read() {
-        for (number, reason) in (1..).zip(Reason::NUMBERED) {
+        for (number, reason) in [1, 2, 3, 4, 5, 6, 7, 8, 10].into_iter().zip(Reason::ALL) {
             assert_eq!(reason.number(), number);
             let refusal = Refusal::of(u64::from(number) + 256 * 3);
             assert_eq!(
@@ -220,7 +234,7 @@ mod tests {
 
     #[test]
     fn other_answers_are_unreadable() {
-        for answer in [9, 255, 256, 1 + 256 * 4, 65_535, u64::MAX] {
+        for answer in [9, 11, 255, 256, 1 + 256 * 4, 65_535, u64::MAX] {
             assert_eq!(Refusal::of(answer), Some(Refusal::UNREADABLE), "{answer}");
         }
         assert_eq!(Reason::Unreadable.number(), 0);
