@@ -1,5 +1,5 @@
--- The straight wire 0, 1, 2 with a connection from a cleared block 9 into its first component, as antt computes it: the liveness entry refuses
--- it with 7 at item 2, the tool drops that item, and the cleared scene has three regions, none of them cyclic. Then a row of each kind.
+-- The straight wire 0, 1, 2 with a connection from a cleared block 9 into its first component, as antt computes it: the liveness entry
+-- refuses it with 7 at item 2, the tool drops that item, and the cleared scene has three regions, none of them cyclic. Then a row of each kind.
 -- Assumes nothing.
 use Rattle.std.specs.Prelude.{Some, None, Ok}
 use Prim.Native.Nat.{ℕ}

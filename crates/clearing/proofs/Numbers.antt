@@ -2,15 +2,16 @@
 --     scene_only       what is left of the liveness entry's checks without number 7
 --     as_before        any other fault is refused with the same number, list and item
 --     one_to_five      the tool refuses with 1 to 5 only
+--     clear_small      a refusal has room in its digits
 --     seven_means      where the liveness entry refuses with 7, checks 1 to 5 accept, and the item is the first with a missing end
 -- Assumes nothing.
 use Rattle.std.specs.Prelude.{⊤, Option, Some, None, Result, Ok, Err}
 use mathlib.Core.Path.{◌≡◌, refl, sym, ap, ◌∙◌}
-use mathlib.Core.Bool.{Bool}
+use mathlib.Core.Bool.{Bool, true, false, cond}
 use mathlib.Core.List.{List}
 use Prim.Native.Nat.{ℕ, ◌≤◌}
 use native.Mathlib.Omega.{arith}
-use lib.Dec.{lit≤}
+use lib.Dec.{eqb, lit≤}
 use lib.ListN.{length}
 use lib.IntN.{ℤ}
 use borrow.Author.Tests.{ne_eqb}
@@ -22,9 +23,10 @@ use Rattle.lists.specs.Refusal.{fault_number}
 use Rattle.lists.specs.Ranges.{first_out_of_range, component_low, component_high, port_low, port_high, frontier_low, frontier_high}
 use Rattle.lists.specs.Order.{first_not_ascending, component_order}
 use Rattle.lists.specs.Ids.{first_repeated, first_end_missing}
-use Rattle.checks.specs.Refusals.{refuse, ◌or_else◌, not_whole, too_short, liveness_lists}
+use Rattle.checks.specs.Refusals.{refuse, not_whole, too_short, liveness_lists, Small, ◌or_else◌}
 use Rattle.checks.specs.Checks.{scene_of}
 use Rattle.checks.proofs.Accepts.{liveness_parts}
+use Rattle.checks.proofs.Small.{liveness_small}
 use Rattle.checks.proofs.Chain.{refused_not}
 use Rattle.clearing.specs.Entry.{except_missing, clearing_room, clear_refusal}
 
@@ -109,3 +111,18 @@ module _ (cs ps fs : List ℤ) (kept dropped : ℕ) (r : Refusal) where
   one_to_five e =
       let enough = clearing_room ps kept dropped in
       (low cs ps fs enough).number r (sym (scene_only cs ps fs enough) ∙ e)
+
+-- ---- as one number
+
+except_small : (a : Result ⊤ Refusal) → Small a → Small (except_missing a)
+except_small (Ok tt) s = s
+except_small (Err r) s = go (eqb (fault_number r.fault) 7)
+  where
+    go : (t : Bool) → Small (cond t (Ok tt) (Err r))
+    go true = tt
+    go false = s
+
+pub clear_small : (cs ps fs : List ℤ) (kept dropped : ℕ) → Small (clear_refusal cs ps fs kept dropped)
+clear_small cs ps fs kept dropped =
+    let enough = clearing_room ps kept dropped in
+    except_small (liveness_lists cs ps fs enough) (liveness_small cs ps fs enough)

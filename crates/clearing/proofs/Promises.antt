@@ -16,22 +16,22 @@ use lib.Dec.{ltb}
 use lib.ListN.{length, take, drop}
 use lib.Seq.{take_at, take-add, take_all}
 use lib.IntN.{ℤ}
-use borrow.Author.Tests.{le-ltb, eq-eqb}
+use borrow.Author.Tests.{lt-ltb, le-ltb, eq-eqb}
 use Rattle.std.specs.List.{flat_map, range_with_len}
 use Rattle.std.proofs.lemmas.List.Filters.{length-filter_both}
 use Rattle.std.proofs.lemmas.List.FromFn.{length-range_with_len}
 use Rattle.sets.specs.Members.{as_nat}
 use Rattle.lists.specs.declared.Fault.{Fault}
 use Rattle.lists.specs.Limits.{component_limit, connection_limit, frontier_limit, component_width, port_width, frontier_width}
-use Rattle.lists.specs.Records.{port_count}
+use Rattle.lists.specs.Records.{port_connection, port_count}
 use Rattle.lists.specs.Ranges.{first_out_of_range, port_low, port_high}
-use Rattle.lists.specs.Ids.{end_missing, first_end_missing}
+use Rattle.lists.specs.Ids.{support_transfer, end_missing, first_end_missing}
 use Rattle.lists.specs.Slices.{laid}
 use Rattle.lists.proofs.Search.{none_found, found_at}
 use Rattle.checks.specs.Refusals.{refuse, not_whole, too_short, liveness_lists}
 use Rattle.checks.proofs.Accepts.{Scene}
 use Rattle.clearing.specs.Parts.{port_row, kept_items, dropped_items, kept_rows}
-use Rattle.clearing.specs.Promises.{ClearedScene, Partition}
+use Rattle.clearing.specs.Promises.{ClearedScene, times, Partition}
 use Rattle.clearing.proofs.Items.{items_below, items_yes, same_items, none_pass, first_passing, times_once, interleaved}
 use Rattle.clearing.proofs.Kept.{rows_more, kept_long, kept_whole, kept_count, kept_few, unchanged, kept_no_missing, kept_in_range}
 
@@ -131,6 +131,10 @@ either true true = refl
 either true false = refl
 either false t = refl
 
+support_kept : (cs ps : List ℤ) (k : ℕ) → k < port_count ps → (port_connection ps k).transfer ≡ support_transfer → times k (kept_items cs ps) ≡ 1
+support_kept cs ps k h e =
+    times_once (λ j. not (end_missing cs ps j)) k (port_count ps) ∙ rw (lt-ltb k (port_count ps) h, eq-eqb (port_connection ps k).transfer support_transfer e)
+
 pub partition : (cs ps : List ℤ) → Partition cs ps
 partition cs ps =
     let missing = end_missing cs ps in
@@ -140,6 +144,7 @@ partition cs ps =
       kept_once = λ k. times_once (λ j. not (missing j)) k n;
       dropped_once = λ k. times_once missing k n;
       once = λ k. ap₂ ◌+◌ (times_once (λ j. not (missing j)) k n) (times_once missing k n) ∙ either (ltb k n) (missing k);
+      support_stays = support_kept cs ps;
       kept_count = kept_count cs ps;
       unchanged = unchanged cs ps;
     }

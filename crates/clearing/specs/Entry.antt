@@ -1,7 +1,7 @@
 -- The entry `clear_missing` (document 02, R-10): what it answers, and what it leaves in the two lists that it was lent.
 -- Assumes nothing: these are definitions.
 use Rattle.std.specs.Prelude.{⊤, Result, Ok, Err, IfOk}
-use Rattle.std.specs.Prelude.{ℕ, ◌*◌, ◌≡◌, Bool, cond, ◌&&◌, List, length, take, eqb, ℤ}
+use Rattle.std.specs.Prelude.{◌≡◌, ℕ, ◌*◌, ◌&&◌, Bool, cond, List, length, take, eqb, ℤ}
 use Rattle.lists.specs.declared.Refusal.{Refusal}
 use Rattle.lists.specs.Limits.{port_width}
 use Rattle.lists.specs.Records.{port_count}
@@ -31,7 +31,8 @@ pub record CountsOf (cs ps : List ℤ) (c : Cleared) : Type 0 where
   pub kept_count : c.kept ≡ length (kept_items cs ps)
   pub dropped_count : c.dropped ≡ length (dropped_items cs ps)
 
--- by what the checks say: the rows of both lists at their front, the rest as it was, and how many these are; or a refusal, which changes nothing
+-- by what the checks say: the rows of both lists at their front, the rest as it was, and how many these are; or a refusal, which changes
+-- nothing
 pub record ClearsBy (checks : Result ⊤ Refusal) (cs ps kept kept' : List ℤ) (dropped dropped' : List ℕ) (r : Result Cleared Refusal) : Type 0 where
   pub answer : checked r ≡ checks
   pub counts : IfOk r (CountsOf cs ps)

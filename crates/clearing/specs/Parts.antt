@@ -3,7 +3,7 @@
 --     dropped_rows, kept_rows       the lists that are answered
 -- A support connection stays, and one with both ends is not at fault: `end_missing` is what refusal 7 asks of a port connection.
 -- Assumes nothing: these are definitions.
-use Rattle.std.specs.Prelude.{ℕ, ◌*◌, Bool, true, false, not, List, [], ◌∷◌, take, drop, ℤ}
+use Rattle.std.specs.Prelude.{ℕ, ◌*◌, ◌∷◌, Bool, true, false, not, List, [], take, drop, ℤ}
 use Rattle.std.specs.List.{filter, flat_map, range_with_len}
 use Rattle.lists.specs.Limits.{port_width}
 use Rattle.lists.specs.Records.{port_connection, port_count}

@@ -3,12 +3,12 @@
 --     Partition         kept and dropped together are the given list, each item once, and what was not at fault is unchanged
 -- The theorems are in proofs/Promises.antt; `Clears` promises `ClearedScene` of every call.
 -- Assumes nothing: these are definitions.
-use Rattle.std.specs.Prelude.{None, ℕ, suc, ◌+◌, ◌<◌, ◌≡◌, Bool, not, ◌&&◌, List, [], ◌∷◌, ◌++◌, length, get_or, eqb, ltb, ℤ}
+use Rattle.std.specs.Prelude.{◌≡◌, None, ℕ, ◌+◌, ◌<◌, ◌∷◌, ◌++◌, ◌&&◌, suc, Bool, not, List, [], length, get_or, eqb, ltb, ℤ}
 use Rattle.std.specs.List.{count_by}
 use Rattle.sets.specs.Members.{as_nat}
 use Rattle.lists.specs.declared.Fault.{Fault}
 use Rattle.lists.specs.Records.{port_connection, port_count}
-use Rattle.lists.specs.Ids.{end_missing}
+use Rattle.lists.specs.Ids.{support_transfer, end_missing}
 use Rattle.checks.specs.Refusals.{refuse, too_short, liveness_lists}
 use Rattle.clearing.specs.Parts.{kept_items, dropped_items, kept_rows}
 
@@ -34,8 +34,9 @@ pub record Partition (cs ps : List ℤ) : Type 0 where
   -- each item stands in the list that it belongs to, once, and no other number stands in either
   pub kept_once : (k : ℕ) → times k (kept_items cs ps) ≡ as_nat (ltb k (port_count ps) && not (end_missing cs ps k))
   pub dropped_once : (k : ℕ) → times k (dropped_items cs ps) ≡ as_nat (ltb k (port_count ps) && end_missing cs ps k)
-  -- so once in the two together
+  -- so once in the two together, and a support connection in the kept one, whatever its ends
   pub once : (k : ℕ) → times k (kept_items cs ps) + times k (dropped_items cs ps) ≡ as_nat (ltb k (port_count ps))
+  pub support_stays : (k : ℕ) → k < port_count ps → (port_connection ps k).transfer ≡ support_transfer → times k (kept_items cs ps) ≡ 1
   -- port connection i of the kept list is the one whose item is kept there, unchanged
   pub kept_count : port_count (kept_rows cs ps) ≡ length (kept_items cs ps)
   pub unchanged : (i : ℕ) → i < length (kept_items cs ps)

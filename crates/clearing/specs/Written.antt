@@ -1,6 +1,6 @@
 -- What the inner functions of the clearing tool hand on.
 -- Assumes nothing: these are definitions.
-use Rattle.std.specs.Prelude.{Option, Some, None, ℕ, ◌≡◌, cond, List, ℤ}
+use Rattle.std.specs.Prelude.{◌≡◌, Option, Some, None, ℕ, cond, List, ℤ}
 use Rattle.lists.specs.Ids.{end_missing}
 use Rattle.lists.specs.Slices.{laid}
 use Rattle.clearing.specs.Parts.{ends_of, kept_rows, dropped_rows}

@@ -78,8 +78,8 @@ fn part(keys: &[u64], ports: PortList, kept: &mut [i64], dropped: &mut [u64]) ->
 {
     let mut hints = [[0u16; 2]; SLOTS];
     hint_ids(keys, &mut hints);
-    let mut kept_end: usize = 0;
-    let mut dropped_end: usize = 0;
+    let mut kept_end = 0;
+    let mut dropped_end = 0;
     for k in 0..ports.count() {
         match fate_of(keys, &hints, ports, k) {
             None => {

@@ -1,9 +1,9 @@
 -- `clearing::clear_missing` meets its contract: checks 1 to 5 decide, and leave the table of ids for the work.
 -- Assumes nothing.
+use Prim.Native.Nat.{◌≤◌}
 use Rattle.std.specs.Prelude.{Ok, Err}
 use borrow.Author.Rules.{rules}
 use mathlib.Core.Path.{◌≡◌, refl, sym, ◌∙◌}
-use Prim.Native.Nat.{◌≤◌}
 use native.Mathlib.Omega.{arith}
 use lib.ListN.{length}
 use lib.Seq.{length-take-le}
