@@ -13,8 +13,9 @@
  * first, whatever the byte order of the host. Numbers of lists are signed, in
  * two's complement. A slice passes as a pointer and then a length in bytes.
  *
- * dustroute_driven alone takes numbers as the host has them, int64_t for lists:
- * there a slice passes as a pointer and then a count of numbers.
+ * dustroute_driven and dustroute_clear take numbers as the host has them,
+ * int64_t for lists: there a slice passes as a pointer and then a count of
+ * numbers.
  *
  *     list          numbers of a record, in this order
  *     components    id 0..4294967295; x, y, z each -30000000..30000000;
@@ -61,10 +62,11 @@
  *     5   an id already used by an earlier component; the later of the pair
  *     6   grouping connections not strictly ascending; the later of the pair
  *     7   an endpoint of a non-support port connection is no component
+ *         (dustroute_clear drops such connections)
  *     8   the port asked for has no verdict row; list 3, item 0
  *
- * 6 is of dustroute_groups alone, 7 of the two others, 8 of dustroute_driven
- * alone.
+ * 6 is of dustroute_groups alone, 7 of dustroute_liveness and dustroute_driven,
+ * 8 of dustroute_driven alone.
  *
  *
  * WHAT IS WRITTEN
@@ -120,6 +122,10 @@
 /* Numbers that the slices of dustroute_driven must have. */
 #define DUSTROUTE_MET_NUMBERS 16
 #define DUSTROUTE_DRIVEN_STACK_NUMBERS(components) ((components) * (size_t)2)
+
+/* Numbers that the lists of dustroute_clear must have for so many ports. */
+#define DUSTROUTE_KEPT_NUMBERS(ports) ((ports) * (size_t)5)
+#define DUSTROUTE_DROPPED_NUMBERS(ports) ((ports) * (size_t)2)
 
 /* The parts of an answer. */
 #define DUSTROUTE_ACCEPTED(answer) (((answer) & 0xffff) == 0)
@@ -201,6 +207,27 @@ uint64_t dustroute_driven(
     uint64_t id, uint64_t port,
     uint64_t *met, size_t met_len,
     size_t *stack, size_t stack_len);
+
+/*
+ * Drops the port connections for which 7 is given, those of transfer 0 to 5
+ * with an end that is no component, and keeps the others in order. Components
+ * and frontiers are as they were. What is kept is accepted with them, and
+ * cleared again it stays as it is. Lists with another fault are refused as by
+ * dustroute_liveness, number 2 for the two lists here.
+ *
+ * kept      ports, five numbers each, to be handed on as they stand
+ * dropped   rows of two numbers by rising item: the item in the list given,
+ *           from 0; 0 its source is missing, 1 its sink, 2 both. Where
+ *           dustroute_liveness gives 7, its item is the first of these.
+ *
+ * Counts: ports kept, ports dropped.
+ */
+uint64_t dustroute_clear(
+    const int64_t *components, size_t components_len,
+    const int64_t *ports, size_t ports_len,
+    const int64_t *frontiers, size_t frontiers_len,
+    int64_t *kept, size_t kept_len,
+    uint64_t *dropped, size_t dropped_len);
 
 #ifdef __cplusplus
 }

@@ -4,9 +4,10 @@
 --     front_is                          the rows that an accepted call left at the front
 --     partition                         kept and dropped together are the given list, each item once
 --     counts_sum                        so their counts sum up to the given count
+--     taken_few                         and neither is more than a list may have
 --     first_dropped                     where the liveness entry refuses with 7, its item is the first dropped
 -- Assumes nothing.
-use Rattle.std.specs.Prelude.{Some, None}
+use Rattle.std.specs.Prelude.{Some, None, Ok}
 use mathlib.Core.Path.{◌≡◌, refl, sym, ap, ap₂, ◌∙◌}
 use mathlib.Core.Bool.{Bool, true, false, not, ◌&&◌}
 use mathlib.Core.List.{List, [], ◌∷◌}
@@ -29,9 +30,11 @@ use Rattle.lists.specs.Ids.{support_transfer, end_missing, first_end_missing}
 use Rattle.lists.specs.Slices.{laid}
 use Rattle.lists.proofs.Search.{none_found, found_at}
 use Rattle.checks.specs.Refusals.{refuse, not_whole, too_short, liveness_lists}
-use Rattle.checks.proofs.Accepts.{Scene}
+use Rattle.checks.proofs.Accepts.{Scene, scene_accept}
 use Rattle.clearing.specs.Parts.{port_row, kept_items, dropped_items, kept_rows}
 use Rattle.clearing.specs.Promises.{ClearedScene, times, Partition}
+use Rattle.clearing.specs.Entry.{clearing_room, clear_refusal}
+use Rattle.clearing.proofs.Numbers.{scene_only}
 use Rattle.clearing.proofs.Items.{items_below, items_yes, same_items, none_pass, first_passing, times_once, interleaved}
 use Rattle.clearing.proofs.Kept.{rows_more, kept_long, kept_whole, kept_count, kept_few, unchanged, kept_no_missing, kept_in_range}
 
@@ -157,6 +160,14 @@ counts_sum cs ps =
       length-filter_both missing (λ k. not (missing k)) (λ k. refl) (range_with_len 0 (port_count ps)),
       length-range_with_len 0 (port_count ps),
     )
+
+-- of a scene that is taken neither is more than a list may have
+pub taken_few : (cs ps fs : List ℤ) (kept dropped : ℕ) → clear_refusal cs ps fs kept dropped ≡ Ok tt
+    → (length (kept_items cs ps) ≤ connection_limit) × (length (dropped_items cs ps) ≤ connection_limit)
+taken_few cs ps fs kept dropped e =
+    let found = first_out_of_range port_low port_high ps in
+    let s = scene_accept cs port_width (length ps) found fs (clearing_room ps kept dropped) (sym (scene_only cs ps fs _) ∙ e) in
+    (omega (arith, counts_sum cs ps, s.lengths.connections_few), omega (arith, counts_sum cs ps, s.lengths.connections_few))
 
 -- ---- the first dropped item
 

@@ -7,6 +7,8 @@
 //!   signals, what they drive, and a verdict for each required input.
 //! - [`driven`] tells of one required input whether it is driven, without the
 //!   rest of the plot.
+//! - [`clear`] drops the port connections to blocks that are gone, for which the
+//!   others refuse a plot.
 //! - [`what_if`] and [`what_if_joined`] find what one connection more would
 //!   change of either answer.
 //!
@@ -44,7 +46,8 @@
 //! What all need of their lists: components ascend strictly by position and
 //! then id, no id occurs twice, coordinates are from -30,000,000 to 30,000,000,
 //! and no list is over its [limit](limits). What is not so is refused, never
-//! put right: a plot that was saved otherwise is a damaged plot.
+//! put right: a plot that was saved otherwise is a damaged plot. [`clear`] alone
+//! mends one fault, and tells what it dropped.
 
 #![deny(missing_docs)]
 #![deny(
@@ -56,6 +59,7 @@
 )]
 
 pub mod bytes;
+mod clear;
 mod codes;
 mod driven;
 mod groups;
@@ -66,6 +70,7 @@ mod refusal;
 mod scene;
 mod what_if;
 
+pub use clear::{Cleared, Dropped, Missing, clear};
 pub use codes::{BlockKind, ConnectionKind, Facing, TransferKind};
 pub use driven::{DrivenInput, driven};
 pub use groups::{ComponentGroups, Groups, groups};
