@@ -183,9 +183,14 @@ mod tests {
             transfer: TransferKind::StructuralSupport,
         };
         assert_eq!(read_kept(wanted.record()), Ok(wanted));
-        for (field, value) in [(0, -1), (1, 256), (2, 1 << 32), (3, -1), (4, 7)] {
-            let mut row = wanted.record();
-            row[field] = value;
+        let [a, b, c, d, e] = wanted.record();
+        for row in [
+            [-1, b, c, d, e],
+            [a, 256, c, d, e],
+            [a, b, 1 << 32, d, e],
+            [a, b, c, -1, e],
+            [a, b, c, d, 7],
+        ] {
             assert_eq!(read_kept(row), Err(Refusal::UNREADABLE), "{row:?}");
         }
         for (code, missing) in (0..).zip(Missing::ALL) {

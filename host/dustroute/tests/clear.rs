@@ -153,7 +153,11 @@ impl Asked {
         let mut kept_slice: Vec<i64> = dirty.collect();
         let mut dropped_slice: Vec<u64> = dirt(dropped + MARGIN, self.calls + 5).collect();
         let (mut kept_wanted, mut dropped_wanted) = (kept_slice.clone(), dropped_slice.clone());
-        let answer = call(scene, &mut kept_slice[..kept], &mut dropped_slice[..dropped]);
+        let answer = call(
+            scene,
+            &mut kept_slice[..kept],
+            &mut dropped_slice[..dropped],
+        );
         self.calls += 1;
         let Scene {
             components,
@@ -222,7 +226,13 @@ impl Asked {
     }
 
     /// The same of the typed function.
-    fn hold_typed(&mut self, scene: &Scene, rows: &[i64], items: &[u64], case: &dyn Fn() -> String) {
+    fn hold_typed(
+        &mut self,
+        scene: &Scene,
+        rows: &[i64],
+        items: &[u64],
+        case: &dyn Fn() -> String,
+    ) {
         let kept = Scene {
             ports: rows.to_vec(),
             ..Scene::default()
@@ -243,14 +253,23 @@ impl Asked {
         assert_eq!(found, Ok(wanted), "{}: {scene}", case());
     }
 
-    fn print(&self, name: &str) {
-        println!("{name}: {self:?}");
-    }
-
     fn assert_met(&self, name: &str) {
-        self.print(name);
-        assert!(self.whole > 0 && self.cleared > 0);
-        assert!(self.dropped.iter().all(|count| *count > 0));
+        let Self {
+            calls,
+            whole,
+            cleared,
+            kept,
+            dropped,
+            refused,
+            analyses,
+        } = self;
+        println!(
+            "{name}: {calls} calls; {whole} whole, {cleared} cleared, in them {kept} kept and \
+             {dropped:?} dropped by source, sink, both; {refused:?} refused with 1 to 5; \
+             {analyses} calls of the liveness entry"
+        );
+        assert!(*whole > 0 && *cleared > 0);
+        assert!(dropped.iter().all(|count| *count > 0));
     }
 }
 
@@ -306,7 +325,8 @@ fn all_small_lists_good_and_bad() {
         asked.hold_all(&scene, &|| format!("lists {place}"));
     }
     asked.assert_met("small lists, good and bad");
-    assert!(asked.refused.iter().enumerate().all(|(k, it)| k == 1 || *it > 0));
+    // They are whole records, few of them.
+    assert!(asked.refused[2..].iter().all(|count| *count > 0));
 }
 
 /// A scene in which about one end in `once` was dug away, some of them support.
@@ -386,7 +406,8 @@ fn damaged_and_competing() {
         }
     }
     asked.assert_met("damaged");
-    assert!(asked.refused.iter().enumerate().all(|(k, it)| k == 1 || *it > 50));
+    let [length, _, rest @ ..] = asked.refused;
+    assert!(length > 50 && rest.iter().all(|count| *count > 50));
 }
 
 #[test]
