@@ -60,9 +60,6 @@ module _ (ps : List ℤ) (items : List ℕ) (k : ℕ) (h : k < port_count ps) (l
   abbrev rows : List ℤ
   rows = flat_map (port_row ps) items
 
-  more_long : length (rows ++ port_row ps k) ≡ length rows + 5
-  more_long = length-append rows (port_row ps k) ∙ ap (λ (n : ℕ). length rows + n) (row_long ps k h)
-
   row_before : (i : ℕ) → i < length items → SameRow (rows ++ port_row ps k) i ps (get_or items i 0)
   row_before i b f g = get_or-append rows (port_row ps k) (pos 0) (i * 5 + f) (omega (arith, l.long)) ∙ l.each i b f g
 
