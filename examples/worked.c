@@ -242,6 +242,41 @@ static void the_way(void)
     hold(DUSTROUTE_NUMBER(answer) == 8, "8: a lever has no verdict");
 }
 
+/* Three wires in a row, saved with a connection from block 9, which was dug
+   away: refused with 7, cleared, and three regions without a loop then. Each
+   list has a number more than is asked for, then one too few. */
+static void cleared_up(void)
+{
+    enum { KEPT = 3 * 5, DROPPED = 3 * 2 };
+    const int64_t row[] = {
+        0, 0, 0, 0, 0, 0, 0, 0,
+        1, 1, 0, 0, 0, 0, 0, 0,
+        2, 2, 0, 0, 0, 0, 0, 0,
+    };
+    const int64_t saved[] = {0, 0, 1, 0, 0, 1, 0, 2, 0, 0, 9, 0, 0, 0, 0};
+    int64_t kept[KEPT + 1];
+    uint64_t dropped[DROPPED + 1];
+    memset(kept, FILLING, sizeof kept);
+    memset(dropped, FILLING, sizeof dropped);
+    const int64_t dirty = kept[KEPT];
+    const size_t length = put_all(components, row, 24);
+    uint64_t answer = analyzed(length, put_all(ports, saved, 15), 0, sizeof stack);
+    hold(is_refusal(answer, 7, 1, 2), "7: block 9 is gone");
+    answer = dustroute_clear(row, 24, saved, 15, row, 0, kept, KEPT - 1, dropped, DROPPED + 1);
+    hold(answer == (2 | 3 << 8), "2: no room for the kept");
+    answer = dustroute_clear(row, 24, saved, 15, row, 0, kept, KEPT + 1, dropped, DROPPED - 1);
+    hold(answer == (2 | 3 << 8), "2: no room for the dropped");
+    hold(kept[0] == dirty && dropped[0] == (uint64_t)dirty, "nothing written");
+    answer = dustroute_clear(row, 24, saved, 15, row, 0, kept, KEPT + 1, dropped, DROPPED + 1);
+    hold(DUSTROUTE_ACCEPTED(answer), "cleared");
+    hold(DUSTROUTE_COUNT(answer, 0) == 2 && DUSTROUTE_COUNT(answer, 1) == 1, "two kept, one dropped");
+    hold(memcmp(kept, saved, 10 * sizeof *kept) == 0 && kept[10] == dirty, "the kept as they were");
+    hold(dropped[0] == 2 && dropped[1] == 0 && dropped[2] == (uint64_t)dirty, "item 2, its source");
+    answer = analyzed(length, put_all(ports, kept, 10), 0, sizeof stack);
+    hold(DUSTROUTE_ACCEPTED(answer) && DUSTROUTE_COUNT(answer, 0) == 3, "three regions");
+    hold(get(sets, 32) == 0, "no loop");
+}
+
 /* A ring of wires through as many components as there may be, four connections
    from each to the next, and frontiers that are all the origin. */
 static void full_lists(void)
@@ -355,6 +390,7 @@ int main(int count, char **arguments)
         refusals();
         one_input();
         the_way();
+        cleared_up();
         full_plot();
     }
     if (faults == 0)

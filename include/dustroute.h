@@ -62,11 +62,13 @@
  *     5   an id already used by an earlier component; the later of the pair
  *     6   grouping connections not strictly ascending; the later of the pair
  *     7   an endpoint of a non-support port connection is no component
+ *         (dustroute_clear drops such connections)
  *     8   the port asked for has no verdict row; list 3, item 0
  *     10  the row's status is not 0; list 3, item 0
  *
- * 6 is of dustroute_groups alone, 7 of the others; 8 is of dustroute_driven,
- * dustroute_trail and dustroute_check_trail, 10 of dustroute_trail alone.
+ * 6 is of dustroute_groups alone, 7 of the others but dustroute_clear; 8 is of
+ * dustroute_driven, dustroute_trail and dustroute_check_trail, 10 of
+ * dustroute_trail alone.
  *
  *
  * WHAT IS WRITTEN
@@ -122,6 +124,10 @@
 /* Numbers that the slices of dustroute_driven must have. */
 #define DUSTROUTE_MET_NUMBERS 16
 #define DUSTROUTE_DRIVEN_STACK_NUMBERS(components) ((components) * (size_t)2)
+
+/* Numbers that the lists of dustroute_clear must have for so many ports. */
+#define DUSTROUTE_KEPT_NUMBERS(ports) ((ports) * (size_t)5)
+#define DUSTROUTE_DROPPED_NUMBERS(ports) ((ports) * (size_t)2)
 
 /* The parts of an answer. */
 #define DUSTROUTE_ACCEPTED(answer) (((answer) & 0xffff) == 0)
@@ -238,6 +244,27 @@ uint64_t dustroute_check_trail(
     const int64_t *frontiers, size_t frontiers_len,
     uint64_t id, uint64_t port,
     const uint64_t *trail, size_t trail_len);
+
+/*
+ * Drops the port connections for which 7 is given, those of transfer 0 to 5
+ * with an end that is no component, and keeps the others in order. Components
+ * and frontiers are as they were. What is kept is accepted with them, and
+ * cleared again it stays as it is. Lists with another fault are refused as by
+ * dustroute_liveness, number 2 for the two lists here.
+ *
+ * kept      ports, five numbers each, to be handed on as they stand
+ * dropped   rows of two numbers by rising item: the item in the list given,
+ *           from 0; 0 its source is missing, 1 its sink, 2 both. Where
+ *           dustroute_liveness gives 7, its item is the first of these.
+ *
+ * Counts: ports kept, ports dropped.
+ */
+uint64_t dustroute_clear(
+    const int64_t *components, size_t components_len,
+    const int64_t *ports, size_t ports_len,
+    const int64_t *frontiers, size_t frontiers_len,
+    int64_t *kept, size_t kept_len,
+    uint64_t *dropped, size_t dropped_len);
 
 #ifdef __cplusplus
 }

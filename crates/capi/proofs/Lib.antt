@@ -3,4 +3,5 @@ mod LivenessLaws
 mod Demands
 mod OneInput
 mod WaySmall
+mod Cleared
 pub mod Laws

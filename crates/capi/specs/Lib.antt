@@ -3,3 +3,4 @@ pub mod Liveness
 pub mod Written
 pub mod OneInput
 pub mod TheWay
+pub mod Clear

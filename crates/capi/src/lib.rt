@@ -3,6 +3,7 @@
 #![tactic(auto)]
 
 mod alive;
+mod clear;
 mod one_input;
 mod the_way;
 

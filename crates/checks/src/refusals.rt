@@ -153,7 +153,7 @@ fn refuse_ranges(
 }
 
 // 1 to 5, given what the second list's check of ranges found. Where they accept, `keys` begins with the table of ids.
-fn refuse_scene(
+pub fn refuse_scene(
     components: &[i64],
     width: usize,
     connections: usize,

@@ -9,6 +9,8 @@
 //!   rest of the plot.
 //! - [`trail`] shows the way from a drive source to a driven input, and
 //!   [`check_trail`] tells of any list of components whether it is such a way.
+//! - [`clear`] drops the port connections to blocks that are gone, for which the
+//!   others refuse a plot.
 //! - [`what_if`] and [`what_if_joined`] find what one connection more would
 //!   change of either answer.
 //!
@@ -46,7 +48,8 @@
 //! What all need of their lists: components ascend strictly by position and
 //! then id, no id occurs twice, coordinates are from -30,000,000 to 30,000,000,
 //! and no list is over its [limit](limits). What is not so is refused, never
-//! put right: a plot that was saved otherwise is a damaged plot.
+//! put right: a plot that was saved otherwise is a damaged plot. [`clear`] alone
+//! mends one fault, and tells what it dropped.
 
 #![deny(missing_docs)]
 #![deny(
@@ -58,6 +61,7 @@
 )]
 
 pub mod bytes;
+mod clear;
 mod codes;
 mod driven;
 mod groups;
@@ -69,6 +73,7 @@ mod scene;
 mod trail;
 mod what_if;
 
+pub use clear::{Cleared, Dropped, Missing, clear};
 pub use codes::{BlockKind, ConnectionKind, Facing, TransferKind};
 pub use driven::{DrivenInput, driven};
 pub use groups::{ComponentGroups, Groups, groups};

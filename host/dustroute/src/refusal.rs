@@ -75,6 +75,7 @@ pub enum Reason {
     /// 6: grouping connections not strictly ascending.
     ConnectionOrder,
     /// 7: an endpoint of a non-support port connection is no component.
+    /// [`clear`](crate::clear) gives back the list without such connections.
     MissingEndpoint,
     /// 8: the port asked for has no verdict: there is no such component, or the
     /// port is no required input of it. Only of [`driven`](crate::driven),
@@ -131,7 +132,10 @@ impl fmt::Display for Reason {
             Self::ComponentOrder => "components not strictly ascending",
             Self::RepeatedId => "an id already used by an earlier component",
             Self::ConnectionOrder => "grouping connections not strictly ascending",
-            Self::MissingEndpoint => "an endpoint of a non-support port connection is no component",
+            Self::MissingEndpoint => {
+                "an endpoint of a non-support port connection is no component \
+                 (`clear` drops such connections)"
+            }
             Self::NoVerdict => "the port asked for is no required input",
             Self::NotDriven => "the input asked for is not driven",
             Self::Unreadable => "the answer of an archive of another version",

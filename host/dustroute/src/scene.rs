@@ -158,6 +158,21 @@ impl PortConnection {
         let [sink, sink_port] = end(self.sink);
         [source, source_port, sink, sink_port, self.transfer as i64]
     }
+
+    /// None where a number is none that the types can hold.
+    pub(crate) fn of_record(record: [i64; 5]) -> Option<Self> {
+        let [source, source_port, sink, sink_port, transfer] = record;
+        let end = |id, port| {
+            let id = u32::try_from(id).ok().map(ComponentId)?;
+            Some(PortRef::new(id, u8::try_from(port).ok()?))
+        };
+        let transfer = usize::try_from(transfer).ok()?;
+        Some(Self {
+            source: end(source, source_port)?,
+            sink: end(sink, sink_port)?,
+            transfer: *TransferKind::ALL.get(transfer)?,
+        })
+    }
 }
 
 /// No answer depends on every number of a record, so these are held here.

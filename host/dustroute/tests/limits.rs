@@ -7,7 +7,7 @@ use std::thread::{self, Builder};
 
 use dustroute::{
     BlockKind, Component, ComponentId, Connection, ConnectionKind, List, Place, PortConnection,
-    PortRef, Position, Reason, Refusal, TransferKind, driven, groups, limits, liveness,
+    PortRef, Position, Reason, Refusal, TransferKind, clear, driven, groups, limits, liveness,
 };
 use scenes::Profile;
 use typed::Lists;
@@ -75,6 +75,7 @@ fn as_many_connections_as_the_limit_and_more() {
         assert_eq!(groups(&components, &connections).err(), refused);
         let ports: Vec<PortConnection> = pairs.clone().map(fed).take(count).collect();
         assert_eq!(liveness(&components, &ports, &[]).err(), refused);
+        assert_eq!(clear(&components, &ports, &[]).err(), refused);
     }
 }
 
@@ -134,6 +135,8 @@ fn mark(plot: &Lists) -> Result<[usize; 2], Refusal> {
     for row in found.inputs.iter().take(20) {
         driven(&plot.components, &plot.ports, &plot.frontiers, row.input)?;
     }
+    let cleared = clear(&plot.components, &plot.ports, &plot.frontiers)?;
+    assert_eq!(cleared.kept, plot.ports);
     Ok([groups.net_count, found.regions.len()])
 }
 

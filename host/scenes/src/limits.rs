@@ -15,6 +15,7 @@ pub const FRONTIER: usize = 3;
 pub const SOURCE_ROW: usize = 2;
 pub const INPUT_ROW: usize = 3;
 pub const STACK_PAIR: usize = 2;
+pub const DROPPED_ROW: usize = 2;
 
 /// Places for each component.
 pub const SOURCES_EACH: usize = 2;

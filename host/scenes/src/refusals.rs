@@ -7,9 +7,9 @@
 use std::collections::BTreeSet;
 
 use crate::limits::{
-    COMPONENT, COMPONENT_RANGES, COMPONENTS, CONNECTION, CONNECTION_RANGES, CONNECTIONS, FRONTIER,
-    FRONTIER_RANGES, FRONTIERS, INPUT_ROW, INPUTS_EACH, PORT_CONNECTION, PORT_CONNECTION_RANGES,
-    Range, SOURCE_ROW, SOURCES_EACH, STACK_PAIR, SUPPORT,
+    COMPONENT, COMPONENT_RANGES, COMPONENTS, CONNECTION, CONNECTION_RANGES, CONNECTIONS,
+    DROPPED_ROW, FRONTIER, FRONTIER_RANGES, FRONTIERS, INPUT_ROW, INPUTS_EACH, PORT_CONNECTION,
+    PORT_CONNECTION_RANGES, Range, SOURCE_ROW, SOURCES_EACH, STACK_PAIR, SUPPORT,
 };
 
 /// A refusal: its number, the list it concerns and the item in that list.
@@ -225,6 +225,20 @@ pub fn query(
 ) -> Option<Refusal> {
     let n = components.len() / COMPONENT;
     analysed(components, ports, frontiers, &[(stack_len, STACK_PAIR, n)])
+}
+
+/// The clearing tool: 1 to 5, since it mends 7.
+#[must_use]
+pub fn clearing(
+    components: &[i64],
+    ports: &[i64],
+    frontiers: &[i64],
+    kept_len: usize,
+    dropped_len: usize,
+) -> Option<Refusal> {
+    let m = ports.len() / PORT_CONNECTION;
+    let slices = [(kept_len, PORT_CONNECTION, m), (dropped_len, DROPPED_ROW, m)];
+    analysed(components, ports, frontiers, &slices).filter(|it| it.number != 7)
 }
 
 /// The list checks of a sheet: 3 to 6, on whole lists within their limits.
