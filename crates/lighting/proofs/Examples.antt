@@ -1,5 +1,5 @@
--- A plot, as antt computes it: lever 3 feeds the loop of wires 2 and 4, which feeds lamp 0; wire 1, which nothing drives, feeds the lamp too. The
--- regions are 0: the lever; 1: the loop; 2: wire 1; 3: the lamp.
+-- A plot, as antt computes it: lever 3 feeds the loop of wires 2 and 4, which feeds lamp 0; wire 1, which nothing drives, feeds the lamp
+-- too. The regions are 0: the lever; 1: the loop; 2: wire 1; 3: the lamp.
 -- Assumes nothing.
 use Prim.Native.Nat.{ℕ}
 use mathlib.Core.Path.{◌≡◌, refl}

@@ -17,7 +17,8 @@ use Rattle.signals.specs.Regions.{labels, region_count, holds_drive}
 -- a signal connection leads from a component of region q, of any kind, to one of region r
 unfoldable pub feeds : List ℤ → List ℤ → ℕ → ℕ → Bool
 feeds cs ps q r =
-    some (λ k. is_signal ps k && (eqb (at (labels cs ps) (source_member cs ps k)) q && eqb (at (labels cs ps) (sink_member cs ps k)) r)) (port_count ps)
+    some (λ k. is_signal ps k && (eqb (at (labels cs ps) (source_member cs ps k)) q && eqb (at (labels cs ps) (sink_member cs ps k)) r))
+    (port_count ps)
 
 -- whether region r is marked, given the marks of the regions before it: it holds a drive source, or one of those that are marked feeds it
 abbrev pub lights : List ℤ → List ℤ → List ℤ → ℕ → List Bool → Bool

@@ -1,4 +1,5 @@
--- `lighting::pass::hand_on` meets its contract. The loop's invariant: to carry the keys that are left gives what all keys give from the start.
+-- `lighting::pass::hand_on` meets its contract. The loop's invariant: to carry the keys that are left gives what all keys give from the
+-- start.
 -- Assumes nothing.
 use mathlib.Core.Path.{◌≡◌}
 use lib.ListN.{drop}

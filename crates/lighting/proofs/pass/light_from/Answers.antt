@@ -1,4 +1,5 @@
--- `lighting::pass::light_from` meets its contract: the pairs of regions are listed by rising first number, and the marks handed on along them.
+-- `lighting::pass::light_from` meets its contract: the pairs of regions are listed by rising first number, and the marks handed on along
+-- them.
 -- Assumes nothing.
 use native.Mathlib.Omega.{arith}
 use Rattle.liveness.proofs.Inferring.{regions_of_lem, crossings_of}
