@@ -1,8 +1,9 @@
 // The entries for a host that calls through the C convention. Here each list is lent as bytes, eight to a number, lowest first; in
-// `one_input` as numbers. The answer is one number.
+// `one_input` and `light` as numbers. The answer is one number.
 #![tactic(auto)]
 
 mod alive;
+mod light;
 mod one_input;
 
 ghost use Rattle.std.specs.Prelude.{Some, ◌≡◌, ◌*◌, ◌<◌, length};
