@@ -13,8 +13,9 @@
  * first, whatever the byte order of the host. Numbers of lists are signed, in
  * two's complement. A slice passes as a pointer and then a length in bytes.
  *
- * dustroute_driven alone takes numbers as the host has them, int64_t for lists:
- * there a slice passes as a pointer and then a count of numbers.
+ * dustroute_driven and dustroute_light take numbers as the host has them,
+ * int64_t for lists: there a slice passes as a pointer and then a count of
+ * numbers.
  *
  *     list          numbers of a record, in this order
  *     components    id 0..4294967295; x, y, z each -30000000..30000000;
@@ -63,7 +64,7 @@
  *     7   an endpoint of a non-support port connection is no component
  *     8   the port asked for has no verdict row; list 3, item 0
  *
- * 6 is of dustroute_groups alone, 7 of the two others, 8 of dustroute_driven
+ * 6 is of dustroute_groups alone, 7 of all others, 8 of dustroute_driven
  * alone.
  *
  *
@@ -120,6 +121,11 @@
 /* Numbers that the slices of dustroute_driven must have. */
 #define DUSTROUTE_MET_NUMBERS 16
 #define DUSTROUTE_DRIVEN_STACK_NUMBERS(components) ((components) * (size_t)2)
+
+/* Numbers that the slices of dustroute_light must have. */
+#define DUSTROUTE_LIGHT_REGIONS_NUMBERS(components) ((components) * (size_t)1)
+#define DUSTROUTE_LIGHT_SET_NUMBERS 16 /* lit, and driven */
+#define DUSTROUTE_LIGHT_STACK_NUMBERS(components) ((components) * (size_t)2)
 
 /* The parts of an answer. */
 #define DUSTROUTE_ACCEPTED(answer) (((answer) & 0xffff) == 0)
@@ -200,6 +206,31 @@ uint64_t dustroute_driven(
     const int64_t *frontiers, size_t frontiers_len,
     uint64_t id, uint64_t port,
     uint64_t *met, size_t met_len,
+    size_t *stack, size_t stack_len);
+
+/*
+ * One pass over the regions, by rising number: a region is lit exactly if it
+ * holds a drive source or a region that is lit already feeds it. The components
+ * of lit regions are driven, all of them, and no others.
+ *
+ * regions   the region of each component, in list order, numbered as by
+ *           dustroute_liveness: a region is fed by none of a greater number, so
+ *           that a lesson that lights them by number never lights a lamp before
+ *           a lever that feeds it
+ * lit       a set of sixteen words, as above: the regions that are lit
+ * driven    a set of sixteen words: the components that are driven, the same as
+ *           by dustroute_liveness
+ * stack     for work
+ *
+ * Counts: regions.
+ */
+uint64_t dustroute_light(
+    const int64_t *components, size_t components_len,
+    const int64_t *ports, size_t ports_len,
+    const int64_t *frontiers, size_t frontiers_len,
+    uint64_t *regions, size_t regions_len,
+    uint64_t *lit, size_t lit_len,
+    uint64_t *driven, size_t driven_len,
     size_t *stack, size_t stack_len);
 
 #ifdef __cplusplus

@@ -7,6 +7,8 @@
 //!   signals, what they drive, and a verdict for each required input.
 //! - [`driven`] tells of one required input whether it is driven, without the
 //!   rest of the plot.
+//! - [`light`] lights a plot region by region, for a lesson that never lights a
+//!   lamp before a lever that feeds it.
 //! - [`what_if`] and [`what_if_joined`] find what one connection more would
 //!   change of either answer.
 //!
@@ -59,6 +61,7 @@ pub mod bytes;
 mod codes;
 mod driven;
 mod groups;
+mod light;
 pub mod limits;
 mod liveness;
 mod numbers;
@@ -69,6 +72,7 @@ mod what_if;
 pub use codes::{BlockKind, ConnectionKind, Facing, TransferKind};
 pub use driven::{DrivenInput, driven};
 pub use groups::{ComponentGroups, Groups, groups};
+pub use light::{ComponentLight, Lighting, Step, light};
 pub use liveness::{
     ComponentLiveness, Liveness, Region, RequiredInput, RequiredInputStatus, SignalSource,
     SignalSourceKind, liveness,

@@ -7,7 +7,7 @@ use std::thread::{self, Builder};
 
 use dustroute::{
     BlockKind, Component, ComponentId, Connection, ConnectionKind, List, Place, PortConnection,
-    PortRef, Position, Reason, Refusal, TransferKind, driven, groups, limits, liveness,
+    PortRef, Position, Reason, Refusal, TransferKind, driven, groups, light, limits, liveness,
 };
 use scenes::Profile;
 use typed::Lists;
@@ -131,6 +131,7 @@ fn full_plots() -> Option<Vec<Lists>> {
 fn mark(plot: &Lists) -> Result<[usize; 2], Refusal> {
     let groups = groups(&plot.components, &plot.connections)?;
     let found = liveness(&plot.components, &plot.ports, &plot.frontiers)?;
+    light(&plot.components, &plot.ports, &plot.frontiers)?;
     for row in found.inputs.iter().take(20) {
         driven(&plot.components, &plot.ports, &plot.frontiers, row.input)?;
     }

@@ -9,7 +9,7 @@ use std::collections::BTreeSet;
 use crate::limits::{
     COMPONENT, COMPONENT_RANGES, COMPONENTS, CONNECTION, CONNECTION_RANGES, CONNECTIONS, FRONTIER,
     FRONTIER_RANGES, FRONTIERS, INPUT_ROW, INPUTS_EACH, PORT_CONNECTION, PORT_CONNECTION_RANGES,
-    Range, SOURCE_ROW, SOURCES_EACH, STACK_PAIR, SUPPORT,
+    Range, SET_WORDS, SOURCE_ROW, SOURCES_EACH, STACK_PAIR, SUPPORT,
 };
 
 /// A refusal: its number, the list it concerns and the item in that list.
@@ -210,6 +210,27 @@ pub fn liveness(
         (regions_len, 1, n),
         (sources_len, SOURCE_ROW, n * SOURCES_EACH),
         (inputs_len, INPUT_ROW, n * INPUTS_EACH),
+        (stack_len, STACK_PAIR, n),
+    ];
+    analysed(components, ports, frontiers, &slices)
+}
+
+/// The one pass over the regions: 1 to 5 and 7. Its sets have sixteen words each.
+#[must_use]
+pub fn light(
+    components: &[i64],
+    ports: &[i64],
+    frontiers: &[i64],
+    regions_len: usize,
+    lit_len: usize,
+    driven_len: usize,
+    stack_len: usize,
+) -> Option<Refusal> {
+    let n = components.len() / COMPONENT;
+    let slices = [
+        (regions_len, 1, n),
+        (lit_len, SET_WORDS, 1),
+        (driven_len, SET_WORDS, 1),
         (stack_len, STACK_PAIR, n),
     ];
     analysed(components, ports, frontiers, &slices)
