@@ -13,7 +13,7 @@ use liveness::plot::PreparedPlot;
 use liveness::steps::flag_drive;
 use signals::crossings::find_crossings;
 
-// Hands the mark of each key's first number on to its second, one key after the other.
+// Hands the mark of each key's first number on to its second, one key after the other: `regions::carry::carry_both` with one list.
 #[tactic(auto, using(regions::proofs::Carried::carry_turn, regions::proofs::Carried::carry_all))]
 fn hand_on(keys: &[u64], marks: &mut [bool])
     requires { KeysBelow (length marks.old) keys.now }
