@@ -277,6 +277,44 @@ static void cleared_up(void)
     hold(get(sets, 32) == 0, "no loop");
 }
 
+/* A lamp behind two levers: both light before it. The slices lent have a number
+   more than is asked for, all dirty; then one set at a time has one too few. */
+static void two_levers(void)
+{
+    enum { COUNT = 3, SET = DUSTROUTE_LIGHT_SET_NUMBERS, WORK = 2 * COUNT };
+    const int64_t lamp_between[] = {
+        2, 0, 0, 0, 4, 0, 0, 0,
+        1, 1, 0, 0, 11, 0, 0, 0,
+        3, 2, 0, 0, 4, 0, 0, 0,
+    };
+    const int64_t fed[] = {2, 1, 1, 1, 1, 3, 1, 1, 1, 1};
+    uint64_t region[COUNT + 1], lit[SET + 1], driven[SET + 1];
+    size_t work[WORK + 1];
+    memset(region, FILLING, sizeof region);
+    memset(lit, FILLING, sizeof lit);
+    memset(driven, FILLING, sizeof driven);
+    memset(work, FILLING, sizeof work);
+    const uint64_t dirty = lit[SET];
+    uint64_t answer = dustroute_light(
+        lamp_between, 24, fed, 10, fed, 0, region, COUNT + 1, lit, SET - 1, driven, SET + 1, work, WORK + 1);
+    hold(DUSTROUTE_NUMBER(answer) == 2 && DUSTROUTE_LIST(answer) == 3, "2: no room for the lit regions");
+    answer = dustroute_light(
+        lamp_between, 24, fed, 10, fed, 0, region, COUNT + 1, lit, SET + 1, driven, SET - 1, work, WORK + 1);
+    hold(DUSTROUTE_NUMBER(answer) == 2 && DUSTROUTE_LIST(answer) == 3, "2: no room for what is driven");
+    answer = dustroute_light(
+        lamp_between, 24, fed, 10, fed, 0, region, COUNT - 1, lit, SET + 1, driven, SET + 1, work, WORK + 1);
+    hold(DUSTROUTE_NUMBER(answer) == 2 && DUSTROUTE_LIST(answer) == 3, "2: no room for the regions");
+    hold(region[0] == dirty && lit[0] == dirty && driven[0] == dirty && work[0] == (size_t)dirty, "nothing lit");
+    answer = dustroute_light(
+        lamp_between, 24, fed, 10, fed, 0, region, COUNT + 1, lit, SET + 1, driven, SET + 1, work, WORK + 1);
+    hold(DUSTROUTE_ACCEPTED(answer) && DUSTROUTE_COUNT(answer, 0) == COUNT, "three regions");
+    hold(region[0] + region[2] == 1 && region[1] == 2 && region[3] == dirty, "the lamp is the last to light");
+    hold(lit[0] == 7 && lit[SET - 1] == 0 && lit[SET] == dirty, "every region is lit");
+    hold(driven[0] == 7 && driven[SET - 1] == 0 && driven[SET] == dirty, "all are driven");
+    for (size_t k = 0; k <= WORK; k++)
+        hold(work[k] == 0, "work zero");
+}
+
 /* A ring of wires through as many components as there may be, four connections
    from each to the next, and frontiers that are all the origin. */
 static void full_lists(void)
@@ -391,6 +429,7 @@ int main(int count, char **arguments)
         one_input();
         the_way();
         cleared_up();
+        two_levers();
         full_plot();
     }
     if (faults == 0)

@@ -125,9 +125,17 @@
 #define DUSTROUTE_MET_NUMBERS 16
 #define DUSTROUTE_DRIVEN_STACK_NUMBERS(components) ((components) * (size_t)2)
 
+/* Numbers that the list of dustroute_trail must have. */
+#define DUSTROUTE_TRAIL_NUMBERS(components) ((components) * (size_t)1)
+
 /* Numbers that the lists of dustroute_clear must have for so many ports. */
 #define DUSTROUTE_KEPT_NUMBERS(ports) ((ports) * (size_t)5)
 #define DUSTROUTE_DROPPED_NUMBERS(ports) ((ports) * (size_t)2)
+
+/* Numbers that the slices of dustroute_light must have. */
+#define DUSTROUTE_LIGHT_REGIONS_NUMBERS(components) ((components) * (size_t)1)
+#define DUSTROUTE_LIGHT_SET_NUMBERS 16 /* lit, and driven */
+#define DUSTROUTE_LIGHT_STACK_NUMBERS(components) ((components) * (size_t)2)
 
 /* The parts of an answer. */
 #define DUSTROUTE_ACCEPTED(answer) (((answer) & 0xffff) == 0)
@@ -265,6 +273,31 @@ uint64_t dustroute_clear(
     const int64_t *frontiers, size_t frontiers_len,
     int64_t *kept, size_t kept_len,
     uint64_t *dropped, size_t dropped_len);
+
+/*
+ * One pass over the regions, by rising number: a region is lit exactly if it
+ * holds a drive source or a region that is lit already feeds it. The components
+ * of lit regions are driven, all of them, and no others.
+ *
+ * regions   the region of each component, in list order, numbered as by
+ *           dustroute_liveness: a region is fed by none of a greater number, so
+ *           that a lesson that lights them by number never lights a lamp before
+ *           a lever that feeds it
+ * lit       a set of sixteen words, as above: the regions that are lit
+ * driven    a set of sixteen words: the components that are driven, the same as
+ *           by dustroute_liveness
+ * stack     for work
+ *
+ * Counts: regions.
+ */
+uint64_t dustroute_light(
+    const int64_t *components, size_t components_len,
+    const int64_t *ports, size_t ports_len,
+    const int64_t *frontiers, size_t frontiers_len,
+    uint64_t *regions, size_t regions_len,
+    uint64_t *lit, size_t lit_len,
+    uint64_t *driven, size_t driven_len,
+    size_t *stack, size_t stack_len);
 
 #ifdef __cplusplus
 }

@@ -4,4 +4,5 @@ mod Demands
 mod OneInput
 mod WaySmall
 mod Cleared
+mod LightLaws
 pub mod Laws

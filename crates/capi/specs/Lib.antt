@@ -4,3 +4,4 @@ pub mod Written
 pub mod OneInput
 pub mod TheWay
 pub mod Clear
+pub mod Light

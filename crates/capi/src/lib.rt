@@ -4,6 +4,7 @@
 
 mod alive;
 mod clear;
+mod light;
 mod one_input;
 mod the_way;
 

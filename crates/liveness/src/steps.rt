@@ -145,7 +145,7 @@ fn mark(
 }
 
 // Writes the region of each component, in list order: the array lent has room for the most.
-fn put_regions(region_at: &[usize], regions: &mut [u64])
+pub fn put_regions(region_at: &[usize], regions: &mut [u64])
     requires { length region_at.now ≤ length regions.old }
     ensures { regions.new ≡ laid (tabulate (λ p. get_or region_at.now p 0) (length region_at.now)) regions.old }
 {

@@ -2,12 +2,14 @@
 --     Forests     the single places of a forest, computed in few steps
 --     Worked      W1 to W12, in a single list
 --     Founding    the straight row, and the same with a cleared block named at either end
+--     Lighting    the one pass over the regions
 --     Dropped     the worked sheet with a connection more that is dropped
 --     Printed     the worked sheet, from its bytes to those of its report
 --     Walks       small graphs
 mod Forests
 pub mod Worked
 pub mod Founding
+pub mod Lighting
 mod Dropped
 pub mod Printed
 mod Walks

@@ -1,4 +1,5 @@
 -- What the theorems say.
 pub mod Plots
 pub mod Founding
+pub mod Lighting
 pub mod Example

@@ -11,6 +11,8 @@
 //!   [`check_trail`] tells of any list of components whether it is such a way.
 //! - [`clear`] drops the port connections to blocks that are gone, for which the
 //!   others refuse a plot.
+//! - [`light`] lights a plot region by region, for a lesson that never lights a
+//!   lamp before a lever that feeds it.
 //! - [`what_if`] and [`what_if_joined`] find what one connection more would
 //!   change of either answer.
 //!
@@ -65,6 +67,7 @@ mod clear;
 mod codes;
 mod driven;
 mod groups;
+mod light;
 pub mod limits;
 mod liveness;
 mod numbers;
@@ -77,6 +80,7 @@ pub use clear::{Cleared, Dropped, Missing, clear};
 pub use codes::{BlockKind, ConnectionKind, Facing, TransferKind};
 pub use driven::{DrivenInput, driven};
 pub use groups::{ComponentGroups, Groups, groups};
+pub use light::{ComponentLight, Lighting, Step, light};
 pub use liveness::{
     ComponentLiveness, Liveness, Region, RequiredInput, RequiredInputStatus, SignalSource,
     SignalSourceKind, liveness,

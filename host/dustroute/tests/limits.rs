@@ -7,7 +7,8 @@ use std::thread::{self, Builder};
 
 use dustroute::{
     BlockKind, Component, ComponentId, Connection, ConnectionKind, List, Place, PortConnection,
-    PortRef, Position, Reason, Refusal, TransferKind, clear, driven, groups, limits, liveness,
+    PortRef, Position, Reason, Refusal, TransferKind, clear, driven, groups, light, limits,
+    liveness,
 };
 use scenes::Profile;
 use typed::Lists;
@@ -132,6 +133,7 @@ fn full_plots() -> Option<Vec<Lists>> {
 fn mark(plot: &Lists) -> Result<[usize; 2], Refusal> {
     let groups = groups(&plot.components, &plot.connections)?;
     let found = liveness(&plot.components, &plot.ports, &plot.frontiers)?;
+    light(&plot.components, &plot.ports, &plot.frontiers)?;
     for row in found.inputs.iter().take(20) {
         driven(&plot.components, &plot.ports, &plot.frontiers, row.input)?;
     }

@@ -17,6 +17,9 @@ pub const INPUT_ROW: usize = 3;
 pub const STACK_PAIR: usize = 2;
 pub const DROPPED_ROW: usize = 2;
 
+/// Words to a set.
+pub const SET_WORDS: usize = 16;
+
 /// Places for each component.
 pub const SOURCES_EACH: usize = 2;
 pub const INPUTS_EACH: usize = 4;

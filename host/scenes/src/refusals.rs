@@ -9,7 +9,7 @@ use std::collections::BTreeSet;
 use crate::limits::{
     COMPONENT, COMPONENT_RANGES, COMPONENTS, CONNECTION, CONNECTION_RANGES, CONNECTIONS,
     DROPPED_ROW, FRONTIER, FRONTIER_RANGES, FRONTIERS, INPUT_ROW, INPUTS_EACH, PORT_CONNECTION,
-    PORT_CONNECTION_RANGES, Range, SOURCE_ROW, SOURCES_EACH, STACK_PAIR, SUPPORT,
+    PORT_CONNECTION_RANGES, Range, SET_WORDS, SOURCE_ROW, SOURCES_EACH, STACK_PAIR, SUPPORT,
 };
 
 /// A refusal: its number, the list it concerns and the item in that list.
@@ -215,6 +215,27 @@ pub fn liveness(
     analysed(components, ports, frontiers, &slices)
 }
 
+/// The one pass over the regions: 1 to 5 and 7. Its sets have sixteen words each.
+#[must_use]
+pub fn light(
+    components: &[i64],
+    ports: &[i64],
+    frontiers: &[i64],
+    regions_len: usize,
+    lit_len: usize,
+    driven_len: usize,
+    stack_len: usize,
+) -> Option<Refusal> {
+    let n = components.len() / COMPONENT;
+    let slices = [
+        (regions_len, 1, n),
+        (lit_len, SET_WORDS, 1),
+        (driven_len, SET_WORDS, 1),
+        (stack_len, STACK_PAIR, n),
+    ];
+    analysed(components, ports, frontiers, &slices)
+}
+
 /// The input query without its own number 8: 1 to 5 and 7.
 #[must_use]
 pub fn query(
@@ -237,7 +258,10 @@ pub fn clearing(
     dropped_len: usize,
 ) -> Option<Refusal> {
     let m = ports.len() / PORT_CONNECTION;
-    let slices = [(kept_len, PORT_CONNECTION, m), (dropped_len, DROPPED_ROW, m)];
+    let slices = [
+        (kept_len, PORT_CONNECTION, m),
+        (dropped_len, DROPPED_ROW, m),
+    ];
     analysed(components, ports, frontiers, &slices).filter(|it| it.number != 7)
 }
 
