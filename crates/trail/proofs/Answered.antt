@@ -11,7 +11,8 @@ use Rattle.inputs.specs.Query.{row_place}
 use Rattle.trail.specs.Entries.{row_refusal, port_refusal, FindingBy, CheckingBy}
 
 module _ {cs ps fs : List ℤ} {port : ℕ} {trail : List ℕ} where
-  pub checking_found : (id : ℕ) {found : Option ℕ} {r : Result Bool Refusal} → row_place cs id port ≡ found → CheckingBy (row_refusal found) cs ps fs id port trail r
+  pub checking_found : (id : ℕ) {found : Option ℕ} {r : Result Bool Refusal} → row_place cs id port ≡ found
+      → CheckingBy (row_refusal found) cs ps fs id port trail r
       → CheckingBy (row_refusal (row_place cs id port)) cs ps fs id port trail r
   checking_found id {r = r} e a = subst (λ (f : Option ℕ). CheckingBy (row_refusal f) cs ps fs id port trail r) (sym e) a
 

@@ -28,7 +28,10 @@ module _ {n : ℕ} {edge : Edges} {feeds : ℕ → Bool} {levels queue : List �
           rising = λ i j le h.
               ⊎_elim
               (λ last. ⊎_elim (λ own. omega (arith, last.1, own.1)) (λ old. let f = top i old.0 in omega (arith, last.1, old.1, f)) (at_place i (omega arith)))
-              (λ before. ⊎_elim (λ own. absurd (omega (arith, own.0, before.0))) (λ old. let f = w.rising i j le before.0 in omega (arith, before.1, old.1, f)) (at_place i (omega (arith, before.0))))
+              (λ before. ⊎_elim
+              (λ own. absurd (omega (arith, own.0, before.0)))
+              (λ old. let f = w.rising i j le before.0 in omega (arith, before.1, old.1, f))
+              (at_place i (omega (arith, before.0))))
               (at_place j h);
           near = λ i j le hi hj.
               ⊎_elim
@@ -37,9 +40,15 @@ module _ {n : ℕ} {edge : Edges} {feeds : ℕ → Bool} {levels queue : List �
               (λ last. let f = w.rising head i le before.0 in omega (arith, before.1, last.1, f))
               (λ old. let f = w.near i j le before.0 old.0 in omega (arith, before.1, old.1, f)) (at_place j hj))
               (at_place i hi);
-          low = λ i h. ⊎_elim (λ own. let f = w.low head lt in omega (arith, own.0, own.1, f)) (λ old. let f = w.low i old.0 in omega (arith, old.1, f)) (at_place i h);
+          low = λ i h. ⊎_elim
+              (λ own. let f = w.low head lt in omega (arith, own.0, own.1, f))
+              (λ old. let f = w.low i old.0 in omega (arith, old.1, f))
+              (at_place i h);
           feeders = λ y h. let e = w.feeders y h in keeps q x v inside new (omega arith) y (omega arith) ∙ e;
-          only_feeders = λ y h. ⊎_elim (λ own. absurd (let p = first_level in omega (arith, own.1, p))) (λ old. w.only_feeders y (sym old.1 ∙ h)) (look levels x v y x_place);
+          only_feeders = λ y h. ⊎_elim
+              (λ own. absurd (let p = first_level in omega (arith, own.1, p)))
+              (λ old. w.only_feeders y (sym old.1 ∙ h))
+              (look levels x v y x_place);
           closed = λ i y h e. before i y h (subst (λ (z : ℕ). edge y z ≡ true) (queue_old q x v inside new (omega arith) i (omega arith)) e);
           down = λ y k h. ⊎_elim (λ own. from y k own.0 (sym own.1 ∙ h)) (λ old. kept (w.down y k (sym old.1 ∙ h))) (look levels x v y x_place);
         }
@@ -73,10 +82,14 @@ module _ {n : ℕ} {edge : Edges} {feeds : ℕ → Bool} {levels queue : List �
         kept d = (d.0, d.1, keeps q x v inside new (omega arith) d.0 (let e = d.2 in omega arith) ∙ d.2)
 
         from : (y k : ℕ) → y ≡ x → v ≡ suc (suc k) → (z : ℕ) × (edge y z ≡ true) × (at (set levels x v) z ≡ suc k)
-        from y k same e =
-            (at queue head, subst (λ (z : ℕ). edge z (at queue head) ≡ true) (sym same) along, keeps q x v inside new (omega arith) (at queue head) first_level ∙ omega (arith, e))
+        from y k same e = (
+          at queue head,
+          subst (λ (z : ℕ). edge z (at queue head) ≡ true) (sym same) along,
+          keeps q x v inside new (omega arith) (at queue head) first_level ∙ omega (arith, e),
+        )
 
-    pub wave_noted : {levels' queue' : List ℕ} {tail' : ℕ} → levels' ≡ set levels x v → queue' ≡ set queue tail x → tail' ≡ suc tail → Wave n edge feeds levels' queue' head tail'
+    pub wave_noted : {levels' queue' : List ℕ} {tail' : ℕ} → levels' ≡ set levels x v → queue' ≡ set queue tail x → tail' ≡ suc tail
+        → Wave n edge feeds levels' queue' head tail'
     wave_noted a b c = rw (a, b, c) wave_add
 
   -- ---- the place at the head is passed
@@ -92,7 +105,8 @@ module _ {n : ℕ} {edge : Edges} {feeds : ℕ → Bool} {levels queue : List �
         only_feeders = w.only_feeders;
         closed = λ i x h e.
             ⊎_elim
-            (λ same. subst (λ (i : ℕ). (0 < at levels x) × (at levels x ≤ suc (level_at levels queue i))) (sym same) (last x (subst (λ (i : ℕ). edge x (at queue i) ≡ true) same e)))
+            (λ same. subst (λ (i : ℕ). (0 < at levels x) × (at levels x ≤ suc (level_at levels queue i))) (sym same)
+            (last x (subst (λ (i : ℕ). edge x (at queue i) ≡ true) same e)))
             (λ ne. w.closed i x (omega arith) e)
             (same? i head);
         down = w.down;
@@ -145,8 +159,8 @@ seeded_wave {feeds} {levels} {queue} {tail} s edge =
     one i h = (s.only (at queue i) (s.holds.queued i h).1).2
 
 -- what is noted keeps the lengths
-pub noted_lengths : {node level : ℕ} {levels queue : List ℕ} {tail : ℕ} {levels' queue' : List ℕ} {tail' : ℕ} → Noted node level levels queue tail levels' queue' tail'
-    → (length levels' ≡ length levels) × (length queue' ≡ length queue)
+pub noted_lengths : {node level : ℕ} {levels queue : List ℕ} {tail : ℕ} {levels' queue' : List ℕ} {tail' : ℕ}
+    → Noted node level levels queue tail levels' queue' tail' → (length levels' ≡ length levels) × (length queue' ≡ length queue)
 noted_lengths noted =
     ⊎_elim
     (λ old. (ap length old.1, ap length old.2))

@@ -52,7 +52,8 @@ pub record Going (n : ℕ) (edge : Edges) (levels : List ℕ) (s i node : ℕ) (
   pub left : at levels node + i ≡ at levels s + 1
   pub steps : (j : ℕ) → suc j < i → StepDown edge levels (at way j) (at way (suc j))
 
-pub going_begin : {n : ℕ} {edge : Edges} {levels : List ℕ} {s : ℕ} (way : List ℕ) → s < n → 0 < at levels s → 0 < length way → Going n edge levels s 1 s (set way 0 s)
+pub going_begin : {n : ℕ} {edge : Edges} {levels : List ℕ} {s : ℕ} (way : List ℕ)
+    → s < n → 0 < at levels s → 0 < length way → Going n edge levels s 1 s (set way 0 s)
 going_begin {levels = levels} {s = s} way low reaches room = record {
   begun = omega arith;
   short = reaches;
@@ -106,8 +107,8 @@ descends {edge} {levels} way (suc c) k room steps end =
     let rest = descends way c (suc k) (omega arith) (λ j h. steps j (omega arith)) (subst (λ (j : ℕ). at levels (at way j) ≡ 1) (omega arith) end) in
     subst (λ (l : List ℕ). Descends edge levels (at way k) (take (suc c) l)) (sym cut) (steps k (omega arith), rest)
 
-pub going_end : {n : ℕ} {edge : Edges} {levels : List ℕ} {s i node : ℕ} {way : List ℕ} → Going n edge levels s i node way → at levels s ≤ i → at levels s ≤ length way
-    → WalkedDown edge levels s way
+pub going_end : {n : ℕ} {edge : Edges} {levels : List ℕ} {s i node : ℕ} {way : List ℕ} → Going n edge levels s i node way → at levels s ≤ i
+    → at levels s ≤ length way → WalkedDown edge levels s way
 going_end {n} {edge} {levels} {s} {i} {node} {way} g done room = record {
   rest = take (at levels s - 1) (drop 1 way);
   down = subst (λ (x : ℕ). Descends edge levels x (take (at levels s - 1) (drop 1 way))) g.first
