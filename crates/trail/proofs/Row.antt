@@ -15,13 +15,6 @@ use Rattle.trail.specs.Ways.{led_to, RowKeys}
 
 module _ {n : ℕ} {keys : List ℕ} {node first past : ℕ} (nodes : n ≤ span) (inside : node < n) (rise : Ascending keys)
     (low : LowerBound keys (node * span) first) (high : LowerBound keys (node * span + n) past) where
-  pub row_ordered : first ≤ past
-  row_ordered =
-      ⊎_elim
-      (λ l. l)
-      (λ l. absurd (let a = low.before rise past l in let b = high.from rise past (omega arith) (omega (arith, low.within, l)) in omega arith))
-      (order? first past)
-
   -- the key at a place of the row
   key_low : (i : ℕ) → i < past - first → (node * span ≤ get_or keys (first + i) 0) × (get_or keys (first + i) 0 < node * span + n)
   key_low i h = (low.from rise (first + i) (omega arith) (omega (arith, high.within)), high.before rise (first + i) (omega arith))

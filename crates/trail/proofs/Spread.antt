@@ -1,4 +1,4 @@
--- Levels that are given on along the queue: one node noted, one place of the queue passed, and the end.
+-- Levels that are given on along the queue: one node noted, one place of the queue passed, and the nodes that feed the port.
 -- Assumes nothing.
 use Prim.Native.Nat.{ℕ, suc, ◌+◌, ◌≤◌, ◌<◌}
 use mathlib.Core.Path.{◌≡◌, sym, ap, ◌∙◌, subst}
@@ -9,8 +9,6 @@ use native.Mathlib.Omega.{arith}
 use lib.ListN.{length, set, replicate, length-set, get_or-replicate}
 use Rattle.tables.specs.Laws.{same?, order?}
 use Rattle.regions.specs.Graph.{Edges, at, marked}
-use Rattle.inputs.proofs.Status.{marked_below}
-use Rattle.trail.specs.Levels.{Levels}
 use Rattle.trail.specs.Waves.{zeros, Queue, level_at, Noted, Wave, Seeded}
 use Rattle.trail.proofs.Queued.{held, look, zeros_none, keeps, queue_old, level_old, level_at_lem, queue_add}
 
@@ -119,44 +117,7 @@ module _ {n : ℕ} {edge : Edges} {feeds : ℕ → Bool} {levels queue : List �
           let f = w.near head a.0 (omega arith) lt a.1 in
           (p, subst (λ (y : ℕ). at levels y ≤ suc (level_at levels queue head)) a.2 f)
 
-  -- ---- the end of the queue
-  pub wave_levels : tail ≤ head → Levels n edge feeds levels
-  wave_levels end =
-      record {
-        long = w.holds.levels_long;
-        low = λ x. ⊎_elim
-            (λ zero. omega arith)
-            (λ some. let a = w.holds.all x some in
-            let f = subst (λ (y : ℕ). at levels y ≤ suc a.0) a.2 (w.low a.0 a.1) in
-            let c = w.holds.count in let p = a.1 in omega (arith, f, c, p))
-            (order? (at levels x) 0);
-        feeders = w.feeders;
-        only_feeders = w.only_feeders;
-        closed = λ x y e p. let a = w.holds.all y p in
-            subst (λ (z : ℕ). (0 < at levels x) × (at levels x ≤ suc (at levels z))) a.2
-            (w.closed a.0 x (omega (arith, a.1)) (subst (λ (z : ℕ). edge x z ≡ true) (sym a.2) e));
-        down = w.down;
-      }
-
 -- ---- the nodes that feed the port
-
-pub seeded_wave : {feeds : List Bool} {levels queue : List ℕ} {tail : ℕ} → Seeded feeds (length feeds) levels queue tail → (edge : Edges)
-    → Wave (length feeds) edge (marked feeds) levels queue 0 tail
-seeded_wave {feeds} {levels} {queue} {tail} s edge =
-    record {
-      holds = s.holds;
-      passed = omega arith;
-      rising = λ i j le h. let a = one i (omega arith) in let b = one j h in omega (arith, a, b);
-      near = λ i j le hi hj. let a = one i hi in let b = one j hj in omega (arith, a, b);
-      low = λ i h. let a = one i h in omega (arith, a);
-      feeders = λ x h. s.ones x (marked_below feeds x h) h;
-      only_feeders = λ x h. (s.only x (omega arith)).1;
-      closed = λ i x h e. absurd (omega arith);
-      down = λ x k h. absurd (let e = (s.only x (omega arith)).2 in omega arith);
-    }
-  where
-    one : (i : ℕ) → i < tail → level_at levels queue i ≡ 1
-    one i h = (s.only (at queue i) (s.holds.queued i h).1).2
 
 -- what is noted keeps the lengths
 pub noted_lengths : {node level : ℕ} {levels queue : List ℕ} {tail : ℕ} {levels' queue' : List ℕ} {tail' : ℕ}
