@@ -71,10 +71,10 @@ use Rattle.liveness.proofs.Answers.{set_where, set_same, set_below}
 -- ---- the keys of a slot
 
 -- the part of a list between two places
-cut_at : (keys : List ℕ) (a b i : ℕ) → b ≤ length keys → i < b - a → get_or (take (b - a) (drop a keys)) i 0 ≡ get_or keys (a + i) 0
+pub cut_at : (keys : List ℕ) (a b i : ℕ) → b ≤ length keys → i < b - a → get_or (take (b - a) (drop a keys)) i 0 ≡ get_or keys (a + i) 0
 cut_at keys a b i h l = grind (arith, common_steps)
 
-cut_long : (keys : List ℕ) (a b : ℕ) → b ≤ length keys → length (take (b - a) (drop a keys)) ≡ b - a
+pub cut_long : (keys : List ℕ) (a b : ℕ) → b ≤ length keys → length (take (b - a) (drop a keys)) ≡ b - a
 cut_long keys a b h = grind (arith, common_steps)
 
 -- where the keys of a slot begin and those past them, all its keys stand between

@@ -1,20 +1,15 @@
--- The answers of the two entries by the place of the row that was found.
+-- The answer of the finder by the place of the row that was found.
 -- Assumes nothing.
 use Rattle.std.specs.Prelude.{Option, Result}
 use Prim.Native.Nat.{ℕ}
 use mathlib.Core.Path.{◌≡◌, sym, subst}
-use mathlib.Core.Bool.{Bool}
 use mathlib.Core.List.{List}
 use lib.IntN.{ℤ}
 use Rattle.lists.specs.declared.Refusal.{Refusal}
 use Rattle.inputs.specs.Query.{row_place}
-use Rattle.trail.specs.Entries.{row_refusal, port_refusal, FindingBy, CheckingBy}
+use Rattle.trail.specs.Entries.{port_refusal, FindingBy}
 
 module _ {cs ps fs : List ℤ} {port : ℕ} {trail : List ℕ} where
-  pub checking_found : (id : ℕ) {found : Option ℕ} {r : Result Bool Refusal} → row_place cs id port ≡ found → CheckingBy (row_refusal found) cs ps fs id port trail r
-      → CheckingBy (row_refusal (row_place cs id port)) cs ps fs id port trail r
-  checking_found id {r = r} e a = subst (λ (f : Option ℕ). CheckingBy (row_refusal f) cs ps fs id port trail r) (sym e) a
-
   pub finding_found : (id : ℕ) {found : Option ℕ} {trail' : List ℕ} {r : Result ℕ Refusal} → row_place cs id port ≡ found
       → FindingBy (port_refusal cs ps fs port found) cs ps fs id port trail trail' r
       → FindingBy (port_refusal cs ps fs port (row_place cs id port)) cs ps fs id port trail trail' r

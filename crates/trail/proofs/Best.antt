@@ -1,4 +1,5 @@
--- What goes down by levels from the right start is the best trail; there is one best trail; and where no drive source has a level there is no trail.
+-- What goes down by levels from the right start is the best trail; there is one best trail; and where no drive source has a level there is
+-- no trail.
 -- Assumes nothing.
 use Prim.Native.Nat.{ℕ, zero, suc, ◌≤◌, ◌<◌}
 use mathlib.Core.Path.{◌≡◌, refl, ap}

@@ -1,5 +1,5 @@
--- A small plot: two levers, 20 and 30, two wires, 5 and 7, and a repeater, 9. Each lever feeds both wires; both wires feed the repeater's input,
--- port 1, and wire 5 its side, port 3, too; wire 7 also feeds 5; lever 20 supports the repeater.
+-- A small plot: two levers, 20 and 30, two wires, 5 and 7, and a repeater, 9. Each lever feeds both wires; both wires feed the repeater's
+-- input, port 1, and wire 5 its side, port 3, too; wire 7 also feeds 5; lever 20 supports the repeater.
 -- Assumes nothing.
 use Prim.Native.Nat.{ℕ}
 use mathlib.Core.Path.{◌≡◌, refl}
@@ -31,7 +31,8 @@ wires =
     wire 30 7 0 0 ++ wire 30 5 0 0 ++ wire 20 5 0 0 ++ wire 20 7 0 0 ++ wire 7 9 1 0 ++ wire 5 9 1 0 ++ wire 5 9 3 0 ++ wire 7 5 0 0 ++ wire 20 9 1 6
 
 -- the best trail of port 1, another of two ids, and one of three
-accepted : (port_trail plot wires [] 9 1 (20 ∷ 5 ∷ []) ≡ true) × (port_trail plot wires [] 9 1 (20 ∷ 7 ∷ []) ≡ true) × (port_trail plot wires [] 9 1 (20 ∷ 7 ∷ 5 ∷ []) ≡ true)
+accepted : (port_trail plot wires [] 9 1 (20 ∷ 5 ∷ []) ≡ true) × (port_trail plot wires [] 9 1 (20 ∷ 7 ∷ []) ≡ true)
+    × (port_trail plot wires [] 9 1 (20 ∷ 7 ∷ 5 ∷ []) ≡ true)
 unfolding plot wires block wire trail onward is_drive_id feeds_next feeds_into place_below first_from source_kind is_on_frontier
 accepted = (refl, refl, refl)
 
@@ -44,7 +45,8 @@ sink_port : (port_trail plot wires [] 9 3 (20 ∷ 5 ∷ []) ≡ true) × (port_t
 unfolding plot wires block wire trail onward is_drive_id feeds_next feeds_into place_below first_from source_kind is_on_frontier
 sink_port = (refl, refl)
 
--- no trail: the empty list, one that begins at a wire, an id that is no component, a lever that only supports the device, a step that no connection makes
+-- no trail: the empty list, one that begins at a wire, an id that is no component, a lever that only supports the device, a step that no
+-- connection makes
 refused : (port_trail plot wires [] 9 1 [] ≡ false) × (port_trail plot wires [] 9 1 (5 ∷ []) ≡ false) × (port_trail plot wires [] 9 1 (8 ∷ 5 ∷ []) ≡ false)
     × (port_trail plot wires [] 9 1 (20 ∷ []) ≡ false) × (port_trail plot wires [] 9 1 (20 ∷ 5 ∷ 7 ∷ []) ≡ false)
 unfolding plot wires block wire trail onward is_drive_id feeds_next feeds_into place_below first_from source_kind is_on_frontier

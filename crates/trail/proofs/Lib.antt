@@ -11,7 +11,7 @@
 --     Status       a port has a trail exactly if its status is 0
 --     Written      write_ids, way_in, trail_port
 --     Checked      goes_on, is_trail
---     Answered     trail_plot, check_plot
+--     Answered     trail_plot
 --     Theorems     what specs/Theorems.antt states of the entries
 --     Examples     a small plot
 pub mod Best

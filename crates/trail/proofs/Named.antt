@@ -140,7 +140,8 @@ module _ (cs ps fs : List ℤ) (scene : Scene cs ps) where
         (and_true _ _ c.0 (and_true _ _ (eq-eqb (port_connection ps k).sink (component cs p).id (c.2 ∙ sym is)) b.1))
         (eq-eqb (source_member cs ps k) (smaller_ids cs x) (ap (smaller_ids cs) c.1)))
 
-    pub finding : Finds (marked (drive_sources cs fs)) (signals cs ps) (marked (immediate_sources cs ps p port)) (is_drive_id cs fs) (feeds_next ps) (feeds_into ps id port) (smaller_ids cs)
+    pub finding : Finds (marked (drive_sources cs fs)) (signals cs ps) (marked (immediate_sources cs ps p port))
+        (is_drive_id cs fs) (feeds_next ps) (feeds_into ps id port) (smaller_ids cs)
     finding = record { drive_from = drive_from; edge_from = edge_from; feeds_from = feeds_from }
 
 -- a name for each member: its component's id

@@ -1,5 +1,5 @@
--- Trails under other names: where two sets of tests say the same under a renaming that keeps the order, the best trail of the one is that of the
--- other, renamed.
+-- Trails under other names: where two sets of tests say the same under a renaming that keeps the order, the best trail of the one is that
+-- of the other, renamed.
 -- Assumes nothing.
 use Prim.Native.Nat.{ℕ, ◌<◌}
 use mathlib.Core.Path.{◌≡◌, sym, ap, ◌∙◌}

@@ -6,29 +6,15 @@ use mathlib.Core.List.{List}
 use mathlib.Core.Logic.{⊎_elim}
 use native.Mathlib.Omega.{arith}
 use lib.ListN.{length, get_or, take, drop}
-use Rattle.std.proofs.lemmas.Grind.{common_steps}
 use Rattle.tables.specs.Order.{Ascending, LowerBound}
 use Rattle.tables.specs.Laws.{order?, at_member, member_at}
 use Rattle.tables.specs.Pairs.{span, pair}
 use Rattle.regions.proofs.Laws.Keys.{edges_within, edges_pair}
+use Rattle.inputs.proofs.Inputs.{cut_at, cut_long}
 use Rattle.trail.specs.Ways.{led_to, RowKeys}
-
--- the part of a list between two places
-cut_at : (keys : List ℕ) (a b i : ℕ) → b ≤ length keys → i < b - a → get_or (take (b - a) (drop a keys)) i 0 ≡ get_or keys (a + i) 0
-cut_at keys a b i h l = grind (arith, common_steps)
-
-cut_long : (keys : List ℕ) (a b : ℕ) → b ≤ length keys → length (take (b - a) (drop a keys)) ≡ b - a
-cut_long keys a b h = grind (arith, common_steps)
 
 module _ {n : ℕ} {keys : List ℕ} {node first past : ℕ} (nodes : n ≤ span) (inside : node < n) (rise : Ascending keys)
     (low : LowerBound keys (node * span) first) (high : LowerBound keys (node * span + n) past) where
-  pub row_ordered : first ≤ past
-  row_ordered =
-      ⊎_elim
-      (λ l. l)
-      (λ l. absurd (let a = low.before rise past l in let b = high.from rise past (omega arith) (omega (arith, low.within, l)) in omega arith))
-      (order? first past)
-
   -- the key at a place of the row
   key_low : (i : ℕ) → i < past - first → (node * span ≤ get_or keys (first + i) 0) × (get_or keys (first + i) 0 < node * span + n)
   key_low i h = (low.from rise (first + i) (omega arith) (omega (arith, high.within)), high.before rise (first + i) (omega arith))
@@ -54,7 +40,8 @@ module _ {n : ℕ} {keys : List ℕ} {node first past : ℕ} (nodes : n ≤ span
           let ends = edges_within n keys node y e in
           let (k, held, is) = member_at (pair node y) keys (sym (edges_pair n keys node y ends.0 ends.1) ∙ e) in
           let after : first ≤ k = ⊎_elim (λ l. l) (λ l. absurd (let b = low.before rise k l in omega (arith, b, is))) (order? first k) in
-          let before : k < past = ⊎_elim (λ l. absurd (let b = high.from rise k l held in let f = ends.1 in omega (arith, b, is, f))) (λ l. l) (order? past k) in
+          let before : k < past =
+          ⊎_elim (λ l. absurd (let b = high.from rise k l held in let f = ends.1 in omega (arith, b, is, f))) (λ l. l) (order? past k) in
           let h : k - first < length cut = omega (arith, long) in
           let same : first + (k - first) ≡ k = omega arith in
           let at = led (k - first) h ∙ ap (λ (j : ℕ). get_or keys j 0) same in
@@ -62,4 +49,6 @@ module _ {n : ℕ} {keys : List ℕ} {node first past : ℕ} (nodes : n ≤ span
     }
 
   pub row_cut : RowKeys n keys node (take (past - first) (drop first keys))
-  row_cut = row_of _ (λ i h. cut_at keys first past i high.within (omega (arith, h, cut_long keys first past high.within))) (cut_long keys first past high.within)
+  row_cut =
+      let long = cut_long keys first past high.within in
+      row_of _ (λ i h. cut_at keys first past i high.within (omega (arith, h, long))) long

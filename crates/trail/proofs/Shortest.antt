@@ -17,7 +17,8 @@ use Rattle.trail.proofs.Best.{best_once}
 
 module _ (drive : ℕ → Bool) (edge : Edges) (feeds : ℕ → Bool) where
   -- from each place of a way on it is a way
-  onward_on : (x : ℕ) (l : List ℕ) (k : ℕ) → k < length (x ∷ l) → onward edge feeds x l ≡ true → onward edge feeds (get_or (x ∷ l) k 0) (drop (suc k) (x ∷ l)) ≡ true
+  onward_on : (x : ℕ) (l : List ℕ) (k : ℕ) → k < length (x ∷ l) → onward edge feeds x l ≡ true
+      → onward edge feeds (get_or (x ∷ l) k 0) (drop (suc k) (x ∷ l)) ≡ true
   unfolding onward
   onward_on x l zero h e = e
   onward_on x [] (suc k) h e = absurd (omega arith)
@@ -32,20 +33,23 @@ module _ (drive : ℕ → Bool) (edge : Edges) (feeds : ℕ → Bool) where
   onward_cut x (y ∷ l) (suc i) m h e f = let w = both (edge x y) _ e in and_true _ _ w.0 (onward_cut y l i m (omega arith) w.1 f)
 
   -- a drive source further on would begin a shorter trail
-  later_drive : (l : List ℕ) (k : ℕ) → k < length l → trail drive edge feeds l ≡ true → drive (get_or l k 0) ≡ true → (m : List ℕ) × (trail drive edge feeds m ≡ true) × (length m ≡ length l - k)
+  later_drive : (l : List ℕ) (k : ℕ) → k < length l → trail drive edge feeds l ≡ true → drive (get_or l k 0) ≡ true
+      → (m : List ℕ) × (trail drive edge feeds m ≡ true) × (length m ≡ length l - k)
   unfolding trail
   later_drive [] k h e d = absurd (omega arith)
   later_drive (x ∷ l) k h e d =
       (get_or (x ∷ l) k 0 ∷ drop (suc k) (x ∷ l), and_true _ _ d (onward_on x l k h (both (drive x) _ e).1), let s = length-drop k l in omega (arith, s))
 
   -- a node that stands twice would let a part of the trail be left out
-  twice : (l : List ℕ) (i j : ℕ) → i < j → j < length l → trail drive edge feeds l ≡ true → get_or l i 0 ≡ get_or l j 0 → (m : List ℕ) × (trail drive edge feeds m ≡ true) × (length m < length l)
+  twice : (l : List ℕ) (i j : ℕ) → i < j → j < length l → trail drive edge feeds l ≡ true → get_or l i 0 ≡ get_or l j 0
+      → (m : List ℕ) × (trail drive edge feeds m ≡ true) × (length m < length l)
   unfolding trail
   twice [] i j a b e same = absurd (omega arith)
   twice (x ∷ l) i j a b e same =
       let w = both (drive x) _ e in
       let rest = onward_on x l j b w.1 in
-      let way = onward_cut x l i (drop (suc j) (x ∷ l)) (omega arith) w.1 (subst (λ (y : ℕ). onward edge feeds y (drop (suc j) (x ∷ l)) ≡ true) (sym same) rest) in (
+      let way = onward_cut x l i (drop (suc j) (x ∷ l)) (omega arith) w.1
+      (subst (λ (y : ℕ). onward edge feeds y (drop (suc j) (x ∷ l)) ≡ true) (sym same) rest) in (
         x ∷ (take i l ++ drop j l),
         and_true _ _ w.0 way,
         let s = length-append (take i l) (drop j l) in

@@ -1,4 +1,4 @@
--- Levels that are given on along the queue: one node noted, one place of the queue passed, and the end.
+-- Levels that are given on along the queue: one node noted, one place of the queue passed, and the nodes that feed the port.
 -- Assumes nothing.
 use Prim.Native.Nat.{ℕ, suc, ◌+◌, ◌≤◌, ◌<◌}
 use mathlib.Core.Path.{◌≡◌, sym, ap, ◌∙◌, subst}
@@ -9,8 +9,6 @@ use native.Mathlib.Omega.{arith}
 use lib.ListN.{length, set, replicate, length-set, get_or-replicate}
 use Rattle.tables.specs.Laws.{same?, order?}
 use Rattle.regions.specs.Graph.{Edges, at, marked}
-use Rattle.inputs.proofs.Status.{marked_below}
-use Rattle.trail.specs.Levels.{Levels}
 use Rattle.trail.specs.Waves.{zeros, Queue, level_at, Noted, Wave, Seeded}
 use Rattle.trail.proofs.Queued.{held, look, zeros_none, keeps, queue_old, level_old, level_at_lem, queue_add}
 
@@ -28,7 +26,10 @@ module _ {n : ℕ} {edge : Edges} {feeds : ℕ → Bool} {levels queue : List �
           rising = λ i j le h.
               ⊎_elim
               (λ last. ⊎_elim (λ own. omega (arith, last.1, own.1)) (λ old. let f = top i old.0 in omega (arith, last.1, old.1, f)) (at_place i (omega arith)))
-              (λ before. ⊎_elim (λ own. absurd (omega (arith, own.0, before.0))) (λ old. let f = w.rising i j le before.0 in omega (arith, before.1, old.1, f)) (at_place i (omega (arith, before.0))))
+              (λ before. ⊎_elim
+              (λ own. absurd (omega (arith, own.0, before.0)))
+              (λ old. let f = w.rising i j le before.0 in omega (arith, before.1, old.1, f))
+              (at_place i (omega (arith, before.0))))
               (at_place j h);
           near = λ i j le hi hj.
               ⊎_elim
@@ -37,9 +38,15 @@ module _ {n : ℕ} {edge : Edges} {feeds : ℕ → Bool} {levels queue : List �
               (λ last. let f = w.rising head i le before.0 in omega (arith, before.1, last.1, f))
               (λ old. let f = w.near i j le before.0 old.0 in omega (arith, before.1, old.1, f)) (at_place j hj))
               (at_place i hi);
-          low = λ i h. ⊎_elim (λ own. let f = w.low head lt in omega (arith, own.0, own.1, f)) (λ old. let f = w.low i old.0 in omega (arith, old.1, f)) (at_place i h);
+          low = λ i h. ⊎_elim
+              (λ own. let f = w.low head lt in omega (arith, own.0, own.1, f))
+              (λ old. let f = w.low i old.0 in omega (arith, old.1, f))
+              (at_place i h);
           feeders = λ y h. let e = w.feeders y h in keeps q x v inside new (omega arith) y (omega arith) ∙ e;
-          only_feeders = λ y h. ⊎_elim (λ own. absurd (let p = first_level in omega (arith, own.1, p))) (λ old. w.only_feeders y (sym old.1 ∙ h)) (look levels x v y x_place);
+          only_feeders = λ y h. ⊎_elim
+              (λ own. absurd (let p = first_level in omega (arith, own.1, p)))
+              (λ old. w.only_feeders y (sym old.1 ∙ h))
+              (look levels x v y x_place);
           closed = λ i y h e. before i y h (subst (λ (z : ℕ). edge y z ≡ true) (queue_old q x v inside new (omega arith) i (omega arith)) e);
           down = λ y k h. ⊎_elim (λ own. from y k own.0 (sym own.1 ∙ h)) (λ old. kept (w.down y k (sym old.1 ∙ h))) (look levels x v y x_place);
         }
@@ -73,10 +80,14 @@ module _ {n : ℕ} {edge : Edges} {feeds : ℕ → Bool} {levels queue : List �
         kept d = (d.0, d.1, keeps q x v inside new (omega arith) d.0 (let e = d.2 in omega arith) ∙ d.2)
 
         from : (y k : ℕ) → y ≡ x → v ≡ suc (suc k) → (z : ℕ) × (edge y z ≡ true) × (at (set levels x v) z ≡ suc k)
-        from y k same e =
-            (at queue head, subst (λ (z : ℕ). edge z (at queue head) ≡ true) (sym same) along, keeps q x v inside new (omega arith) (at queue head) first_level ∙ omega (arith, e))
+        from y k same e = (
+          at queue head,
+          subst (λ (z : ℕ). edge z (at queue head) ≡ true) (sym same) along,
+          keeps q x v inside new (omega arith) (at queue head) first_level ∙ omega (arith, e),
+        )
 
-    pub wave_noted : {levels' queue' : List ℕ} {tail' : ℕ} → levels' ≡ set levels x v → queue' ≡ set queue tail x → tail' ≡ suc tail → Wave n edge feeds levels' queue' head tail'
+    pub wave_noted : {levels' queue' : List ℕ} {tail' : ℕ} → levels' ≡ set levels x v → queue' ≡ set queue tail x → tail' ≡ suc tail
+        → Wave n edge feeds levels' queue' head tail'
     wave_noted a b c = rw (a, b, c) wave_add
 
   -- ---- the place at the head is passed
@@ -92,7 +103,8 @@ module _ {n : ℕ} {edge : Edges} {feeds : ℕ → Bool} {levels queue : List �
         only_feeders = w.only_feeders;
         closed = λ i x h e.
             ⊎_elim
-            (λ same. subst (λ (i : ℕ). (0 < at levels x) × (at levels x ≤ suc (level_at levels queue i))) (sym same) (last x (subst (λ (i : ℕ). edge x (at queue i) ≡ true) same e)))
+            (λ same. subst (λ (i : ℕ). (0 < at levels x) × (at levels x ≤ suc (level_at levels queue i))) (sym same)
+            (last x (subst (λ (i : ℕ). edge x (at queue i) ≡ true) same e)))
             (λ ne. w.closed i x (omega arith) e)
             (same? i head);
         down = w.down;
@@ -105,48 +117,11 @@ module _ {n : ℕ} {edge : Edges} {feeds : ℕ → Bool} {levels queue : List �
           let f = w.near head a.0 (omega arith) lt a.1 in
           (p, subst (λ (y : ℕ). at levels y ≤ suc (level_at levels queue head)) a.2 f)
 
-  -- ---- the end of the queue
-  pub wave_levels : tail ≤ head → Levels n edge feeds levels
-  wave_levels end =
-      record {
-        long = w.holds.levels_long;
-        low = λ x. ⊎_elim
-            (λ zero. omega arith)
-            (λ some. let a = w.holds.all x some in
-            let f = subst (λ (y : ℕ). at levels y ≤ suc a.0) a.2 (w.low a.0 a.1) in
-            let c = w.holds.count in let p = a.1 in omega (arith, f, c, p))
-            (order? (at levels x) 0);
-        feeders = w.feeders;
-        only_feeders = w.only_feeders;
-        closed = λ x y e p. let a = w.holds.all y p in
-            subst (λ (z : ℕ). (0 < at levels x) × (at levels x ≤ suc (at levels z))) a.2
-            (w.closed a.0 x (omega (arith, a.1)) (subst (λ (z : ℕ). edge x z ≡ true) (sym a.2) e));
-        down = w.down;
-      }
-
 -- ---- the nodes that feed the port
 
-pub seeded_wave : {feeds : List Bool} {levels queue : List ℕ} {tail : ℕ} → Seeded feeds (length feeds) levels queue tail → (edge : Edges)
-    → Wave (length feeds) edge (marked feeds) levels queue 0 tail
-seeded_wave {feeds} {levels} {queue} {tail} s edge =
-    record {
-      holds = s.holds;
-      passed = omega arith;
-      rising = λ i j le h. let a = one i (omega arith) in let b = one j h in omega (arith, a, b);
-      near = λ i j le hi hj. let a = one i hi in let b = one j hj in omega (arith, a, b);
-      low = λ i h. let a = one i h in omega (arith, a);
-      feeders = λ x h. s.ones x (marked_below feeds x h) h;
-      only_feeders = λ x h. (s.only x (omega arith)).1;
-      closed = λ i x h e. absurd (omega arith);
-      down = λ x k h. absurd (let e = (s.only x (omega arith)).2 in omega arith);
-    }
-  where
-    one : (i : ℕ) → i < tail → level_at levels queue i ≡ 1
-    one i h = (s.only (at queue i) (s.holds.queued i h).1).2
-
 -- what is noted keeps the lengths
-pub noted_lengths : {node level : ℕ} {levels queue : List ℕ} {tail : ℕ} {levels' queue' : List ℕ} {tail' : ℕ} → Noted node level levels queue tail levels' queue' tail'
-    → (length levels' ≡ length levels) × (length queue' ≡ length queue)
+pub noted_lengths : {node level : ℕ} {levels queue : List ℕ} {tail : ℕ} {levels' queue' : List ℕ} {tail' : ℕ}
+    → Noted node level levels queue tail levels' queue' tail' → (length levels' ≡ length levels) × (length queue' ≡ length queue)
 noted_lengths noted =
     ⊎_elim
     (λ old. (ap length old.1, ap length old.2))

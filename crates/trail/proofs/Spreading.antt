@@ -25,16 +25,6 @@ pub record Spreading (n : ℕ) (keys cut levels₀ queue₀ : List ℕ) (head ta
   pub level_is : suc (level_at levels queue head) ≡ level
   pub given : (i : ℕ) → i < place → 0 < at levels (led_to cut i)
 
-pub spreading_begin : (n : ℕ) (keys cut levels queue : List ℕ) (head tail : ℕ) → head < tail
-    → Spreading n keys cut levels queue head tail (at queue head) (level_at levels queue head + 1) 0 levels queue tail
-spreading_begin n keys cut levels queue head tail lt = record {
-  waves = λ feeds w. w;
-  ahead = lt;
-  node_is = refl;
-  level_is = omega arith;
-  given = λ i h. absurd (omega arith);
-}
-
 module _ {n : ℕ} {keys cut levels₀ queue₀ : List ℕ} {head tail node level place : ℕ} {levels queue : List ℕ} {count : ℕ}
     (r : RowKeys n keys node cut) (feeds₀ : ℕ → Bool) (w₀ : Wave n (flip (edges n keys)) feeds₀ levels₀ queue₀ head tail)
     (s : Spreading n keys cut levels₀ queue₀ head tail node level place levels queue count) where

@@ -33,7 +33,7 @@ use Rattle.inputs.proofs.Inputs.{row_found}
 use Rattle.inputs.proofs.Reported.{row_there, row_status}
 use Rattle.trail.specs.Trail.{trail}
 use Rattle.trail.specs.Port.{is_drive_id, feeds_next, feeds_into, port_trail}
-use Rattle.trail.specs.Entries.{row_refusal, status_refusal, port_refusal, finder_refusal, check_refusal, BestLaid, Finding, Checking}
+use Rattle.trail.specs.Entries.{row_refusal, status_refusal, port_refusal, finder_lists, finder_refusal, check_refusal, BestLaid, Finding, Checking}
 use Rattle.trail.specs.Theorems.{TrailExists, FindingLaws, CheckingLaws}
 use Rattle.trail.proofs.Shortest.{trail_laws}
 use Rattle.trail.proofs.Renamed.{trail_found, trail_to}
@@ -91,8 +91,8 @@ trail_exists cs ps fs id port p lists row = exists cs ps fs (scene_of_lem (liven
 -- ---- the check
 
 -- by what its checks say
-checking_is : {cs ps fs : List ℤ} {id port : ℕ} {l : List ℕ} → check_refusal cs ps fs id port ≡ Ok tt → (r : Result Bool Refusal) → Checking cs ps fs id port l r
-    → r ≡ Ok (port_trail cs ps fs id port l)
+checking_is : {cs ps fs : List ℤ} {id port : ℕ} {l : List ℕ} → check_refusal cs ps fs id port ≡ Ok tt → (r : Result Bool Refusal)
+    → Checking cs ps fs id port l r → r ≡ Ok (port_trail cs ps fs id port l)
 checking_is accepts (Ok b) c = ap Ok c.by.accepts
 checking_is accepts (Err refusal) c = absurd (let e = c.by.answer ∙ accepts in refused_not e)
 
@@ -164,7 +164,7 @@ module _ {cs ps fs : List ℤ} {id port : ℕ} {trail₀ trail' : List ℕ} {cou
 
 -- where the lists are accepted and the port has a row, the finder answers exactly if the analysis has that row with status 0
 pub found_exactly : {cs ps fs : List ℤ} {id port : ℕ} {trail₀ trail' : List ℕ} {r : Result ℕ Refusal} → Finding cs ps fs id port trail₀ trail' r
-    → liveness_lists cs ps fs (room_for (component_count cs) 1 (length trail₀)) ≡ Ok tt → (p : ℕ) → row_place cs id port ≡ Some p
+    → finder_lists cs ps fs (length trail₀) ≡ Ok tt → (p : ℕ) → row_place cs id port ≡ Some p
     → (checked r ≡ Ok tt) ↔ HasRow id port 0 (input_rows cs ps fs)
 found_exactly {cs} {ps} {fs} {id} {port} {trail₀} {trail'} {r} f lists p row = (go r f, λ has. f.by.answer ∙ accepted has)
   where

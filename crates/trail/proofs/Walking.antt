@@ -1,44 +1,21 @@
--- The walk from the start down: the least node one level lower, and the way as a list.
+-- The walk from the start down: the keys passed over, and the way as a list.
 -- Assumes nothing.
 use Prim.Native.Nat.{ℕ, zero, suc, ◌+◌, ◌-◌, ◌≤◌, ◌<◌}
-use mathlib.Core.Path.{◌≡◌, refl, sym, ap, ◌∙◌, subst}
+use mathlib.Core.Path.{◌≡◌, sym, ap, ◌∙◌, subst}
 use mathlib.Core.Bool.{Bool, true}
 use mathlib.Core.List.{List, [], ◌∷◌}
 use mathlib.Core.Logic.{⊎_elim}
 use native.Mathlib.Omega.{arith}
 use lib.ListN.{length, take, drop, set}
 use lib.Seq.{drop-cons, get_or-set_same, get_or-set_other}
-use Rattle.tables.specs.Laws.{same?, order?}
+use Rattle.tables.specs.Laws.{same?}
 use Rattle.regions.specs.Graph.{Edges, at}
-use Rattle.regions.specs.Keys.{edges}
 use Rattle.trail.specs.Levels.{Levels, StepDown, Descends}
-use Rattle.trail.specs.Ways.{led_to, RowKeys, WalkedDown}
-
--- ---- the least node one level lower
+use Rattle.trail.specs.Ways.{led_to, WalkedDown}
 
 -- no key before a place leads to the level
 abbrev pub NonePassed : List ℕ → List ℕ → ℕ → ℕ → Type 0
 NonePassed cut levels level place = (i : ℕ) → i < place → at levels (led_to cut i) ≡ level → ⊥
-
-module _ {n : ℕ} {keys cut : List ℕ} (levels : List ℕ) {node level : ℕ} (r : RowKeys n keys node cut) (is : at levels node ≡ suc level) where
-  pub first_lower : (place : ℕ) → NonePassed cut levels level place → place < length cut → at levels (led_to cut place) ≡ level
-      → StepDown (edges n keys) levels node (led_to cut place)
-  first_lower place before lt here = record {
-    along = r.held place lt;
-    lower = is ∙ ap suc (sym here);
-    least = λ z e same.
-        let (i, inside, eq) = r.all z e in
-        let lower : at levels (led_to cut i) ≡ level = ap (at levels) eq ∙ (let s = same in omega (arith, is)) in
-        let later : place ≤ i = ⊎_elim (λ q. q) (λ q. absurd (before i q lower)) (order? place i) in
-        let up = r.rising place i later inside in
-        omega (arith, up, eq);
-  }
-
-  -- some edge leads there
-  pub some_lower : (y : ℕ) → edges n keys node y ≡ true → at levels node ≡ suc (at levels y) → NonePassed cut levels level (length cut) → ⊥
-  some_lower y e same none =
-      let (i, inside, eq) = r.all y e in
-      none i inside (ap (at levels) eq ∙ (let s = same in omega (arith, is)))
 
 -- ---- the way as a list
 
@@ -51,17 +28,6 @@ pub record Going (n : ℕ) (edge : Edges) (levels : List ℕ) (s i node : ℕ) (
   pub last : at way (i - 1) ≡ node
   pub left : at levels node + i ≡ at levels s + 1
   pub steps : (j : ℕ) → suc j < i → StepDown edge levels (at way j) (at way (suc j))
-
-pub going_begin : {n : ℕ} {edge : Edges} {levels : List ℕ} {s : ℕ} (way : List ℕ) → s < n → 0 < at levels s → 0 < length way → Going n edge levels s 1 s (set way 0 s)
-going_begin {levels = levels} {s = s} way low reaches room = record {
-  begun = omega arith;
-  short = reaches;
-  inside = low;
-  first = get_or-set_same way 0 s 0 room;
-  last = get_or-set_same way 0 s 0 room;
-  left = refl;
-  steps = λ j h. absurd (omega arith);
-}
 
 module _ {n : ℕ} {edge : Edges} {levels : List ℕ} {s i node : ℕ} {way : List ℕ} (g : Going n edge levels s i node way) where
   -- there is a node one level lower
@@ -106,8 +72,8 @@ descends {edge} {levels} way (suc c) k room steps end =
     let rest = descends way c (suc k) (omega arith) (λ j h. steps j (omega arith)) (subst (λ (j : ℕ). at levels (at way j) ≡ 1) (omega arith) end) in
     subst (λ (l : List ℕ). Descends edge levels (at way k) (take (suc c) l)) (sym cut) (steps k (omega arith), rest)
 
-pub going_end : {n : ℕ} {edge : Edges} {levels : List ℕ} {s i node : ℕ} {way : List ℕ} → Going n edge levels s i node way → at levels s ≤ i → at levels s ≤ length way
-    → WalkedDown edge levels s way
+pub going_end : {n : ℕ} {edge : Edges} {levels : List ℕ} {s i node : ℕ} {way : List ℕ} → Going n edge levels s i node way → at levels s ≤ i
+    → at levels s ≤ length way → WalkedDown edge levels s way
 going_end {n} {edge} {levels} {s} {i} {node} {way} g done room = record {
   rest = take (at levels s - 1) (drop 1 way);
   down = subst (λ (x : ℕ). Descends edge levels x (take (at levels s - 1) (drop 1 way))) g.first

@@ -103,7 +103,8 @@ status_none cs ps fs p port no_zero = ap (λ (b : Bool). refuse Fault.NotDriven 
 pub status_some : (cs ps fs : List ℤ) (p port : ℕ) → status_of cs ps fs p port ≡ 0 → status_refusal cs ps fs port (Some p) ≡ Ok tt
 status_some cs ps fs p port zero_status = ap (λ (b : Bool). refuse Fault.NotDriven None (too_short b)) (eq-eqb (status_of cs ps fs p port) 0 zero_status)
 
-module _ {cs ps : List ℤ} (fs : List ℤ) {keys : List ℕ} (scene : Scene cs ps) (t : IdTable cs keys) (p port : ℕ) {id : ℕ} (is : (component cs p).id ≡ id) (way : List ℕ) where
+module _ {cs ps : List ℤ} (fs : List ℤ) {keys : List ℕ} (scene : Scene cs ps) (t : IdTable cs keys)
+    (p port : ℕ) {id : ℕ} (is : (component cs p).id ≡ id) (way : List ℕ) where
   pub finding_none : FoundWay cs ps fs p port way None → {trail : List ℕ} {r : Result ℕ Refusal} → r ≡ Err not_driven
       → FindingBy (status_refusal cs ps fs port (Some p)) cs ps fs id port trail trail r
   finding_none none {trail} {r} e =

@@ -1,5 +1,5 @@
 -- The finder and the check (document 02, R-1): what they answer, and what the finder leaves in the list that it is lent.
---     finder_refusal, check_refusal      1 to 5 and 7, then 8; the finder's 2 is of the lent list, and 10 comes after 8, from the finder alone
+--     finder_refusal, check_refusal      1 to 5 and 7, then 8; 2 is of the lent list, and 10 comes after 8, from the finder alone
 --     Finding, Checking                  the entries
 -- Assumes nothing: these are definitions.
 use Rattle.std.specs.Prelude.{⊤, Option, Some, None, Result, IfOk, OnErr}
@@ -34,9 +34,12 @@ status_refusal cs ps fs port place = refuse Fault.NotDriven None (too_short (sta
 abbrev pub port_refusal : List ℤ → List ℤ → List ℤ → ℕ → Option ℕ → Result ⊤ Refusal
 port_refusal cs ps fs port place = row_refusal place or_else status_refusal cs ps fs port place
 
--- a place of the lent list is one number
+-- those of the lists: a place of the lent list is one number
+abbrev pub finder_lists : List ℤ → List ℤ → List ℤ → ℕ → Result ⊤ Refusal
+finder_lists cs ps fs places = liveness_lists cs ps fs (room_for (component_count cs) 1 places)
+
 abbrev pub finder_refusal : List ℤ → List ℤ → List ℤ → ℕ → ℕ → ℕ → Result ⊤ Refusal
-finder_refusal cs ps fs id port places = liveness_lists cs ps fs (room_for (component_count cs) 1 places) or_else port_refusal cs ps fs port (row_place cs id port)
+finder_refusal cs ps fs id port places = finder_lists cs ps fs places or_else port_refusal cs ps fs port (row_place cs id port)
 
 abbrev pub check_refusal : List ℤ → List ℤ → List ℤ → ℕ → ℕ → Result ⊤ Refusal
 check_refusal cs ps fs id port = liveness_lists cs ps fs true or_else row_refusal (row_place cs id port)

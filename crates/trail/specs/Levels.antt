@@ -1,5 +1,5 @@
--- How the finder goes about it: the level of a node is how many nodes the shortest way from it to the port has, itself counted; 0 where there is
--- none. From the drive source of the least level the trail goes down level by level, each time to the smallest node.
+-- How the finder goes about it: the level of a node is how many nodes the shortest way from it to the port has, itself counted; 0 where
+-- there is none. From the drive source of the least level the trail goes down level by level, each time to the smallest node.
 -- Assumes nothing: these are definitions.
 use Rattle.std.specs.Prelude.{ℕ, suc, ◌≤◌, ◌<◌, ◌≡◌, Bool, true, List, [], ◌∷◌, length}
 use Rattle.regions.specs.Graph.{Edges, at}

@@ -1,5 +1,5 @@
--- What the contracts cite, to be read in this order: the trail to be found, the entries, and what is proved of them. The rest is what the inner
--- functions say.
+-- What the contracts cite, to be read in this order: the trail to be found, the entries, and what is proved of them. The rest is what the
+-- inner functions say.
 pub mod Trail
 pub mod Port
 pub mod Entries

@@ -1,5 +1,5 @@
--- The trails of a port of an accepted scene, by ids (document 02, R-1). "Fed by" is a port connection of transfer 0 to 5; "feeds the port" looks at
--- the port where it sinks.
+-- The trails of a port of an accepted scene, by ids (document 02, R-1). "Fed by" is a port connection of transfer 0 to 5; "feeds the port"
+-- looks at the port where it sinks.
 --     is_drive_id, feeds_next, feeds_into      the three tests of a trail
 --     port_trail, BestOf                       a trail of a port, and the one to be found
 -- Assumes nothing: these are definitions.

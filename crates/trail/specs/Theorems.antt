@@ -1,5 +1,5 @@
--- What is proved of trails and of the two entries (document 02, R-1). The theorems are `trail_laws` of proofs/Shortest.antt, and `trail_exists`,
--- `finding_laws`, `found_exactly` and `checking_laws` of proofs/Theorems.antt.
+-- What is proved of trails and of the two entries (document 02, R-1). The theorems are `trail_laws` of proofs/Shortest.antt, and
+-- `trail_exists`, `finding_laws`, `found_exactly` and `checking_laws` of proofs/Theorems.antt.
 -- Assumes nothing: these are statements.
 use Rattle.std.specs.Prelude.{Some, Result, Ok}
 use Rattle.std.specs.Prelude.{ℕ, ◌≤◌, ◌<◌, ◌≡◌, Bool, true, false, List, ◌↔◌, length, get_or, ℤ}

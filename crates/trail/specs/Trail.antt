@@ -1,4 +1,5 @@
--- The way from the lever (document 02, R-1), said of any numbers and any three tests of them; the finder and the check put in the tests of a port.
+-- The way from the lever (document 02, R-1), said of any numbers and any three tests of them; the finder and the check put in the tests of
+-- a port.
 --
 --     "For a verdict row with status 0, list the components           trail: both ends are in the list
 --     from one drive source to an immediate source of that port,

@@ -1,5 +1,5 @@
--- What the contracts of the search for levels say: nodes get their levels in the order of a queue, those of the first `head` places have given
--- theirs on.
+-- What the contracts of the search for levels say: nodes get their levels in the order of a queue, those of the first `head` places have
+-- given theirs on.
 -- Assumes nothing: these are definitions.
 use Rattle.std.specs.Prelude.{ℕ, suc, ◌+◌, ◌≤◌, ◌<◌, ◌≡◌, Bool, true, cond, List, [], ◌∷◌, ◌⊎◌, eqb, length, set}
 use Rattle.tables.specs.Order.{Ascending}

@@ -1,4 +1,4 @@
--- `trail::check_trail` meets its contract: the checks first, and where they accept the check of the trail, by the table of ids that they left.
+-- `trail::check_trail` meets its contract: the checks first, and where they accept the check of the trail, by the table that they left.
 -- Assumes nothing.
 use Rattle.std.specs.Prelude.{Ok}
 use mathlib.Core.Path.{◌≡◌, sym, ◌∙◌}

@@ -11,19 +11,20 @@ use Rattle.lists.specs.Records.{component_count}
 use Rattle.checks.specs.Refusals.{room_for, liveness_lists}
 use Rattle.checks.proofs.Accepted.{LivenessScene, liveness_accept}
 use Rattle.liveness.proofs.Answers.{scene_of_lem}
+use Rattle.trail.specs.Entries.{finder_lists}
 use Rattle.trail.proofs.find_trail.Goals as goal
 use Rattle.trail.proofs.find_trail.Goals.{After-liveness_lists}
 
 -- the answer of the checks, by the definition
 says : (c : After-liveness_lists)
-    → c.liveness_lists.result ≡ liveness_lists c.args.components.now c.args.ports.now c.args.frontiers.now (room_for (component_count c.args.components.now) 1 (length c.args.trail.now))
+    → c.liveness_lists.result ≡ finder_lists c.args.components.now c.args.ports.now c.args.frontiers.now (length c.args.trail.now)
 says c =
     c.liveness_lists.ensures.lists.answer
     ∙ ap (liveness_lists c.args.components.now c.args.ports.now c.args.frontiers.now) c.room_for-enough.ensures
 
 -- ---- where they accept
 module _ (c : After-liveness_lists) (was : c.liveness_lists.result ≡ Ok tt) where
-  accepted : liveness_lists c.args.components.now c.args.ports.now c.args.frontiers.now (room_for (component_count c.args.components.now) 1 (length c.args.trail.now)) ≡ Ok tt
+  accepted : finder_lists c.args.components.now c.args.ports.now c.args.frontiers.now (length c.args.trail.now) ≡ Ok tt
   accepted = sym (says c) ∙ was
 
   live : LivenessScene c.args.components.now c.args.ports.now c.args.frontiers.now

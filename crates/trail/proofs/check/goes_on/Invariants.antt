@@ -11,4 +11,5 @@ abbrev pub invariant-loop-i : goal.invariant-loop-i
 invariant-loop-i l =
     let edge = feeds_next l.ports.numbers.now in
     let feeds = feeds_into l.ports.numbers.now l.id l.port in
-    (0 < l.i) × (l.i ≤ length l.trail) × (onward edge feeds (get_or l.trail 0 0) (drop 1 l.trail) ≡ onward edge feeds (get_or l.trail (l.i - 1) 0) (drop l.i l.trail))
+    (0 < l.i) × (l.i ≤ length l.trail)
+    × (onward edge feeds (get_or l.trail 0 0) (drop 1 l.trail) ≡ onward edge feeds (get_or l.trail (l.i - 1) 0) (drop l.i l.trail))

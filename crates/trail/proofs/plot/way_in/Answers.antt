@@ -14,7 +14,8 @@ use Rattle.trail.proofs.plot.way_in.Goals as goal
 use Rattle.trail.proofs.plot.way_in.Goals.{After-build_tables}
 
 tables : (c : After-build_tables)
-    → let l = c.args.plot.now in Tables l.components.now l.ports.now (sources_of l.ends.now) (sinks_of l.ends.now) c.build_tables.new.forward c.build_tables.new.backward
+    → let l = c.args.plot.now in
+    Tables l.components.now l.ports.now (sources_of l.ends.now) (sinks_of l.ends.now) c.build_tables.new.forward c.build_tables.new.backward
 tables c = let l = c.args.plot.now in rw c.port_list.ensures at c.build_tables.ensures l.components.now l.accepted.ends
 
 pub find_way-requires : goal.find_way-requires
@@ -39,6 +40,8 @@ pub returns : goal.returns
 returns c p is =
     let l = c.args.plot.now in
     let t = tables (goal.at.returns c).After-build_tables in
-    way_found l.components.now l.ports.now l.frontiers.now p c.args.port c.build_tables.new.forward c.find_way.new.way c.find_way.result (c.drive_members.auto.goals ∙ c.requires.drives_room) c.drive_members.ensures
-    (edges_signals l.accepted.scene.components.few t.source_members t.sink_members (ends_within l.components.now l.ports.now l.accepted.scene.ends) t.forward_keys)
+    let ends = ends_within l.components.now l.ports.now l.accepted.scene.ends in
+    way_found l.components.now l.ports.now l.frontiers.now p c.args.port c.build_tables.new.forward c.find_way.new.way c.find_way.result
+    (c.drive_members.auto.goals ∙ c.requires.drives_room) c.drive_members.ensures
+    (edges_signals l.accepted.scene.components.few t.source_members t.sink_members ends t.forward_keys)
     (c.flag_immediate.ensures p is) c.find_way.ensures
