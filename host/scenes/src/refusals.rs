@@ -237,7 +237,10 @@ pub fn clearing(
     dropped_len: usize,
 ) -> Option<Refusal> {
     let m = ports.len() / PORT_CONNECTION;
-    let slices = [(kept_len, PORT_CONNECTION, m), (dropped_len, DROPPED_ROW, m)];
+    let slices = [
+        (kept_len, PORT_CONNECTION, m),
+        (dropped_len, DROPPED_ROW, m),
+    ];
     analysed(components, ports, frontiers, &slices).filter(|it| it.number != 7)
 }
 
