@@ -3,10 +3,14 @@
 --     Rows         equal rows are classes
 --     Numbering    the numbers of the classes are the quick walk's
 --     Theorems     what specs/Theorems.antt states
+--     Scenes       what specs/Scene.antt states; the edges of an accepted plot
+--     Relabelled   the numbers by list place are those by member
+--     Finishing    the order of the quick walk: finish_places
 --     Cells        places of the square
 --     Filling      admit, fill
 --     Comparing    same_rows
 --     Starting     put_diagonal, put_edges, start_square
+--     Classes      number_class, number_all
 pub mod Warshall
 pub mod Rows
 pub mod Numbering
@@ -14,4 +18,8 @@ pub mod Theorems
 pub mod Cells
 pub mod Filling
 pub mod Comparing
+pub mod Scenes
+pub mod Relabelled
+pub mod Finishing
 pub mod Starting
+pub mod Classes

@@ -13,7 +13,7 @@ use native.Mathlib.Numerals.{add-one}
 use native.Mathlib.Omega.{arith}
 use lib.Dec.{eqb, ltb}
 use lib.IntN.{ℤ}
-use lib.ListN.{length, get_or, set, take, replicate, length-take}
+use lib.ListN.{length, get_or, set, take, replicate, length-take, length-replicate}
 use lib.Seq.{get_or-take, take-suc}
 use borrow.Author.Tests.{eq-eqb, ne_eqb, lt-ltb, le-ltb}
 use Rattle.tables.specs.Order.{member}
@@ -37,8 +37,11 @@ use Rattle.reach_table.proofs.Rows.{equal_tests}
 
 -- ---- zeros
 
-pub cleared_holds : (n : ℕ) (s : List ℕ) → length s ≡ n * n → s ≡ replicate (length s) 0 → Holds n (λ a b. false) s
-cleared_holds n s long e = record { long = long; at = λ a b ha hb. ap (λ (l : List ℕ). get_or l (a * n + b) 0) e ∙ cleared_zeros (length s) (a * n + b) }
+pub cleared_holds : (n : ℕ) (s₀ s : List ℕ) → length s₀ ≡ n * n → s ≡ replicate (length s₀) 0 → Holds n (λ a b. false) s
+cleared_holds n s₀ s long e = record {
+  long = ap length e ∙ length-replicate (length s₀) 0 ∙ long;
+  at = λ a b ha hb. ap (λ (l : List ℕ). get_or l (a * n + b) 0) e ∙ cleared_zeros (length s₀) (a * n + b);
+}
 
 -- ---- the diagonal
 

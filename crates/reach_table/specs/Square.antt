@@ -1,9 +1,10 @@
 -- The square as the stages leave it, row after row: the place of row a and column b is a * n + b.
 -- Assumes nothing: these are definitions.
 use Rattle.std.specs.Prelude.{◌≡◌, Bool, true, false, ◌&&◌, ◌||◌, List, map, ℕ, suc, ◌+◌, ◌*◌, ◌≤◌, ◌<◌, eqb, length, get_or, bit_or, ℤ}
+use Rattle.tables.specs.Order.{Ascending}
 use Rattle.lists.specs.Limits.{component_limit}
 use Rattle.lists.specs.Ids.{member_of}
-use Rattle.lists.specs.Records.{component_count}
+use Rattle.lists.specs.Records.{component_count, port_count}
 use Rattle.regions.specs.Graph.{Edges, at}
 use Rattle.regions.specs.Keys.{edges}
 use Rattle.regions.specs.Kosaraju.{order}
@@ -68,6 +69,13 @@ pub record PlacesIn (n : ℕ) (order : List ℕ) : Type 0 where
 pub record AllNumbered (n : ℕ) (square order : List ℕ) (numbered : List Bool) (regions : List ℕ) (count : ℕ) : Type 0 where
   pub is : (t : Edges) → Holds n t square → labels_of numbered regions count ≡ numbers n (is_same_row n t) order
 
+-- room for that order, and for the walk
+pub record FinishRoom (cs : List ℤ) (forward places stack : List ℕ) : Type 0 where
+  pub keys_rise : Ascending forward
+  pub places_room : length places ≡ component_count cs
+  pub stack_room : 2 * component_count cs ≤ length stack
+  pub stack_zeros : Zeros stack
+
 -- the list places of the nodes, in the order in which the quick walk finishes them; the stack is zero again
 pub record Finished (cs : List ℤ) (edge : Edges) (places stack : List ℕ) : Type 0 where
   pub places_in : PlacesIn (component_count cs) places
@@ -81,6 +89,12 @@ pub record LentRoom (cs : List ℤ) (square regions stack : List ℕ) : Type 0 w
   pub square_room : length square ≡ component_count cs * component_count cs
   pub regions_room : length regions ≡ component_count cs
   pub stack_room : 2 * component_count cs ≤ length stack
+
+-- and in arrays for the edges, the order, and which rows are numbered
+pub record TableRoom (cs ps : List ℤ) (forward places : List ℕ) (numbered : List Bool) : Type 0 where
+  pub forward_room : length forward ≡ port_count ps
+  pub places_room : length places ≡ component_count cs
+  pub numbered_room : length numbered ≡ component_count cs
 
 -- the finished table, the quick walk's regions and their count, and a stack of zeros
 pub record Tables (cs ps : List ℤ) (square regions stack : List ℕ) (r : ℕ) : Type 0 where

@@ -7,7 +7,7 @@ ghost use Rattle.regions.specs.Keys.{edges};
 ghost use Rattle.regions.specs.Search.{Zeros};
 ghost use Rattle.signals.specs.Keys.{KeysOf};
 ghost use Rattle.tables.specs.Order.{Ascending};
-ghost use Rattle.reach_table.specs.Square.{Finished, LentRoom, Tables};
+ghost use Rattle.reach_table.specs.Square.{FinishRoom, Finished, LentRoom, TableRoom, Tables};
 
 use super::number::number_all;
 use super::start::start_square;
@@ -22,8 +22,7 @@ use tables::rows::hint_rows;
 
 // The list places of the components in the order in which the quick walk finishes them: the numbers of the classes follow it.
 fn finish_places(plot: &Plot, forward: &[u64], places: &mut [usize], stack: &mut [usize])
-    requires { Ascending forward.now × (length places.old ≡ component_count plot.now.components.now)
-        × (2 * component_count plot.now.components.now ≤ length stack.old) × Zeros stack.old }
+    requires { FinishRoom plot.now.components.now forward.now places.old stack.old }
     ensures { let n = component_count plot.now.components.now in Finished plot.now.components.now (edges n forward.now) places.new stack.new }
 {
     let keys = plot.keys;
@@ -40,7 +39,7 @@ fn finish_places(plot: &Plot, forward: &[u64], places: &mut [usize], stack: &mut
     }
 }
 
-// The same in arrays that are lent.
+// The finished table, and the numbers of its classes by the order in which the quick walk finishes, in arrays that are lent.
 fn table_in(
     plot: &Plot,
     forward: &mut [u64],
@@ -50,8 +49,8 @@ fn table_in(
     regions: &mut [u64],
     stack: &mut [usize],
 ) -> usize
-    requires { (length forward.old ≡ port_count plot.now.ports.now) × (length places.old ≡ component_count plot.now.components.now)
-        × (length numbered.old ≡ component_count plot.now.components.now) × LentRoom plot.now.components.now square.old regions.old stack.old }
+    requires arrays { TableRoom plot.now.components.now plot.now.ports.now forward.old places.old numbered.old }
+    requires lent { LentRoom plot.now.components.now square.old regions.old stack.old }
     ensures { Tables plot.now.components.now plot.now.ports.now square.new regions.new stack.new result }
 {
     let mut spare = [0u64; CONNECTIONS];
