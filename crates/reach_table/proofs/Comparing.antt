@@ -3,15 +3,14 @@
 --     copied       the same of a copy
 --     compared     what `==` says of two rows
 -- Assumes nothing.
-use mathlib.Core.Path.{◌≡◌, refl, sym, ap, ◌∙◌}
+use mathlib.Core.Path.{◌≡◌, sym, ap, ◌∙◌}
 use mathlib.Core.Bool.{Bool, true}
 use mathlib.Core.List.{List, ◌++◌}
 use mathlib.Core.Logic.{◌↔◌}
-use Prim.Native.Nat.{ℕ, ◌+◌, ◌*◌, ◌-◌, ◌≤◌, ◌<◌}
+use Prim.Native.Nat.{ℕ, ◌+◌, ◌*◌, ◌<◌}
 use native.Mathlib.Omega.{arith}
 use lib.ListN.{length, get_or, get_or-append}
 use lib.Seq.{ext_get_or}
-use Rattle.std.specs.Bool.{Decides}
 use Rattle.std.specs.List.{between}
 use Rattle.std.proofs.lemmas.List.Edits.{length-between, get_or-between}
 use Rattle.regions.specs.Graph.{Edges}
@@ -39,11 +38,11 @@ compared {n} square a b long ha hb r d = record { same = λ t h. equal_tests r (
   where
     to : (t : Edges) → Holds n t square → r ≡ true → is_same_row n t a b ≡ true
     to t h e = row_of n t a b (λ c hc. bit_inj (t a c) (t b c) (
-      sym (h.at a c ha hc) ∙ sym (part_at square long a ha c hc)
-      ∙ ap (λ l. get_or l c 0) (d.0 e)
-      ∙ part_at square long b hb c hc ∙ h.at b c hb hc))
+        sym (h.at a c ha hc) ∙ sym (part_at square long a ha c hc)
+        ∙ ap (λ l. get_or l c 0) (d.0 e)
+        ∙ part_at square long b hb c hc ∙ h.at b c hb hc))
 
     from : (t : Edges) → Holds n t square → is_same_row n t a b ≡ true → r ≡ true
     from t h e = d.1 (ext_get_or 0 _ _ (part_long square long a ha ∙ sym (part_long square long b hb)) (λ c l.
-      let hc : c < n = omega (arith, part_long square long a ha) in
-      part_at square long a ha c hc ∙ h.at a c ha hc ∙ ap bit (row_parts n t a b e c hc) ∙ sym (h.at b c hb hc) ∙ sym (part_at square long b hb c hc)))
+        let hc : c < n = omega (arith, part_long square long a ha) in
+        part_at square long a ha c hc ∙ h.at a c ha hc ∙ ap bit (row_parts n t a b e c hc) ∙ sym (h.at b c hb hc) ∙ sym (part_at square long b hb c hc)))

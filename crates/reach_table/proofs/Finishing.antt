@@ -10,12 +10,12 @@ use native.Mathlib.Omega.{arith}
 use lib.IntN.{ℤ}
 use lib.ListN.{length, get_or}
 use Rattle.std.proofs.lemmas.List.{take_all}
-use Rattle.lists.specs.Ids.{member_of, first_repeated, MemberPlace}
+use Rattle.lists.specs.Ids.{first_repeated, MemberPlace}
 use Rattle.lists.specs.Records.{component_count}
 use Rattle.regions.specs.Graph.{at}
 use Rattle.regions.specs.Keys.{edges}
 use Rattle.regions.specs.Kosaraju.{order}
-use Rattle.regions.specs.Search.{Zeros, Ordered}
+use Rattle.regions.specs.Search.{Ordered}
 use Rattle.regions.proofs.Laws.Lists.{get_or-∈}
 use Rattle.regions.proofs.Laws.Main.{order_nodes, order_length}
 use Rattle.regions.proofs.Theorems.{edges_within}

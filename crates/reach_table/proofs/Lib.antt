@@ -6,6 +6,7 @@
 --     Scenes       what specs/Scene.antt states; the edges of an accepted plot
 --     Relabelled   the numbers by list place are those by member
 --     Finishing    the order of the quick walk: finish_places
+--     Entries      the answer of the entry
 --     Cells        places of the square
 --     Filling      admit, fill
 --     Comparing    same_rows
@@ -21,5 +22,6 @@ pub mod Comparing
 pub mod Scenes
 pub mod Relabelled
 pub mod Finishing
+pub mod Entries
 pub mod Starting
 pub mod Classes

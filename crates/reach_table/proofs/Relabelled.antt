@@ -5,9 +5,9 @@
 -- Assumes nothing.
 use mathlib.Core.Path.{◌≡◌, refl, sym, ap, ap₂, subst, subst₂, ◌∙◌}
 use mathlib.Core.Bool.{Bool, true, false, cond, ◌||◌}
-use mathlib.Core.List.{List, [], ◌∷◌, ◌++◌, map, reverse}
+use mathlib.Core.List.{List, [], ◌∷◌, map, reverse}
 use mathlib.Core.Logic.{◌↔◌}
-use Prim.Native.Nat.{ℕ, zero, suc, ◌+◌, ◌≤◌, ◌<◌}
+use Prim.Native.Nat.{ℕ, zero, suc, ◌<◌}
 use native.Mathlib.Omega.{arith}
 use lib.Dec.{eqb}
 use lib.IntN.{ℤ}
@@ -15,7 +15,6 @@ use lib.ListN.{length, get_or}
 use lib.Seq.{ext_get_or}
 use borrow.Author.Tests.{eqb-true, eq-eqb}
 use Rattle.std.proofs.lemmas.List.{get_or-replicate, get_or-map, length-map}
-use Rattle.lists.specs.First.{tabulate}
 use Rattle.lists.specs.Ids.{member_of}
 use Rattle.lists.specs.Records.{component_count}
 use Rattle.lists.proofs.Members.{member_below}
@@ -119,7 +118,7 @@ module _ (cs ps : List ℤ) (scene : Scene cs ps) where
   pub place_numbers : (places : List ℕ) → PlacesIn (component_count cs) places
       → ((k : ℕ) → k < component_count cs → member_of cs (get_or places k 0) ≡ at (order (component_count cs) (signals cs ps)) k)
       → let s = numbers (component_count cs) (is_same_row (component_count cs) (reaches cs ps)) places in
-        (s.count ≡ region_count cs ps) × ((p : ℕ) → p < component_count cs → at s.region_of p ≡ region_of_place cs ps p)
+      (s.count ≡ region_count cs ps) × ((p : ℕ) → p < component_count cs → at s.region_of p ≡ region_of_place cs ps p)
   place_numbers places o nodes =
       let n = component_count cs in
       let within = signals_within cs ps scene in

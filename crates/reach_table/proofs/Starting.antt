@@ -4,7 +4,7 @@
 --     started        what `start_square` leaves
 -- Assumes nothing.
 use Rattle.std.specs.Prelude.{None}
-use mathlib.Core.Path.{◌≡◌, refl, sym, ap, ap₂, ◌∙◌}
+use mathlib.Core.Path.{◌≡◌, refl, sym, ap, ◌∙◌}
 use mathlib.Core.Bool.{Bool, true, false, ◌&&◌, ◌||◌}
 use mathlib.Core.List.{List, [], ◌∷◌}
 use mathlib.Core.Logic.{⊎_elim}
@@ -30,7 +30,7 @@ use Rattle.regions.proofs.Laws.Keys.{edges_pair}
 use Rattle.signals.specs.Seen.{EdgeKeys}
 use Rattle.reach_table.specs.Table.{bit, start}
 use Rattle.reach_table.specs.Square.{Holds, Makes, EdgesPut}
-use Rattle.reach_table.proofs.Cells.{cell_low, holds_set, holds_same, makes_same}
+use Rattle.reach_table.proofs.Cells.{holds_set, holds_same, makes_same}
 use Rattle.reach_table.proofs.Filling.{or_none, and_none, ltb_past}
 use Rattle.reach_table.proofs.Numbering.{member_append}
 use Rattle.reach_table.proofs.Rows.{equal_tests}

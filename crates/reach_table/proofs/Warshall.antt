@@ -16,7 +16,6 @@ use Rattle.lists.proofs.Search.{both}
 use Rattle.lists.proofs.Some.{and_true}
 use Rattle.regions.specs.Graph.{Edges, Within, range, each, Reach, here, step}
 use Rattle.regions.proofs.Laws.Lists.{◌∈◌, or_right, ∈-range, range-∈}
-use Rattle.regions.proofs.Laws.Walks.{Reach·trans, Reach·same}
 use Rattle.reach_table.specs.Table.{start, admit, through, middles_below}
 use Rattle.reach_table.specs.Theorems.{Over, stay, last, over}
 

@@ -1,6 +1,6 @@
 -- The square as the stages leave it, row after row: the place of row a and column b is a * n + b.
 -- Assumes nothing: these are definitions.
-use Rattle.std.specs.Prelude.{◌≡◌, Bool, true, false, ◌&&◌, ◌||◌, List, map, ℕ, suc, ◌+◌, ◌*◌, ◌≤◌, ◌<◌, eqb, length, get_or, bit_or, ℤ}
+use Rattle.std.specs.Prelude.{◌≡◌, Bool, ◌&&◌, ◌||◌, List, ℕ, suc, ◌+◌, ◌*◌, ◌≤◌, ◌<◌, eqb, length, get_or, bit_or, ℤ}
 use Rattle.tables.specs.Order.{Ascending}
 use Rattle.lists.specs.Limits.{component_limit}
 use Rattle.lists.specs.Ids.{member_of}
@@ -11,9 +11,9 @@ use Rattle.regions.specs.Kosaraju.{order}
 use Rattle.regions.specs.Search.{Zeros, labels_of}
 use Rattle.signals.specs.Regions.{region_count, regions_of}
 use Rattle.signals.specs.Seen.{Rows}
-use Rattle.reach_table.specs.Table.{bit, start, filled, is_same_row}
+use Rattle.reach_table.specs.Table.{bit, is_same_row}
 use Rattle.reach_table.specs.Numbers.{number_class, numbers}
-use Rattle.reach_table.specs.Scene.{listed, reaches, reach_table}
+use Rattle.reach_table.specs.Scene.{reach_table}
 
 -- the square holds the table
 pub record Holds (n : ℕ) (table : Edges) (square : List ℕ) : Type 0 where

@@ -1,10 +1,10 @@
 // A slow region finder, to set beside the quick one: a reach table, its rows compared.
 #![tactic(auto)]
 
-pub mod number;
+mod number;
 mod plot;
 mod start;
-pub mod table;
+mod table;
 
 ghost use Rattle.std.specs.Prelude.{◌≡◌, ◌*◌};
 ghost use Rattle.checks.specs.Refusals.{room_for};

@@ -5,13 +5,7 @@ ghost use Rattle.reach_table.specs.Square.{Side, PlacesIn, ClassNumbered, AllNum
 use super::table::same_rows;
 
 // Gives each row that is equal to row a the number `count`.
-fn number_class(
-    square: &[u8],
-    a: usize,
-    count: usize,
-    numbered: &mut [bool],
-    regions: &mut [u64],
-)
+fn number_class(square: &[u8], a: usize, count: usize, numbered: &mut [bool], regions: &mut [u64])
     requires { Side (length regions.old) square.now × (a < length regions.old) × (length numbered.old ≡ length regions.old) }
     ensures { ClassNumbered (length regions.old) square.now a count numbered.old regions.old numbered.new regions.new }
 {
@@ -25,7 +19,7 @@ fn number_class(
 }
 
 // Numbers the classes of the rows of an order, from the last to the first; answers how many there are.
-pub fn number_all(
+pub(crate) fn number_all(
     square: &[u8],
     order: &[usize],
     numbered: &mut [bool],

@@ -54,13 +54,7 @@ fn table_in(
     ensures { Tables plot.now.components.now plot.now.ports.now square.new regions.new stack.new result }
 {
     let mut spare = [0u64; CONNECTIONS];
-    signal_keys(
-        plot.port_list(),
-        plot.ends,
-        COMPONENTS,
-        forward,
-        &mut spare,
-    );
+    signal_keys(plot.port_list(), plot.ends, COMPONENTS, forward, &mut spare);
     start_square(plot, forward, square);
     fill(square, plot.keys.len());
     stack.fill(0);

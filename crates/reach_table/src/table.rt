@@ -20,7 +20,7 @@ fn join_row(row: &mut [u8], middle: &[u8])
 
 // The loop in the middle, over rows: admits one middle. Each row that has a 1 in its column gets the 1s of its row, which is copied first, since
 // a slice is written or read. Where the table says who reaches whom over the components before m, it now says it over m too.
-pub fn admit(square: &mut [u8], n: usize, m: usize)
+fn admit(square: &mut [u8], n: usize, m: usize)
     requires { Side n square.old × (m < n) }
     ensures makes { Makes n (Table.admit m) square.old square.new }
     ensures middles { (edge : Edges) → Holds n (middles_below m edge) square.old → Holds n (middles_below (m + 1) edge) square.new }
@@ -35,7 +35,7 @@ pub fn admit(square: &mut [u8], n: usize, m: usize)
 }
 
 // The outermost loop, over middles: admits one after the other.
-pub fn fill(square: &mut [u8], n: usize)
+pub(crate) fn fill(square: &mut [u8], n: usize)
     requires { Side n square.old }
     ensures { (edge : Edges) → Holds n (start edge) square.old → Holds n (filled n edge) square.new }
 {
@@ -45,7 +45,7 @@ pub fn fill(square: &mut [u8], n: usize)
 }
 
 // Whether two rows are equal.
-pub fn same_rows(square: &[u8], n: usize, a: usize, b: usize) -> bool
+pub(crate) fn same_rows(square: &[u8], n: usize, a: usize, b: usize) -> bool
     requires { Side n square.now × (a < n) × (b < n) }
     ensures { Compared n square.now a b result }
 {

@@ -1,6 +1,5 @@
 -- `reach_table::number::number_class` meets its contract. The loop's invariant: the rows of the class before b have its number.
 -- Assumes nothing.
-use lib.ListN.{length}
 use Rattle.reach_table.proofs.Classes.{Classing}
 use Rattle.reach_table.proofs.number.number_class.Given as goal
 

@@ -1,9 +1,7 @@
 -- Answers for the goals that the search leaves.
 use mathlib.Core.Path.{◌≡◌, refl, sym, ◌∙◌}
-use mathlib.Core.List.{List}
-use Prim.Native.Nat.{ℕ, ◌≤◌, ◌<◌}
 use native.Mathlib.Omega.{arith}
-use lib.ListN.{length, get_or, take}
+use lib.ListN.{length}
 use Rattle.lists.specs.Records.{component_count}
 use Rattle.liveness.proofs.Lent.{nodes_are, nodes_few, flags_lent}
 use Rattle.reach_table.proofs.Finishing.{order_low, finished}

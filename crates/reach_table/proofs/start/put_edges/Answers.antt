@@ -1,15 +1,15 @@
 -- Answers for the goals that the search leaves.
-use mathlib.Core.Path.{◌≡◌, sym, subst}
+use mathlib.Core.Path.{sym, subst}
 use Prim.Native.Nat.{ℕ, ◌+◌, ◌*◌, ◌/◌, ◌%◌, ◌<◌}
 use native.Mathlib.Omega.{arith}
-use lib.ListN.{length, get_or, set}
+use lib.ListN.{length, get_or}
 use Rattle.tables.specs.Pairs.{span}
 use Rattle.lists.specs.Ids.{MemberPlace}
 use Rattle.lists.specs.Records.{component_count}
 use Rattle.liveness.proofs.Lent.{nodes_are}
 use Rattle.signals.specs.Seen.{Rows, EdgeKeys}
 use Rattle.reach_table.proofs.Cells.{cell_low}
-use Rattle.reach_table.proofs.Starting.{Putting, put_none, put_more, put_done}
+use Rattle.reach_table.proofs.Starting.{put_none, put_more, put_done}
 use Rattle.reach_table.proofs.start.put_edges.Goals as goal
 use Rattle.reach_table.proofs.start.put_edges.Goals.{After-place_at-column}
 

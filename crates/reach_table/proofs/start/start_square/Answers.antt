@@ -1,8 +1,5 @@
 -- Answers for the goals that the search leaves.
-use mathlib.Core.Path.{◌≡◌, sym, ap, subst, ◌∙◌}
-use Prim.Native.Nat.{ℕ, ◌*◌}
-use native.Mathlib.Omega.{arith}
-use lib.ListN.{length}
+use mathlib.Core.Path.{◌∙◌}
 use Rattle.lists.specs.Records.{component_count}
 use Rattle.liveness.proofs.Lent.{nodes_are, nodes_few}
 use Rattle.reach_table.proofs.Scenes.{forward_rows, listed_edges}

@@ -1,8 +1,7 @@
 -- Answers for the goals that the search leaves.
-use mathlib.Core.Path.{◌≡◌, refl, sym, ◌∙◌}
 use native.Mathlib.Omega.{arith}
 use Rattle.reach_table.proofs.Comparing.{copied}
-use Rattle.reach_table.proofs.Filling.{admit_none, admit_all, admit_yes, admit_no, middles_more}
+use Rattle.reach_table.proofs.Filling.{admit_all, admit_yes, admit_no, middles_more}
 use Rattle.reach_table.proofs.table.admit.Goals as goal
 use Rattle.reach_table.proofs.table.admit.Goals.{then-square-a-eq1, else-square-a-eq1}
 

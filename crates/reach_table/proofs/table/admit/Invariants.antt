@@ -1,8 +1,5 @@
 -- `reach_table::table::admit` meets its contract. The loop's invariant: the rows before a have the middle's 1s.
 -- Assumes nothing.
-use mathlib.Core.Path.{◌≡◌}
-use Prim.Native.Nat.{◌*◌}
-use lib.ListN.{length}
 use Rattle.reach_table.specs.Square.{Makes}
 use Rattle.reach_table.proofs.Filling.{admit_to}
 use Rattle.reach_table.proofs.table.admit.Given as goal
