@@ -73,14 +73,8 @@ holds_set {n} {t} {s} t' a c v ha hc h e other = record {
 pub holds_same : {n : ℕ} {t t' : Edges} {s : List ℕ} → ((x y : ℕ) → x < n → y < n → t x y ≡ t' x y) → Holds n t s → Holds n t' s
 holds_same e h = record { long = h.long; at = λ x y hx hy. h.at x y hx hy ∙ ap bit (e x y hx hy) }
 
-pub makes_then : {n : ℕ} {f g : Edges → Edges} {s₀ s₁ s₂ : List ℕ} → Makes n f s₀ s₁ → Makes n g s₁ s₂ → Makes n (λ t. g (f t)) s₀ s₂
-makes_then {f = f} p q = record { table = λ t h. q.table (f t) (p.table t h) }
-
 pub makes_same : {n : ℕ} {f g : Edges → Edges} {s₀ s : List ℕ} → ((t : Edges) (x y : ℕ) → x < n → y < n → f t x y ≡ g t x y) → Makes n f s₀ s → Makes n g s₀ s
 makes_same e p = record { table = λ t h. holds_same (e t) (p.table t h) }
-
-pub makes_none : {n : ℕ} {f : Edges → Edges} (s : List ℕ) → ((t : Edges) (x y : ℕ) → x < n → y < n → t x y ≡ f t x y) → Makes n f s s
-makes_none {n} s e = record { table = λ t h. holds_same (e t) h }
 
 -- ---- a part that is written
 

@@ -5,17 +5,14 @@
 use mathlib.Core.Path.{◌≡◌, refl, sym, ap, ap₂, subst, ◌∙◌}
 use mathlib.Core.Bool.{Bool, true, false, cond, ◌&&◌, ◌||◌}
 use mathlib.Core.List.{List, [], ◌∷◌, ◌++◌, reverse, reverse-cons, append-nil, append_assoc}
-use mathlib.Core.Logic.{⊎_elim}
 use Prim.Native.Nat.{ℕ, zero, suc, ◌+◌, ◌≤◌, ◌<◌}
 use native.Mathlib.Numerals.{add-one}
 use native.Mathlib.Omega.{arith}
 use lib.Dec.{ltb}
-use lib.ListN.{length, set, replicate, get_or, length-set, length-append, length-replicate}
-use lib.Seq.{ext_get_or, get_or-set_same, get_or-set_other, get_or-append-add}
-use borrow.Author.Tests.{lt-ltb, le-ltb}
-use Rattle.tables.specs.Laws.{same?}
+use lib.ListN.{length, replicate, length-append, length-replicate}
+use lib.Seq.{ext_get_or}
+use borrow.Author.Tests.{lt-ltb}
 use Rattle.lists.specs.First.{tabulate}
-use Rattle.lists.proofs.Search.{or_true}
 use Rattle.regions.specs.Graph.{Edges, at, marked, each}
 use Rattle.regions.specs.Kosaraju.{unlabelled}
 use Rattle.regions.specs.Search.{labels_of}
@@ -23,8 +20,7 @@ use Rattle.regions.proofs.Laws.Loops.{each_append}
 use Rattle.signals.proofs.Tabulated.{tabulated_length, tabulated_at}
 use Rattle.reach_table.specs.Table.{is_same_row}
 use Rattle.reach_table.specs.Numbers.{number_class, number_next, numbers}
-use Rattle.reach_table.specs.Square.{Holds, Compared, PlacesIn, ClassNumbered, AllNumbered}
-use Rattle.reach_table.proofs.Filling.{ltb_past, or_none}
+use Rattle.reach_table.specs.Square.{Holds, PlacesIn, ClassNumbered, AllNumbered}
 
 -- ---- one class
 
@@ -35,14 +31,6 @@ pub record Classing (n : ℕ) (square : List ℕ) (a count : ℕ) (numbered₀ :
   pub values : (t : Edges) → Holds n t square → (y : ℕ) → y < n → at regions y ≡ cond (ltb y b && is_same_row n t a y) count (at regions₀ y)
 
 module _ {n : ℕ} {square : List ℕ} (a count : ℕ) (numbered₀ : List Bool) (regions₀ : List ℕ) where
-  pub class_none : length numbered₀ ≡ n → length regions₀ ≡ n → Classing n square a count numbered₀ regions₀ zero numbered₀ regions₀
-  class_none p q = record {
-    numbered_long = p;
-    regions_long = q;
-    marks = λ t h y l. rw (le-ltb y zero (omega arith)) (sym (or_none (marked numbered₀ y)));
-    values = λ t h y l. rw (le-ltb y zero (omega arith)) refl;
-  }
-
   module _ {b : ℕ} {numbered : List Bool} {regions : List ℕ} (p : Classing n square a count numbered₀ regions₀ b numbered regions) where
     pub class_done : n ≤ b → ClassNumbered n square a count numbered₀ regions₀ numbered regions
     class_done h = record {
@@ -59,44 +47,6 @@ module _ {n : ℕ} {square : List ℕ} (a count : ℕ) (numbered₀ : List Bool)
           ∙ ap (λ d. cond (d && is_same_row n t a y) count (at regions₀ y)) (lt-ltb y b (omega arith))
           ∙ sym (tabulated_at (λ y. cond (is_same_row n t a y) count (at regions₀ y)) 0 n y low)));
     }
-
-    module _ (below : b < n) where
-      pub class_yes : {r : Bool} → Compared n square a b r → r ≡ true
-          → Classing n square a count numbered₀ regions₀ (b + 1) (set numbered b true) (set regions b count)
-      class_yes r e = record {
-        numbered_long = length-set numbered b true ∙ p.numbered_long;
-        regions_long = length-set regions b count ∙ p.regions_long;
-        marks = λ t h y l. ⊎_elim
-            (λ (q : y ≡ b). rw q
-            (get_or-set_same numbered b true false (omega (arith, p.numbered_long))
-            ∙ sym (ap₂ (λ c d. marked numbered₀ b || (c && d)) (lt-ltb b (b + 1) (omega arith)) (sym (r.same t h) ∙ e) ∙ sym (or_true (marked numbered₀ b)))))
-            (λ (ne : ¬ (y ≡ b)).
-            get_or-set_other numbered b y true false ne ∙ p.marks t h y l
-            ∙ ap (λ d. marked numbered₀ y || (d && is_same_row n t a y)) (sym (ltb_past y b ne)))
-            (same? y b);
-        values = λ t h y l. ⊎_elim
-            (λ (q : y ≡ b). rw q
-            (get_or-set_same regions b count 0 (omega (arith, p.regions_long))
-            ∙ sym (ap₂ (λ c d. cond (c && d) count (at regions₀ b)) (lt-ltb b (b + 1) (omega arith)) (sym (r.same t h) ∙ e))))
-            (λ (ne : ¬ (y ≡ b)).
-            get_or-set_other regions b y count 0 ne ∙ p.values t h y l
-            ∙ ap (λ d. cond (d && is_same_row n t a y) count (at regions₀ y)) (sym (ltb_past y b ne)))
-            (same? y b);
-      }
-
-      pub class_no : {r : Bool} → Compared n square a b r → r ≡ false → Classing n square a count numbered₀ regions₀ (b + 1) numbered regions
-      class_no r e = record {
-        numbered_long = p.numbered_long;
-        regions_long = p.regions_long;
-        marks = λ t h y l. p.marks t h y l ∙ ap (λ d. marked numbered₀ y || d) (stays t h y);
-        values = λ t h y l. p.values t h y l ∙ ap (λ d. cond d count (at regions₀ y)) (stays t h y);
-      }
-        where
-          stays : (t : Edges) → Holds n t square → (y : ℕ) → (ltb y b && is_same_row n t a y) ≡ (ltb y (b + 1) && is_same_row n t a y)
-          stays t h y = ⊎_elim
-              (λ (q : y ≡ b). rw q (rw (le-ltb b b (omega arith), lt-ltb b (b + 1) (omega arith)) (sym e ∙ r.same t h)))
-              (λ (ne : ¬ (y ≡ b)). ap (λ d. d && is_same_row n t a y) (sym (ltb_past y b ne)))
-              (same? y b)
 
 -- ---- all classes
 
@@ -138,16 +88,6 @@ module _ {n : ℕ} {square order : List ℕ} {numbered : List Bool} {regions : L
 
   shorter : length rest ≡ length front + 1
   shorter = ap length last ∙ length-append front (a ∷ [])
-
-  -- the row that comes next is one of n
-  pub next_low : PlacesIn n order → a < n
-  next_low o =
-      let e : get_or order (length front + 0) 0 ≡ a = ap (λ m. get_or m (length front + 0) 0) (sym order_next) ∙ get_or-append-add front (a ∷ p.done) 0 0 in
-      let l : length front + 0 < n = omega (arith, shorter, p.room) in
-      omega (arith, o.below (length front + 0) l, e)
-
-  pub next_room : count < n
-  next_room = omega (arith, shorter, p.room)
 
   pub count_yes : {numbered' : List Bool} {regions' : List ℕ} → marked numbered a ≡ false
       → length numbered' ≡ length numbered → length regions' ≡ length regions

@@ -64,9 +64,6 @@ admit_to m a t x y = t x y || (ltb x a && (t x m && t m y))
 row_none : (m a : ℕ) (t : Edges) (x y : ℕ) → a ≤ x → admit_to m a t x y ≡ t x y
 row_none m a t x y h = rw (le-ltb x a h, or_none (t x y)) refl
 
-pub admit_none : {n : ℕ} (m : ℕ) (s : List ℕ) → Makes n (admit_to m zero) s s
-admit_none m s = record { table = λ t h. holds_same (λ x y hx hy. sym (row_none m zero t x y (omega arith))) h }
-
 pub admit_all : {n m a : ℕ} {s₀ s : List ℕ} → n ≤ a → Makes n (admit_to m a) s₀ s → Makes n (admit m) s₀ s
 admit_all {a = a} h p = makes_same (λ t x y hx hy. rw (lt-ltb x a (omega arith)) refl) p
 

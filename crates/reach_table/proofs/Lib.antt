@@ -4,24 +4,26 @@
 --     Numbering    the numbers of the classes are the quick walk's
 --     Theorems     what specs/Theorems.antt states
 --     Scenes       what specs/Scene.antt states; the edges of an accepted plot
---     Relabelled   the numbers by list place are those by member
---     Finishing    the order of the quick walk: finish_places
---     Entries      the answer of the entry
+--     Worked       small graphs
 --     Cells        places of the square
---     Filling      admit, fill
 --     Comparing    same_rows
+--     Filling      admit, fill
 --     Starting     put_diagonal, put_edges, start_square
+--     Finishing    finish_places
 --     Classes      number_class, number_all
+--     Relabelled   the numbers by list place are those by member
+--     Entries      table_in, slow_regions
 pub mod Warshall
 pub mod Rows
 pub mod Numbering
 pub mod Theorems
-pub mod Cells
-pub mod Filling
-pub mod Comparing
 pub mod Scenes
-pub mod Relabelled
-pub mod Finishing
-pub mod Entries
+pub mod Worked
+pub mod Cells
+pub mod Comparing
+pub mod Filling
 pub mod Starting
+pub mod Finishing
 pub mod Classes
+pub mod Relabelled
+pub mod Entries

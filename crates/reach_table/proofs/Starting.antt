@@ -15,7 +15,7 @@ use lib.Dec.{eqb, ltb}
 use lib.IntN.{ℤ}
 use lib.ListN.{length, get_or, set, take, replicate, length-take, length-replicate}
 use lib.Seq.{get_or-take, take-suc}
-use borrow.Author.Tests.{eq-eqb, ne_eqb, lt-ltb, le-ltb}
+use borrow.Author.Tests.{eq-eqb, ne_eqb, lt-ltb}
 use Rattle.tables.specs.Order.{member}
 use Rattle.tables.specs.Laws.{same?, order?, at_member, member_at}
 use Rattle.tables.specs.Pairs.{span, pair}
@@ -31,7 +31,7 @@ use Rattle.signals.specs.Seen.{EdgeKeys}
 use Rattle.reach_table.specs.Table.{bit, start}
 use Rattle.reach_table.specs.Square.{Holds, Makes, EdgesPut}
 use Rattle.reach_table.proofs.Cells.{holds_set, holds_same, makes_same}
-use Rattle.reach_table.proofs.Filling.{or_none, and_none, ltb_past}
+use Rattle.reach_table.proofs.Filling.{or_none, ltb_past}
 use Rattle.reach_table.proofs.Numbering.{member_append}
 use Rattle.reach_table.proofs.Rows.{equal_tests}
 
@@ -51,11 +51,6 @@ and_all false = refl
 
 abbrev pub diagonal_to : ℕ → Edges → Edges
 diagonal_to a t x y = t x y || (eqb x y && ltb x a)
-
-pub diagonal_none : {n : ℕ} (s : List ℕ) → Makes n (diagonal_to zero) s s
-diagonal_none s = record {
-  table = λ t h. holds_same (λ x y hx hy. sym (rw (le-ltb x zero (omega arith), and_none (eqb x y), or_none (t x y)) refl)) h;
-}
 
 pub diagonal_all : {n a : ℕ} {s₀ s : List ℕ} → n ≤ a → Makes n (diagonal_to a) s₀ s → Makes n (λ t x y. t x y || eqb x y) s₀ s
 diagonal_all {a = a} h p = makes_same (λ t x y hx hy. rw (lt-ltb x a (omega arith), and_all (eqb x y)) refl) p
