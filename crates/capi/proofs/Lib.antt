@@ -2,4 +2,5 @@
 mod LivenessLaws
 mod Demands
 mod OneInput
+mod ReachTable
 pub mod Laws

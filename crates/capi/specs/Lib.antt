@@ -2,3 +2,4 @@
 pub mod Liveness
 pub mod Written
 pub mod OneInput
+pub mod ReachTable

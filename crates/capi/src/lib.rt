@@ -1,9 +1,10 @@
 // The entries for a host that calls through the C convention. Here each list is lent as bytes, eight to a number, lowest first; in
-// `one_input` as numbers. The answer is one number.
+// `one_input` and `region_table` as numbers. The answer is one number.
 #![tactic(auto)]
 
 mod alive;
 mod one_input;
+mod region_table;
 
 ghost use Rattle.std.specs.Prelude.{Some, ◌≡◌, ◌*◌, ◌<◌, length};
 ghost use Rattle.lists.specs.Limits.{component_limit, component_width};

@@ -7,6 +7,8 @@
 //!   signals, what they drive, and a verdict for each required input.
 //! - [`driven`] tells of one required input whether it is driven, without the
 //!   rest of the plot.
+//! - [`reach_table`] finds the same regions the slow way, for lessons: by a
+//!   table of who reaches whom, which can be printed.
 //! - [`what_if`] and [`what_if_joined`] find what one connection more would
 //!   change of either answer.
 //!
@@ -62,6 +64,7 @@ mod groups;
 pub mod limits;
 mod liveness;
 mod numbers;
+mod reach_table;
 mod refusal;
 mod scene;
 mod what_if;
@@ -73,6 +76,7 @@ pub use liveness::{
     ComponentLiveness, Liveness, Region, RequiredInput, RequiredInputStatus, SignalSource,
     SignalSourceKind, liveness,
 };
+pub use reach_table::{ReachTable, reach_table};
 pub use refusal::{List, Place, Reason, Refusal};
 pub use scene::{Component, ComponentId, Connection, PortConnection, PortRef, Position};
 pub use what_if::{Change, ChangedInput, Joined, what_if, what_if_joined};
