@@ -2,19 +2,17 @@
 --     refused_table      the answer and what is left beside a refusal
 --     accepted_table     and of lists that were accepted
 -- Assumes nothing.
-use Rattle.std.specs.Prelude.{⊤, Result, Ok, Err}
+use Rattle.std.specs.Prelude.{Ok, Err}
 use Rattle.lists.specs.declared.Refusal.{Refusal}
 use mathlib.Core.Path.{◌≡◌, sym, ap, subst, ◌∙◌}
 use mathlib.Core.List.{List}
-use Prim.Native.Nat.{ℕ, ◌*◌, ◌/◌, ◌%◌, ◌≤◌}
+use Prim.Native.Nat.{ℕ, ◌*◌, ◌/◌, ◌%◌}
 use native.Mathlib.Omega.{arith}
-use lib.ListN.{length}
 use lib.IntN.{ℤ}
-use Rattle.lists.specs.Limits.{component_limit}
 use Rattle.checks.specs.Refusals.{packed}
 use Rattle.checks.proofs.Chain.{refused_not}
 use Rattle.liveness.specs.Demand.{RegionsOfScene}
-use Rattle.reach_table.specs.Entry.{table_refusal, Tabled}
+use Rattle.reach_table.specs.Entry.{Tabled}
 use Rattle.reach_table.proofs.Entries.{count_few}
 use Rattle.capi.specs.ReachTable.{TabledByLists}
 
@@ -28,8 +26,8 @@ module _ {cs ps fs : List ℤ} (square regions stack : List ℕ) {square' region
         square_left = t.by.square_left;
         regions_left = t.by.regions_left;
         stack_left = t.by.stack_left;
-        table = λ f. absurd (refused_not (sym f ∙ refused));
-        demand = λ f. absurd (refused_not (sym f ∙ refused));
+        table = λ f. absurd (refused_not (sym refused ∙ f));
+        demand = λ f. absurd (refused_not (sym refused ∙ f));
       }
 
   pub accepted_table : {count : ℕ} (r : ℕ) → Tabled cs ps fs square square' regions regions' stack stack' (Ok count) → r ≡ 65536 * count
