@@ -157,7 +157,11 @@ fn full_plots_within_one_mebibyte_of_stack() -> io::Result<()> {
         .iter()
         .map(|it| (it.components.len(), it.connections.len()));
     assert!(full.max() >= Some((limits::COMPONENTS, limits::CONNECTIONS)));
-    let run = move || plots.iter().all(|plot| mark(plot).is_ok() && slow(plot).is_ok());
+    let run = move || {
+        plots
+            .iter()
+            .all(|plot| mark(plot).is_ok() && slow(plot).is_ok())
+    };
     let thread = Builder::new().stack_size(1 << 20).spawn(run)?;
     assert!(thread.join().is_ok_and(|all| all));
     Ok(())
