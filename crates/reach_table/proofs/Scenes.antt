@@ -1,5 +1,5 @@
--- The reach table of an accepted scene: list places and members are the same graph, so its rows are equal exactly where the quick walk has one
--- region, and its classes have the quick walk's numbers.
+-- The reach table of an accepted scene: list places and members are the same graph, so its rows are equal exactly where the quick walk has
+-- one region.
 --     listed_within, listed_at       the graph on list places
 --     listed_reach                   who reaches whom in it
 --     scene_laws                     what specs/Scene.antt states

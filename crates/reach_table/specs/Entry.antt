@@ -1,5 +1,5 @@
--- The entry `slow_regions` (document 02, R-8): what it answers, and what it leaves in the slices that it was lent. Its lists and refusals are
--- those of the liveness entry; a square of fewer places than components times components is refused with 2.
+-- The entry `slow_regions` (document 02, R-8): what it answers, and what it leaves in the slices that it was lent. Its lists and refusals
+-- are those of the liveness entry; a square of fewer places than components times components is refused with 2.
 -- Assumes nothing: these are definitions.
 use Rattle.std.specs.Prelude.{⊤, Result, IfOk, ◌≡◌, Bool, ◌&&◌, ◌↔◌, List, ℕ, ◌+◌, ◌*◌, ◌<◌, length, get_or, ℤ}
 use Rattle.lists.specs.declared.Refusal.{Refusal}
@@ -14,7 +14,8 @@ use Rattle.reach_table.specs.Scene.{reach_table, SceneLaws}
 -- a place per pair of components, one per component, and one pair of the walk's stack per component
 abbrev pub table_room : List ℤ → ℕ → ℕ → ℕ → Bool
 table_room cs square regions stack =
-    room_for (component_count cs * component_count cs) 1 square && (room_for (component_count cs) 1 regions && room_for (component_count cs) 2 stack)
+    room_for (component_count cs * component_count cs) 1 square
+    && (room_for (component_count cs) 1 regions && room_for (component_count cs) 2 stack)
 
 abbrev pub table_refusal : List ℤ → List ℤ → List ℤ → ℕ → ℕ → ℕ → Result ⊤ Refusal
 table_refusal cs ps fs square regions stack = liveness_lists cs ps fs (table_room cs square regions stack)

@@ -1,4 +1,5 @@
--- What the contracts cite, and the theorems, to be read in this order. What only inner functions cite stands in Square. The proofs are in proofs/.
+-- What the contracts cite, and the theorems, to be read in this order. What only inner functions cite stands in Square. The proofs are in
+-- proofs/.
 --     Table, Numbers, Theorems    graphs: the reach table, its classes and their numbers
 --     Scene, Entry                scenes, and the entry `slow_regions`
 --     Square                      the square that is lent, as the stages leave it

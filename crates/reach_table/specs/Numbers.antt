@@ -1,5 +1,5 @@
--- The numbers of the classes (document 02, R-8: "Numbering is taken from the quick walk's rule"): the nodes are taken last finished first, and
--- each that has no number yet gives its whole class, the nodes whose rows are equal to its own, the next number.
+-- The numbers of the classes (document 02, R-8: "Numbering is taken from the quick walk's rule"): the nodes are taken last finished first,
+-- and each that has no number yet gives its whole class, the nodes whose rows are equal to its own, the next number.
 -- Assumes nothing: these are definitions.
 use Rattle.std.specs.Prelude.{cond, ◌||◌, List, reverse, ℕ, suc}
 use Rattle.lists.specs.First.{tabulate}

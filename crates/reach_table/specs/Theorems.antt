@@ -20,10 +20,12 @@ pub record TableLaws (n : ℕ) (edge : Edges) : Type 0 where
   -- the finished table has a 1 exactly where the row reaches the column
   pub reaches : (a b : ℕ) → (filled n edge a b ≡ true) ↔ Reach edge a b
   -- the order in which the middles are admitted makes no difference
-  pub any_order : (middles : List ℕ) → ((x : ℕ) → x < n → member x middles ≡ true) → (a b : ℕ) → through middles edge a b ≡ filled n edge a b
+  pub any_order : (middles : List ℕ) → ((x : ℕ) → x < n → member x middles ≡ true)
+      → (a b : ℕ) → through middles edge a b ≡ filled n edge a b
   -- two rows are equal exactly if each of the two nodes reaches the other
   pub rows : (a b : ℕ) → a < n → b < n → (is_same_row n (filled n edge) a b ≡ true) ↔ Both edge a b
   -- so the classes are those of the quick walk
-  pub classes : (a b : ℕ) → a < n → b < n → (is_same_row n (filled n edge) a b ≡ true) ↔ (at (region_of n edge) a ≡ at (region_of n edge) b)
+  pub classes : (a b : ℕ) → a < n → b < n
+      → (is_same_row n (filled n edge) a b ≡ true) ↔ (at (region_of n edge) a ≡ at (region_of n edge) b)
   -- and with the quick walk's order of finishing so are their numbers
   pub same_numbers : numbers n (is_same_row n (filled n edge)) (order n edge) ≡ labels n edge

@@ -23,8 +23,8 @@ fn room_for_square(side: usize, len: usize) -> bool
     side == 0 || side <= len / side
 }
 
-// The refusal of the checks, or how many regions there are. Leaves the finished reach table, row after row in list order, at the front of the
-// square, and the region of each component, in list order, at the front of `regions`; the stack zero. A refusal writes nothing.
+// The refusal of the checks, or how many regions there are. Leaves the finished reach table, row after row in list order, at the front of
+// the square, and the region of each component, in list order, at the front of `regions`; the stack zero. A refusal writes nothing.
 pub fn slow_regions(
     components: &[i64],
     ports: &[i64],

@@ -6,8 +6,11 @@ use super::table::same_rows;
 
 // Gives each row that is equal to row a the number `count`.
 fn number_class(square: &[u8], a: usize, count: usize, numbered: &mut [bool], regions: &mut [u64])
-    requires { Side (length regions.old) square.now × (a < length regions.old) × (length numbered.old ≡ length regions.old) }
-    ensures { ClassNumbered (length regions.old) square.now a count numbered.old regions.old numbered.new regions.new }
+    requires square { Side (length regions.old) square.now }
+    requires row { a < length regions.old }
+    requires numbered { length numbered.old ≡ length regions.old }
+    ensures { ClassNumbered (length regions.old) square.now a count
+        numbered.old regions.old numbered.new regions.new }
 {
     let n = regions.len();
     for b in 0..n {
@@ -25,7 +28,9 @@ pub(crate) fn number_all(
     numbered: &mut [bool],
     regions: &mut [u64],
 ) -> usize
-    requires { Side (length regions.old) square.now × PlacesIn (length regions.old) order.now × (length numbered.old ≡ length regions.old) }
+    requires square { Side (length regions.old) square.now }
+    requires order { PlacesIn (length regions.old) order.now }
+    requires numbered { length numbered.old ≡ length regions.old }
     ensures { AllNumbered (length regions.old) square.now order.now numbered.new regions.new result }
 {
     numbered.fill(false);

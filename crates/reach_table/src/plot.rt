@@ -1,12 +1,6 @@
 // The reach table and the regions of a plot.
-ghost use Rattle.std.specs.Prelude.{◌≡◌, ◌≤◌, ◌*◌, length};
-ghost use Rattle.lists.specs.Ends.{sources_of, sinks_of};
-ghost use Rattle.lists.specs.Limits.{component_limit};
-ghost use Rattle.lists.specs.Records.{component_count, port_count};
+ghost use Rattle.lists.specs.Records.{component_count};
 ghost use Rattle.regions.specs.Keys.{edges};
-ghost use Rattle.regions.specs.Search.{Zeros};
-ghost use Rattle.signals.specs.Keys.{KeysOf};
-ghost use Rattle.tables.specs.Order.{Ascending};
 ghost use Rattle.reach_table.specs.Square.{FinishRoom, Finished, LentRoom, TableRoom, Tables};
 
 use super::number::number_all;
@@ -23,7 +17,8 @@ use tables::rows::hint_rows;
 // The list places of the components in the order in which the quick walk finishes them: the numbers of the classes follow it.
 fn finish_places(plot: &Plot, forward: &[u64], places: &mut [usize], stack: &mut [usize])
     requires { FinishRoom plot.now.components.now forward.now places.old stack.old }
-    ensures { let n = component_count plot.now.components.now in Finished plot.now.components.now (edges n forward.now) places.new stack.new }
+    ensures { let n = component_count plot.now.components.now in
+        Finished plot.now.components.now (edges n forward.now) places.new stack.new }
 {
     let keys = plot.keys;
     let mut visited = [false; COMPONENTS];

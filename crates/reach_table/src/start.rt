@@ -40,8 +40,10 @@ fn put_edges(plot: &Plot, forward: &[u64], square: &mut [u8])
 // The table before any middle is admitted.
 pub(crate) fn start_square(plot: &Plot, forward: &[u64], square: &mut [u8])
     requires room { length square.old ≡ component_count plot.now.components.now * component_count plot.now.components.now }
-    requires edges { let l = plot.now in KeysOf l.ports.now (sources_of l.ends.now) (sinks_of l.ends.now) component_limit forward.now }
-    ensures { let l = plot.now in Holds (component_count l.components.now) (start (listed l.components.now l.ports.now)) square.new }
+    requires edges { let l = plot.now in
+        KeysOf l.ports.now (sources_of l.ends.now) (sinks_of l.ends.now) component_limit forward.now }
+    ensures { let l = plot.now in
+        Holds (component_count l.components.now) (start (listed l.components.now l.ports.now)) square.new }
 {
     square.fill(0);
     put_diagonal(square, plot.keys.len());

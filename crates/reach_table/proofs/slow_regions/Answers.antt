@@ -1,5 +1,5 @@
--- `reach_table::slow_regions` meets its contract: the checks first, and where they accept the reach table, by the table of ids that they left.
--- Assumes nothing.
+-- `reach_table::slow_regions` meets its contract: the checks first, and where they accept the reach table, by the table of ids that they
+-- left. Assumes nothing.
 use Rattle.std.specs.Prelude.{Ok}
 use mathlib.Core.Path.{◌≡◌, sym, ◌∙◌}
 use mathlib.Core.Bool.{◌&&◌}

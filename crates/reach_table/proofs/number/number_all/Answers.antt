@@ -5,9 +5,8 @@ use Rattle.reach_table.proofs.number.number_all.Goals as goal
 
 pub loop-a-init : goal.loop-a-init
 loop-a-init c =
-    let (square, order, numbered) = c.requires in
     rw (c.into_iter-a-iterator.ensures.into_iter_gives, c.rev-a-items.ensures.source, c.iter.ensures.rest)
-    (count_none c.args.square.now c.args.numbered.now c.args.regions.now order numbered refl (c.fill.ensures.after (λ y e. e)) (c.fill-2.ensures.after (λ y e. e)))
+    (count_none c.args.square.now c.args.numbered.now c.args.regions.now c.requires.order c.requires.numbered refl (c.fill.ensures.after (λ y e. e)) (c.fill-2.ensures.after (λ y e. e)))
 
 pub loop-a-preserved-then-not-numbered-a : goal.loop-a-preserved-then-not-numbered-a
 loop-a-preserved-then-not-numbered-a c =

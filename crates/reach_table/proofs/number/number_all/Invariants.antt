@@ -1,5 +1,5 @@
--- `reach_table::number::number_all` meets its contract. The loop's invariant: the rows of the order that the iterator has given are dealt with.
--- Assumes nothing.
+-- `reach_table::number::number_all` meets its contract. The loop's invariant: the rows of the order that the iterator has given are dealt
+-- with. Assumes nothing.
 use lib.ListN.{length}
 use Rattle.reach_table.proofs.Classes.{Counting}
 use Rattle.reach_table.proofs.number.number_all.Given as goal

@@ -1,5 +1,5 @@
--- `reach_table::plot::finish_places` meets its contract. The loop's invariant: the nodes before the place are turned into their list places.
--- Assumes nothing.
+-- `reach_table::plot::finish_places` meets its contract. The loop's invariant: the nodes before the place are turned into their list
+-- places. Assumes nothing.
 use mathlib.Core.Path.{◌≡◌}
 use Prim.Native.Nat.{ℕ, ◌≤◌, ◌<◌}
 use lib.ListN.{get_or}

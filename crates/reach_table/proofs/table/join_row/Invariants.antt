@@ -1,5 +1,5 @@
--- `reach_table::table::join_row` meets its contract. The loop's invariant: the columns before c are joined, and the others are as they were.
--- Assumes nothing.
+-- `reach_table::table::join_row` meets its contract. The loop's invariant: the columns before c are joined, and the others are as they
+-- were. Assumes nothing.
 use mathlib.Core.Path.{◌≡◌}
 use Prim.Native.Nat.{ℕ, ◌≤◌, ◌<◌}
 use lib.Bits.{bit_or}
