@@ -315,6 +315,40 @@ static void two_levers(void)
         hold(work[k] == 0, "work zero");
 }
 
+/* Who reaches whom: a place more than is asked for in each slice, all dirty,
+   then a square of a place too few. */
+static void reach_table(void)
+{
+    enum { SIDE = 3, SQUARE = 9, WORK = 6 };
+    /* a lever, and two wires that feed each other */
+    const int64_t row[] = {
+        7, 0, 0, 0, 4, 0, 0, 0,
+        3, 1, 0, 0, 0, 0, 0, 0,
+        4, 2, 0, 0, 0, 0, 0, 0,
+    };
+    const int64_t fed[] = {7, 1, 3, 3, 0, 3, 1, 4, 3, 0, 4, 3, 3, 1, 0};
+    const uint8_t reached[SQUARE] = {1, 1, 1, 0, 1, 1, 0, 1, 1};
+    uint8_t square[SQUARE + 1];
+    uint64_t region[SIDE + 1];
+    size_t work[WORK + 1];
+    memset(square, FILLING, sizeof square);
+    memset(region, FILLING, sizeof region);
+    memset(work, FILLING, sizeof work);
+    const uint64_t dirty = region[SIDE];
+    uint64_t answer = dustroute_reach_table(
+        row, 24, fed, 15, fed, 0, square, SQUARE - 1, region, SIDE + 1, work, WORK + 1);
+    hold(DUSTROUTE_NUMBER(answer) == 2 && DUSTROUTE_LIST(answer) == 3, "2: no room for the square");
+    hold(is_filled(square, 0, sizeof square, FILLING) && region[0] == dirty, "nothing written");
+    answer = dustroute_reach_table(
+        row, 24, fed, 15, fed, 0, square, SQUARE + 1, region, SIDE + 1, work, WORK + 1);
+    hold(DUSTROUTE_ACCEPTED(answer) && DUSTROUTE_COUNT(answer, 0) == 2, "two regions of a table");
+    hold(memcmp(square, reached, SQUARE) == 0, "the wires have equal rows");
+    hold(square[SQUARE] == FILLING, "rest of the square");
+    hold(region[0] == 0 && region[1] == 1 && region[2] == 1 && region[3] == dirty, "regions of a table");
+    for (size_t k = 0; k <= WORK; k++)
+        hold(work[k] == 0, "work of a table zero");
+}
+
 /* A ring of wires through as many components as there may be, four connections
    from each to the next, and frontiers that are all the origin. */
 static void full_lists(void)
@@ -430,6 +464,7 @@ int main(int count, char **arguments)
         the_way();
         cleared_up();
         two_levers();
+        reach_table();
         full_plot();
     }
     if (faults == 0)

@@ -15,7 +15,7 @@
  *
  * Only dustroute_groups and dustroute_liveness take bytes. The other entries take
  * numbers as the host has them, int64_t for lists: there a slice passes as a
- * pointer and then a count of numbers.
+ * pointer and then a count of numbers, or of bytes where it is of uint8_t.
  *
  *     list          numbers of a record, in this order
  *     components    id 0..4294967295; x, y, z each -30000000..30000000;
@@ -136,6 +136,12 @@
 #define DUSTROUTE_LIGHT_REGIONS_NUMBERS(components) ((components) * (size_t)1)
 #define DUSTROUTE_LIGHT_SET_NUMBERS 16 /* lit, and driven */
 #define DUSTROUTE_LIGHT_STACK_NUMBERS(components) ((components) * (size_t)2)
+
+/* Places that the slices of dustroute_reach_table must have. */
+#define DUSTROUTE_SQUARE_BYTES(components) \
+    ((size_t)(components) * (size_t)(components))
+#define DUSTROUTE_TABLE_REGIONS_NUMBERS(components) ((size_t)(components))
+#define DUSTROUTE_TABLE_STACK_NUMBERS(components) ((components) * (size_t)2)
 
 /* The parts of an answer. */
 #define DUSTROUTE_ACCEPTED(answer) (((answer) & 0xffff) == 0)
@@ -297,6 +303,29 @@ uint64_t dustroute_light(
     uint64_t *regions, size_t regions_len,
     uint64_t *lit, size_t lit_len,
     uint64_t *driven, size_t driven_len,
+
+/*
+ * The slow region finder, for lessons: a table of who reaches whom. At first
+ * each component reaches itself and what it is connected to; then one after the
+ * other is admitted as a middle, and whoever reaches it reaches what it
+ * reaches. Components share a region exactly when their rows are equal.
+ *
+ * square    a byte of 1 or 0 for each pair of components, row after row in list
+ *           order: 1 where the row's component reaches the column's by ports of
+ *           transfer 0 to 5, or is it. A longer square keeps what lies past
+ *           these places: rows are as long as there are components.
+ * regions   the region of each component, in list order, as dustroute_liveness
+ *           answers it
+ * stack     for work
+ *
+ * Count: regions.
+ */
+uint64_t dustroute_reach_table(
+    const int64_t *components, size_t components_len,
+    const int64_t *ports, size_t ports_len,
+    const int64_t *frontiers, size_t frontiers_len,
+    uint8_t *square, size_t square_len,
+    uint64_t *regions, size_t regions_len,
     size_t *stack, size_t stack_len);
 
 #ifdef __cplusplus

@@ -6,6 +6,7 @@ mod alive;
 mod clear;
 mod light;
 mod one_input;
+mod region_table;
 mod the_way;
 
 ghost use Rattle.std.specs.Prelude.{Some, ◌≡◌, ◌*◌, ◌<◌, length};

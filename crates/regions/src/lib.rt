@@ -120,7 +120,7 @@ impl Graph<'_> {
     }
 
     // The walk forward: the nodes, in the order in which they finish.
-    fn finish_order(self, visited: &mut [bool], order: &mut [usize], stack: &mut [usize])
+    pub fn finish_order(self, visited: &mut [bool], order: &mut [usize], stack: &mut [usize])
         requires { Room (length visited.old) self.keys.now visited.old order.old stack.old }
         ensures { let n = length visited.old in Ordered n (edges n self.entry.keys.now) order.old order.new stack.new }
     {

@@ -106,7 +106,7 @@ pub fn turned_keys(keys: &[u64], out: &mut [u64], spare: &mut [u64], counts: &mu
 }
 
 // The keys of a sorted table that are edges of the nodes below n. They come first: the keys of supports are past them.
-pub(crate) fn edges_of(keys: &[u64], n: usize) -> &[u64]
+pub fn edges_of(keys: &[u64], n: usize) -> &[u64]
     requires { Rows n keys.now }
     ensures { EdgeKeys n keys.now result.now }
 {

@@ -13,6 +13,8 @@
 //!   others refuse a plot.
 //! - [`light`] lights a plot region by region, for a lesson that never lights a
 //!   lamp before a lever that feeds it.
+//! - [`reach_table`] finds the same regions the slow way, for lessons: by a
+//!   table of who reaches whom, which can be printed.
 //! - [`what_if`] and [`what_if_joined`] find what one connection more would
 //!   change of either answer.
 //!
@@ -71,6 +73,7 @@ mod light;
 pub mod limits;
 mod liveness;
 mod numbers;
+mod reach_table;
 mod refusal;
 mod scene;
 mod trail;
@@ -85,6 +88,7 @@ pub use liveness::{
     ComponentLiveness, Liveness, Region, RequiredInput, RequiredInputStatus, SignalSource,
     SignalSourceKind, liveness,
 };
+pub use reach_table::{ReachTable, reach_table};
 pub use refusal::{List, Place, Reason, Refusal};
 pub use scene::{Component, ComponentId, Connection, PortConnection, PortRef, Position};
 pub use trail::{check_trail, trail};

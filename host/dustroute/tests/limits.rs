@@ -8,7 +8,7 @@ use std::thread::{self, Builder};
 use dustroute::{
     BlockKind, Component, ComponentId, Connection, ConnectionKind, List, Place, PortConnection,
     PortRef, Position, Reason, Refusal, TransferKind, clear, driven, groups, light, limits,
-    liveness,
+    liveness, reach_table,
 };
 use scenes::Profile;
 use typed::Lists;
@@ -51,6 +51,10 @@ fn as_many_components_as_the_limit_and_more() {
         assert_eq!(groups(&components, &[]).map(|it| it.net_count), wanted);
         assert_eq!(
             liveness(&components, &[], &[]).map(|it| it.regions.len()),
+            wanted
+        );
+        assert_eq!(
+            reach_table(&components, &[], &[]).map(|it| it.count),
             wanted
         );
     }
@@ -142,6 +146,12 @@ fn mark(plot: &Lists) -> Result<[usize; 2], Refusal> {
     Ok([groups.net_count, found.regions.len()])
 }
 
+/// The slow finder, which takes its time.
+fn slow(plot: &Lists) -> Result<usize, Refusal> {
+    let table = reach_table(&plot.components, &plot.ports, &plot.frontiers)?;
+    Ok(table.count)
+}
+
 /// A server's threads have little stack.
 #[test]
 fn full_plots_within_one_mebibyte_of_stack() -> io::Result<()> {
@@ -151,7 +161,11 @@ fn full_plots_within_one_mebibyte_of_stack() -> io::Result<()> {
         .iter()
         .map(|it| (it.components.len(), it.connections.len()));
     assert!(full.max() >= Some((limits::COMPONENTS, limits::CONNECTIONS)));
-    let run = move || plots.iter().all(|plot| mark(plot).is_ok());
+    let run = move || {
+        plots
+            .iter()
+            .all(|plot| mark(plot).is_ok() && slow(plot).is_ok())
+    };
     let thread = Builder::new().stack_size(1 << 20).spawn(run)?;
     assert!(thread.join().is_ok_and(|all| all));
     Ok(())

@@ -1,0 +1,98 @@
+-- `reach_table::slow_regions` meets its contract: the checks first, and where they accept the reach table, by the table of ids that they
+-- left. Assumes nothing.
+use Rattle.std.specs.Prelude.{Ok}
+use mathlib.Core.Path.{◌≡◌, sym, ◌∙◌}
+use mathlib.Core.Bool.{◌&&◌}
+use Prim.Native.Nat.{◌*◌, ◌/◌, ◌≤◌}
+use native.Mathlib.Omega.{arith}
+use lib.ListN.{length}
+use lib.Seq.{length-take-le}
+use borrow.Author.Tests.{leb-true}
+use Rattle.lists.specs.Records.{component_count}
+use Rattle.lists.proofs.Search.{both}
+use Rattle.checks.specs.Refusals.{room_for}
+use Rattle.checks.proofs.Accepted.{LivenessScene, liveness_accept, room_places}
+use Rattle.liveness.proofs.Answers.{scene_of_lem}
+use Rattle.reach_table.specs.Entry.{table_room, table_refusal}
+use Rattle.reach_table.proofs.Entries.{tabled_accepted}
+use Rattle.reach_table.proofs.slow_regions.Goals as goal
+use Rattle.reach_table.proofs.slow_regions.Goals.{After-liveness_lists}
+
+-- the answer of the checks, by the definition
+says : (c : After-liveness_lists) → c.liveness_lists.result
+    ≡ table_refusal c.args.components.now c.args.ports.now c.args.frontiers.now (length c.args.square.now) (length c.args.regions.now) (length c.args.stack.now)
+says c =
+    rw (c.room_for_square.ensures, c.room_for.ensures, c.room_for-2.ensures) at c.liveness_lists.ensures.lists.answer
+
+-- ---- where they accept
+module _ (c : After-liveness_lists) (was : c.liveness_lists.result ≡ Ok tt) where
+  accepted : table_refusal c.args.components.now c.args.ports.now c.args.frontiers.now (length c.args.square.now) (length c.args.regions.now)
+      (length c.args.stack.now) ≡ Ok tt
+  accepted = sym (says c) ∙ was
+
+  live : LivenessScene c.args.components.now c.args.ports.now c.args.frontiers.now
+      (table_room c.args.components.now (length c.args.square.now) (length c.args.regions.now) (length c.args.stack.now))
+  live = liveness_accept _ _ _ _ accepted
+
+  -- room in the slices that are lent
+  rooms : (component_count c.args.components.now * component_count c.args.components.now ≤ length c.args.square.now)
+      × (component_count c.args.components.now ≤ length c.args.regions.now) × (2 * component_count c.args.components.now ≤ length c.args.stack.now)
+  rooms =
+      let n = component_count c.args.components.now in
+      let regions = room_for n 1 (length c.args.regions.now) in
+      let stack = room_for n 2 (length c.args.stack.now) in
+      let one = both (room_for (n * n) 1 (length c.args.square.now)) (regions && stack) live.scene.lengths.room in
+      let two = both regions stack one.1 in (
+        room_places (n * n) (length c.args.square.now) one.0,
+        room_places n (length c.args.regions.now) two.0,
+        omega (arith, leb-true n (length c.args.stack.now / 2) two.1),
+      )
+
+  -- the table of ids at the front of the keys
+  long : component_count c.args.components.now ≤ length c.liveness_lists.new.keys
+  long = omega (arith, live.components.few, c.liveness_lists.auto.keys)
+
+pub slice_bounds-keys-end : goal.slice_bounds-keys-end
+slice_bounds-keys-end c = long (goal.at.slice_bounds-keys-end c).After-liveness_lists c.in_ok-liveness_lists.was
+
+pub slice_bounds-plot-end : goal.slice_bounds-plot-end
+slice_bounds-plot-end c =
+    sym (length-take-le _ c.liveness_lists.new.keys
+    (long (goal.at.slice_bounds-plot-end c).After-liveness_lists c.in_ok-liveness_lists.was))
+
+pub invariant_of-plot : goal.invariant_of-plot
+invariant_of-plot c =
+    let left = c.liveness_lists.ensures in
+    let was = c.in_ok-liveness_lists.was in
+    let scene = scene_of_lem (live (goal.at.invariant_of-plot c).After-liveness_lists was) in
+    record { accepted = record { scene = scene; table = left.lists.table was; ends = left.ends was } }
+
+pub slice_bounds-table_plot-end : goal.slice_bounds-table_plot-end
+slice_bounds-table_plot-end c = (rooms (goal.at.slice_bounds-table_plot-end c).After-liveness_lists c.in_ok-liveness_lists.was).0
+
+pub slice_bounds-table_plot-end-2 : goal.slice_bounds-table_plot-end-2
+slice_bounds-table_plot-end-2 c =
+    sym (length-take-le _ c.args.square.now (rooms (goal.at.slice_bounds-table_plot-end-2 c).After-liveness_lists c.in_ok-liveness_lists.was).0)
+
+pub slice_bounds-table_plot-end-3 : goal.slice_bounds-table_plot-end-3
+slice_bounds-table_plot-end-3 c = (rooms (goal.at.slice_bounds-table_plot-end-3 c).After-liveness_lists c.in_ok-liveness_lists.was).1
+
+pub slice_bounds-table_plot-end-4 : goal.slice_bounds-table_plot-end-4
+slice_bounds-table_plot-end-4 c =
+    sym (length-take-le _ c.args.regions.now (rooms (goal.at.slice_bounds-table_plot-end-4 c).After-liveness_lists c.in_ok-liveness_lists.was).1)
+
+pub table_plot-requires : goal.table_plot-requires
+table_plot-requires c =
+    let r = rooms (goal.at.table_plot-requires c).After-liveness_lists c.in_ok-liveness_lists.was in
+    record {
+      square_room = length-take-le _ c.args.square.now r.0;
+      regions_room = length-take-le _ c.args.regions.now r.1;
+      stack_room = r.2;
+    }
+
+pub returns : goal.returns
+returns c =
+    let was = c.in_ok-liveness_lists.was in
+    let s = (goal.at.returns c).After-liveness_lists in
+    tabled_accepted c.args.square.now c.args.regions.now c.args.stack.now (accepted s was) (scene_of_lem (live s was)) c.table_plot.auto.stack
+    c.table_plot.ensures
