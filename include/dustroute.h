@@ -303,6 +303,7 @@ uint64_t dustroute_light(
     uint64_t *regions, size_t regions_len,
     uint64_t *lit, size_t lit_len,
     uint64_t *driven, size_t driven_len,
+    size_t *stack, size_t stack_len);
 
 /*
  * The slow region finder, for lessons: a table of who reaches whom. At first
