@@ -27,8 +27,8 @@ fn text(output: &Output) -> String {
     out + &errors
 }
 
-/// The C host, compiled; none without a C compiler.
-fn c_host(name: &str) -> Option<PathBuf> {
+/// A C host of `examples/`, compiled; none without a C compiler.
+fn c_host(source: &str, name: &str) -> Option<PathBuf> {
     let program = Path::new(env!("CARGO_TARGET_TMPDIR")).join(name);
     let compiled = run(Command::new("cc")
         .args([
@@ -43,7 +43,7 @@ fn c_host(name: &str) -> Option<PathBuf> {
         .arg(root().join("include"))
         .arg("-o")
         .arg(&program)
-        .arg(root().join("examples/worked.c"))
+        .arg(root().join("examples").join(source))
         .arg(archives().join("libcapi.a")));
     let Some(output) = compiled else {
         println!("skipped: no C compiler (cc)");
@@ -72,7 +72,7 @@ fn checked(program: &Path, arguments: &[&str]) -> Option<String> {
 
 #[test]
 fn a_host_in_c() {
-    let Some(program) = c_host("worked") else {
+    let Some(program) = c_host("worked.c", "worked") else {
         return;
     };
     for arguments in [&[][..], &["heap"]] {
@@ -87,7 +87,7 @@ fn a_host_in_c() {
 /// library's.
 #[test]
 fn a_host_in_c_under_valgrind() {
-    let Some(program) = c_host("worked_under_valgrind") else {
+    let Some(program) = c_host("worked.c", "worked_under_valgrind") else {
         return;
     };
     if let Some(said) = checked(&program, &[]) {
@@ -97,6 +97,20 @@ fn a_host_in_c_under_valgrind() {
     if let Some(said) = checked(&program, &["heap"]) {
         assert!(said.contains("no leaks are possible"), "{said}");
         println!("a host in C, slices of the heap: no error, no leak");
+    }
+}
+
+#[test]
+fn questions_in_c_under_valgrind() {
+    let Some(program) = c_host("questions.c", "questions") else {
+        return;
+    };
+    let output = run(&mut Command::new(&program));
+    let said = output.as_ref().map(text).unwrap_or_default();
+    assert!(output.is_some_and(|it| it.status.success()), "{said}");
+    assert_eq!(said, "all answers are as they must be\n");
+    if let Some(said) = checked(&program, &[]) {
+        assert!(said.contains("total heap usage: 0 allocs"), "{said}");
     }
 }
 
