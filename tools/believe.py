@@ -27,6 +27,7 @@ ENTRIES = {
     "trail/lib": ["find_trail", "check_trail"],
     "clearing/lib": ["clear_missing"],
     "lighting/lib": ["light_regions"],
+    "reach_table/lib": ["slow_regions"],
     "records/lib": ["analyze_records"],
     "sheet/lib": ["read_sheet"],
     "report/lib": ["report"],
@@ -36,6 +37,7 @@ ENTRIES = {
     "capi/the_way": ["dustroute_trail", "dustroute_check_trail"],
     "capi/clear": ["dustroute_clear"],
     "capi/light": ["dustroute_light"],
+    "capi/region_table": ["dustroute_reach_table"],
 }
 STATEMENTS = [
     ("regions", "Theorems", "RegionLaws"),
@@ -51,6 +53,8 @@ STATEMENTS = [
     ("trail", "Theorems", "CheckingLaws"),
     ("clearing", "Promises", "Partition"),
     ("lighting", "Laws", "LightLaws"),
+    ("reach_table", "Theorems", "TableLaws"),
+    ("reach_table", "Scene", "SceneLaws"),
     ("one_wire", "Grouping", "OneGroupingConnection"),
     ("one_wire", "Ports", "OnePortConnection"),
     ("one_wire", "Ports", "RepeatedPortConnection"),
