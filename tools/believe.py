@@ -38,6 +38,7 @@ ENTRIES = {
     "capi/light": ["dustroute_light"],
 }
 STATEMENTS = [
+    ("lists", "Places", "PlacesLaws"),
     ("regions", "Theorems", "RegionLaws"),
     ("liveness", "Demand", "RegionsOfScene"),
     ("inputs", "Same", "SameConnections"),

@@ -1,8 +1,7 @@
 -- The table in which each id's list place is settled (`PlacesOfIds`), beside the sorted keys of the components (`IdTable`).
---     settled_places        the table of ids of components of which none repeats an id is such a table
---     places_table          such a table is the table of ids
---     places_unrepeated     and none of the components repeats an id
---     places_laws           all that is said of it
+--     settled_places        where no id is repeated, the table of ids is such a table
+--     places_table          and such a table is the table of ids
+--     places_laws           what it says of an id, and that none is repeated
 -- Assumes nothing.
 use Rattle.std.specs.Prelude.{Some, None}
 use mathlib.Core.Path.{◌≡◌, refl, sym, ◌∙◌}
@@ -147,9 +146,7 @@ module _ {cs : List ℤ} {keys : List ℕ} (p : PlacesOfIds cs keys) where
 
 pub places_laws : (cs : List ℤ) (keys : List ℕ) → PlacesLaws cs keys
 places_laws cs keys = record {
-  settled = settled_places;
-  sorted = places_table;
-  unrepeated = places_unrepeated;
   found = places_found;
   missing = places_missing;
+  unrepeated = places_unrepeated;
 }
