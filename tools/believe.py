@@ -40,6 +40,7 @@ ENTRIES = {
     "capi/region_table": ["dustroute_reach_table"],
 }
 STATEMENTS = [
+    ("lists", "Places", "PlacesLaws"),
     ("regions", "Theorems", "RegionLaws"),
     ("liveness", "Demand", "RegionsOfScene"),
     ("inputs", "Same", "SameConnections"),

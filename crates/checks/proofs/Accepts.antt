@@ -3,12 +3,14 @@
 --     whole_few, whole_all                 the list is within its limit and of whole records
 --     lengths_accept, ranges_accept        the lists are within their limits and ranges
 --     scene_accept                         1 to 5 accept
+--     settled                              4 and 5 accept: each id's list place is settled
 --     grouping_parts, liveness_parts       the chains of checks, in the parts in which the code makes them
 -- Assumes nothing.
 use Rattle.lists.specs.declared.Fault.{Fault}
 use Rattle.lists.specs.declared.Section.{Section}
-use Rattle.std.specs.Prelude.{Option, Some, None, Ok}
-use mathlib.Core.Path.{◌≡◌, refl}
+use Rattle.std.specs.Prelude.{⊤, Option, Some, None, Result, Ok}
+use Rattle.lists.specs.declared.Refusal.{Refusal}
+use mathlib.Core.Path.{◌≡◌, refl, sym, ◌∙◌}
 use mathlib.Core.Bool.{Bool, true, false, not, cond, ◌||◌}
 use mathlib.Core.List.{List}
 use Prim.Native.Nat.{ℕ, ◌/◌, ◌%◌, ◌≤◌, min}
@@ -22,7 +24,9 @@ use Rattle.lists.specs.Ranges.{first_out_of_range, component_low, component_high
 use Rattle.lists.specs.Order.{first_not_ascending, component_order, connection_order}
 use Rattle.lists.specs.Ids.{first_repeated, first_end_missing}
 use Rattle.checks.specs.Refusals.{refuse, ◌or_else◌, not_whole, too_short, grouping_lists, liveness_lists}
-use Rattle.checks.specs.Checks.{lengths_of, ranges_of, order_of, scene_of}
+use Rattle.checks.specs.Checks.{lengths_of, ranges_of, order_of, scene_of, Ordered}
+use Rattle.lists.specs.Places.{PlacesOfIds}
+use Rattle.lists.proofs.Places.{settled_places}
 use Rattle.checks.proofs.Chain.{both_accept, or_else_assoc}
 use Rattle.lists.specs.Within.{Components}
 use Rattle.lists.proofs.Fields.{within}
@@ -145,3 +149,9 @@ scene_accept cs width connections found fs enough e =
       ascending = refuse_none Fault.UnsortedComponents (Some Section.Components) _ order.0;
       once = refuse_none Fault.RepeatedId (Some Section.Components) _ order.1;
     }
+
+-- where 4 and 5 accept, each id's list place is settled in the table of ids
+pub settled : {cs : List ℤ} {keys : List ℕ} {r : Result ⊤ Refusal} → Ordered cs keys r → r ≡ Ok tt → PlacesOfIds cs keys
+settled {cs} ordered accepted =
+    let order = both_accept (refuse Fault.UnsortedComponents (Some Section.Components) (first_not_ascending component_order component_width cs)) (refuse Fault.RepeatedId (Some Section.Components) (first_repeated cs)) (sym ordered.answer ∙ accepted) in
+    settled_places ordered.table (refuse_none Fault.RepeatedId (Some Section.Components) _ order.1)

@@ -34,4 +34,5 @@ pub stopped : {x : Result ⊤ Refusal} (y g : Result ⊤ Refusal) {cs : List ℤ
 stopped y g s back parts = record {
   answer = stops (back ∙ s.answer) back y ∙ parts;
   table = λ e. absurd (refused_not (sym back ∙ e));
+  places = λ e. absurd (refused_not (sym back ∙ e));
 }

@@ -1,5 +1,5 @@
--- What the functions that check the lists answer, in the parts in which they do it, and what they leave for the work: the table of ids, and
--- the ends of port connections.
+-- What the functions that check the lists answer, in the parts in which they do it, and what they leave for the work: the table of ids, each
+-- id's list place settled in it, and the ends of port connections.
 -- Assumes nothing: these are definitions.
 use Rattle.lists.specs.declared.Fault.{Fault}
 use Rattle.lists.specs.declared.Section.{Section}
@@ -12,6 +12,7 @@ use Rattle.lists.specs.Records.{component_count}
 use Rattle.lists.specs.Ranges.{first_out_of_range, component_low, component_high, frontier_low, frontier_high}
 use Rattle.lists.specs.Order.{first_not_ascending, component_order}
 use Rattle.lists.specs.Ids.{first_repeated, IdTable}
+use Rattle.lists.specs.Places.{PlacesOfIds}
 use Rattle.lists.specs.Ends.{SettledEnds}
 use Rattle.checks.specs.Refusals.{refuse, ◌or_else◌, not_whole, too_short}
 
@@ -46,10 +47,11 @@ pub record Ordered (cs : List ℤ) (keys : List ℕ) (r : Result ⊤ Refusal) : 
   pub answer : r ≡ order_of cs
   pub table : IdTable cs keys
 
--- the answer is that of the checks; where they accept, the keys begin with the table of ids
+-- the answer is that of the checks; where they accept, the keys begin with the table of ids, which settles each id's list place
 pub record CheckedBy (checks : Result ⊤ Refusal) (cs : List ℤ) (keys : List ℕ) (r : Result ⊤ Refusal) : Type 0 where
   pub answer : r ≡ checks
   pub table : r ≡ Ok tt → IdTable cs (take (component_count cs) keys)
+  pub places : r ≡ Ok tt → PlacesOfIds cs (take (component_count cs) keys)
 
 -- and so are the ends of the port connections settled
 pub record LivenessChecked (checks : Result ⊤ Refusal) (cs ps : List ℤ) (keys sources sinks : List ℕ) (r : Result ⊤ Refusal) : Type 0 where

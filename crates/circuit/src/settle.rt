@@ -1,8 +1,9 @@
-// The places of each connection's ends are looked up once, and joined in both forests.
+// The places of each connection's ends are looked up once, and joined in both forests. Each id's place is settled before, in a table: of a
+// scene these functions are handed that table and the connections, and nothing else.
 ghost use Rattle.std.specs.Prelude.{Option, Some};
 ghost use Rattle.std.specs.Prelude.{◌≡◌, cond, ℕ, List, ◌≤◌, ◌<◌, leb, length, ℤ};
 ghost use Rattle.lists.specs.Limits.{component_limit};
-ghost use Rattle.lists.specs.Ids.{IdTable, IsIdTable};
+ghost use Rattle.lists.specs.Places.{PlacesOfIds, IsPlacesOfIds};
 ghost use Rattle.circuit.specs.Forest.{unite_all};
 ghost use Rattle.circuit.specs.Topology.{GroupedBy, join_of, joins_of, net_kinds, fragment_kinds};
 
@@ -55,17 +56,17 @@ fn join_both(
     }
 }
 
-// Joins the ends of each connection, in order. Each end is looked up once.
+// Joins the ends of each connection, in order. Each end is looked up once, by hints that are made of the table alone.
 fn join_all(
     keys: &[u64],
     connections: ConnectionList,
     nets: &mut UnionFind,
     fragments: &mut UnionFind,
 )
-    requires id_table { IsIdTable keys.now × (length keys.now ≤ component_limit) }
-    ensures nets { (cs : List ℤ) → IdTable cs keys.now →
+    requires places { IsPlacesOfIds keys.now × (length keys.now ≤ component_limit) }
+    ensures nets { (cs : List ℤ) → PlacesOfIds cs keys.now →
         nets.new ≡ unite_all nets.old (joins_of cs connections.entry.numbers.now net_kinds) }
-    ensures fragments { (cs : List ℤ) → IdTable cs keys.now →
+    ensures fragments { (cs : List ℤ) → PlacesOfIds cs keys.now →
         fragments.new ≡ unite_all fragments.old (joins_of cs connections.entry.numbers.now fragment_kinds) }
 {
     let mut hints = [[0u16; 2]; SLOTS];
@@ -77,17 +78,17 @@ fn join_all(
     }
 }
 
-// The nets and fragments of an accepted scene, whose table of ids is `keys`.
+// The nets and fragments of every accepted scene whose places of ids are `keys`.
 pub fn group(
     keys: &[u64],
     connections: ConnectionList,
     nets: &mut [u64],
     fragments: &mut [u64],
 ) -> Counts
-    requires id_table { IsIdTable keys.now }
+    requires places { IsPlacesOfIds keys.now }
     requires keys_len_bound { (length keys.now ≤ component_limit)
         × ((length keys.now ≤ length nets.old) × (length keys.now ≤ length fragments.old)) }
-    ensures { (cs : List ℤ) → IdTable cs keys.now →
+    ensures { (cs : List ℤ) → PlacesOfIds cs keys.now →
         GroupedBy cs connections.entry.numbers.now nets.old nets.new fragments.old fragments.new result }
 {
     let n = keys.len();

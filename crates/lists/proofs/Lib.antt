@@ -6,4 +6,5 @@ pub mod Fields
 pub mod Ordering
 pub mod Table
 pub mod Members
+pub mod Places
 pub mod EndLaws

@@ -149,7 +149,7 @@ keys_tally p cs (suc n) =
     omega (arith, tally_append p (keys_up_to cs n) (id_key cs n ∷ []), keys_tally p cs n, one_nat (p (id_key cs n)))
 
 -- two places below the span make two keys
-keys_distinct : (cs : List ℤ) (n : ℕ) → n ≤ span → Distinct (keys_up_to cs n)
+pub keys_distinct : (cs : List ℤ) (n : ℕ) → n ≤ span → Distinct (keys_up_to cs n)
 keys_distinct cs n few = record {
   once = λ v. rw (keys_tally (eqb v) cs n) (count_once (λ k. eqb v (id_key cs k)) n (λ i j l h p q.
       let a = eqb-true v (id_key cs i) p in
@@ -181,7 +181,7 @@ module _ {cs : List ℤ} {keys : List ℕ} (t : IdTable cs keys) where
 
   module _ (k : ℕ) (h : k < length keys) where
     -- where no id is repeated, the keys before key k have smaller ids
-    before_key : first_repeated cs ≡ None → (j : ℕ) → j < k → get_or keys j 0 < get_or keys k 0 / span * span
+    pub before_key : first_repeated cs ≡ None → (j : ℕ) → j < k → get_or keys j 0 < get_or keys k 0 / span * span
     before_key once j l =
         let g : j < length keys = omega arith in
         let less = table_strict.at j k l h in

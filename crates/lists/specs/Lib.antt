@@ -8,6 +8,7 @@ pub mod Ranges
 pub mod Within
 pub mod Order
 pub mod Ids
+pub mod Places
 pub mod Ends
 pub mod Slices
 pub mod Kinds

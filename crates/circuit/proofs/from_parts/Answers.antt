@@ -1,4 +1,4 @@
--- `circuit::from_parts` meets its contract: the checks first, and where they accept the groups, by the table of ids that they left.
+-- `circuit::from_parts` meets its contract: the checks first, and where they accept the groups, by the places of ids that they left.
 -- Assumes nothing.
 use Rattle.std.specs.Prelude.{Result, Ok, Err}
 use Rattle.std.proofs.Common.{rules}
@@ -77,10 +77,10 @@ group-requires c =
     let now = (goal.at.group-requires c).After-grouping_lists in
     let n = (long now c.in_ok-grouping_lists.was).1 in
     let s = scene now c.in_ok-grouping_lists.was in
-    let places = room now c.in_ok-grouping_lists.was in
-    let table = c.grouping_lists.ensures.table c.in_ok-grouping_lists.was in record {
-      id_table = (c.args.components.now, table);
-      keys_len_bound = (omega (arith, n, s.components.few), (omega (arith, n, places), omega (arith, n, places)));
+    let wide = room now c.in_ok-grouping_lists.was in
+    let settled = c.grouping_lists.ensures.places c.in_ok-grouping_lists.was in record {
+      places = (c.args.components.now, settled);
+      keys_len_bound = (omega (arith, n, s.components.few), (omega (arith, n, wide), omega (arith, n, wide)));
     }
 
 pub returns-in_err-grouping_lists : goal.returns-in_err-grouping_lists
@@ -97,8 +97,8 @@ shape_of-fragments c = c.group.auto.fragments
 
 pub returns : goal.returns
 returns c =
-    let table = c.grouping_lists.ensures.table c.in_ok-grouping_lists.was in
-    let g = c.group.ensures c.args.components.now table in
+    let settled = c.grouping_lists.ensures.places c.in_ok-grouping_lists.was in
+    let g = c.group.ensures c.args.components.now settled in
     let e = accepted (goal.at.returns c).After-grouping_lists c.in_ok-grouping_lists.was in
     record {
       answer = rw e (same_counts g.net_count_lem g.fragment_count_lem);

@@ -25,4 +25,5 @@ returns c =
     record {
       answer = goes first c.in_ok-refuse_scene.was last ∙ grouping_parts a.components.now a.connections.now a.frontiers.now a.enough;
       table = λ e. c.refuse_scene.ensures.table c.in_ok-refuse_scene.was;
+      places = λ e. c.refuse_scene.ensures.places c.in_ok-refuse_scene.was;
     }

@@ -76,6 +76,7 @@ returns c =
             goes (first (goal.at.returns c).In_ok-refuse_scene) c.in_ok-refuse_scene.was last
             ∙ liveness_parts a.components.now a.ports.now a.frontiers.now a.enough;
         table = λ e. table;
+        places = λ e. c.refuse_scene.ensures.places c.in_ok-refuse_scene.was;
       };
       ends = λ e. ends;
     }

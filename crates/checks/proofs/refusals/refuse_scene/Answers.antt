@@ -1,11 +1,12 @@
--- `checks::refusals::refuse_scene` meets its contract: where lengths and ranges pass, the components have their table of ids.
+-- `checks::refusals::refuse_scene` meets its contract: where lengths and ranges pass, the components have their table of ids, and where no id is
+-- repeated each id's list place is settled in it.
 -- Assumes nothing.
 use mathlib.Core.Path.{sym, ◌∙◌}
 use native.Mathlib.Omega.{arith}
 use lib.Seq.{length-take-le, take_at}
 use Rattle.lists.specs.Within.{Components}
 use Rattle.checks.proofs.Chain.{goes}
-use Rattle.checks.proofs.Accepts.{components_pass}
+use Rattle.checks.proofs.Accepts.{components_pass, settled}
 use Rattle.checks.proofs.refusals.refuse_scene.Goals as goal
 use Rattle.checks.proofs.refusals.refuse_scene.Goals.{In_ok-refuse_ranges}
 
@@ -39,4 +40,5 @@ returns c =
           goes (goes c.refuse_lengths.ensures c.in_ok-refuse_lengths.was c.refuse_ranges.ensures) c.in_ok-refuse_ranges.was
           c.refuse_components.ensures.answer;
       table = λ e. rw (take_at _ _ _ long) c.refuse_components.ensures.table;
+      places = λ e. rw (take_at _ _ _ long) (settled c.refuse_components.ensures e);
     }

@@ -7,7 +7,8 @@ use native.Mathlib.Omega.{arith}
 use Prim.Native.Nat.{◌<◌}
 use lib.IntN.{ℤ}
 use Rattle.lists.specs.Records.{component_count}
-use Rattle.lists.proofs.Table.{place_below_lem, table_long}
+use Rattle.lists.proofs.Table.{place_below_lem}
+use Rattle.lists.proofs.Places.{places_table}
 use Rattle.circuit.specs.Forest.{unite_all}
 use Rattle.circuit.specs.Topology.{joins}
 use Rattle.circuit.proofs.Settling.{unite_then}
@@ -15,25 +16,25 @@ use Rattle.circuit.proofs.settle.join_all.Goals as goal
 
 pub loop-k-init : goal.loop-k-init
 unfolding joins unite_all
-loop-k-init c = (λ cs t. refl, λ cs t. refl)
+loop-k-init c = (λ cs p. refl, λ cs p. refl)
 
 pub join_both-requires-clause-source : goal.join_both-requires-clause-source
 join_both-requires-clause-source c p e =
-    let cs : List ℤ = c.requires.id_table.0.0 in
-    let t = c.requires.id_table.0.1 in
+    let cs : List ℤ = c.requires.places.0.0 in
+    let t = places_table c.requires.places.0.1 in
     let below : p < component_count cs = place_below_lem cs _ p (sym (c.place_near-source.ensures cs t) ∙ e) in
-    omega (arith, below, table_long t, c.requires.id_table.1)
+    omega (arith, below, c.requires.places.0.1.long, c.requires.places.1)
 
 pub join_both-requires-clause-sink : goal.join_both-requires-clause-sink
 join_both-requires-clause-sink c p e =
-    let cs : List ℤ = c.requires.id_table.0.0 in
-    let t = c.requires.id_table.0.1 in
+    let cs : List ℤ = c.requires.places.0.0 in
+    let t = places_table c.requires.places.0.1 in
     let below : p < component_count cs = place_below_lem cs _ p (sym (c.place_near-sink.ensures cs t) ∙ e) in
-    omega (arith, below, table_long t, c.requires.id_table.1)
+    omega (arith, below, c.requires.places.0.1.long, c.requires.places.1)
 
 pub loop-k-preserved : goal.loop-k-preserved
 unfolding joins
 loop-k-preserved c = (
-  λ cs t. rw (add-one, unite_then, ← c.loop-k.invariant.0 cs t) (rw (c.kind.ensures, c.place_near-source.ensures cs t, c.source.ensures.0, c.place_near-sink.ensures cs t, c.sink.ensures.0) at c.join_both.ensures.nets),
-  λ cs t. rw (add-one, unite_then, ← c.loop-k.invariant.1 cs t) (rw (c.kind.ensures, c.place_near-source.ensures cs t, c.source.ensures.0, c.place_near-sink.ensures cs t, c.sink.ensures.0) at c.join_both.ensures.fragments),
+  λ cs p. let t = places_table p in rw (add-one, unite_then, ← c.loop-k.invariant.0 cs p) (rw (c.kind.ensures, c.place_near-source.ensures cs t, c.source.ensures.0, c.place_near-sink.ensures cs t, c.sink.ensures.0) at c.join_both.ensures.nets),
+  λ cs p. let t = places_table p in rw (add-one, unite_then, ← c.loop-k.invariant.1 cs p) (rw (c.kind.ensures, c.place_near-source.ensures cs t, c.source.ensures.0, c.place_near-sink.ensures cs t, c.sink.ensures.0) at c.join_both.ensures.fragments),
 )

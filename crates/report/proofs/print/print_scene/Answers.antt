@@ -7,14 +7,16 @@ use native.Mathlib.Omega.{arith}
 use lib.IntN.{ℤ, pos}
 use lib.ListN.{length, take, length-map}
 use lib.Seq.{length-take-le}
+use Rattle.lists.specs.Places.{PlacesOfIds}
 use Rattle.lists.proofs.Table.{table_long}
+use Rattle.lists.proofs.Places.{settled_places}
 use Rattle.circuit.specs.Topology.{GroupedBy}
 use Rattle.circuit.specs.declared.Counts.{Counts}
 use Rattle.scene.specs.Kept.{kept_rows, kept_count}
 use Rattle.scene.specs.Answer.{AllKept}
 use Rattle.scene.proofs.KeptEnds.{kept_whole}
 use Rattle.report.specs.Report.{kept_list}
-use Rattle.report.specs.Printing.{Gathered}
+use Rattle.report.specs.Printing.{Accepts, Gathered}
 use Rattle.report.proofs.Scenes.{sheet_scene, front_is, front_long}
 use Rattle.report.proofs.print.print_scene.Goals as goal
 
@@ -24,13 +26,17 @@ invariant_of-listed c = record { within = (sheet_scene _ _ _ c.requires.accepted
 pub invariant_of-connected : goal.invariant_of-connected
 invariant_of-connected c = record { within = (sheet_scene _ _ _ c.requires.accepted).connections }
 
+-- no id is repeated, and so the table settles each id's list place
+settled : {cs ps fs : List ℤ} {keys : List ℕ} → Accepts cs ps fs keys → PlacesOfIds cs keys
+settled a = settled_places a.table (sheet_scene _ _ _ a.accepted).scene.once
+
 pub group-requires : goal.group-requires
 group-requires c =
     let scene = sheet_scene _ _ _ c.requires.accepted in
     let n = table_long c.requires.table in
     let few = scene.components.few in
     record {
-      id_table = (c.args.scene.now, c.requires.table);
+      places = (c.args.scene.now, settled c.requires);
       keys_len_bound = (omega arith, (omega arith, omega arith));
     }
 
@@ -71,9 +77,9 @@ gathered {cs} {ps} {out} {n = n} {nets = nets} {fragments = fragments} k g = rec
 
 pub print_kept-requires : goal.print_kept-requires
 print_kept-requires c =
-    (c.args.connections.now, (c.requires, gathered c.keep_all-count.ensures (c.group.ensures c.args.scene.now c.requires.table)))
+    (c.args.connections.now, (c.requires, gathered c.keep_all-count.ensures (c.group.ensures c.args.scene.now (settled c.requires))))
 
 pub returns : goal.returns
 returns c =
     c.print_kept.ensures c.args.connections.now c.requires
-    (gathered c.keep_all-count.ensures (c.group.ensures c.args.scene.now c.requires.table))
+    (gathered c.keep_all-count.ensures (c.group.ensures c.args.scene.now (settled c.requires)))
