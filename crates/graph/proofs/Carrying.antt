@@ -8,27 +8,27 @@ use Prim.Native.Nat.{ℕ, ◌+◌, ◌≤◌, ◌<◌}
 use native.Mathlib.Omega.{arith}
 use lib.ListN.{length, get_or, set}
 use lib.Seq.{get_or-set_same, get_or-set_other}
-use Rattle.tables.specs.Laws.{same?, member_at}
+use Rattle.tables.specs.Laws.{same?}
 use Rattle.regions.specs.Graph.{Edges, Within, Reach, here, step, at, marked}
 use Rattle.regions.specs.Kosaraju.{region_of}
 use Rattle.regions.specs.Theorems.{RegionLaws}
 use Rattle.regions.proofs.Laws.Walks.{Reach·trans}
 use Rattle.regions.proofs.Theorems.{region_laws}
 use Rattle.graph.specs.Rows.{begin_of, end_of, row_of, Rows}
-use Rattle.graph.specs.Marks.{Carried, ByRegion, Handed, Handing}
+use Rattle.graph.specs.Carried.{Carried}
+use Rattle.graph.specs.inner.Marks.{ByRegion, Sizes, Handed, Labels}
 use Rattle.graph.specs.inner.Layout.{row_at, many, start_of, Laid}
 use Rattle.graph.proofs.Counting.{start_suc, start_all, many_same, least_lt}
 use Rattle.graph.proofs.Built.{begin_is, pairs_to, pairs_from, numbers_rise}
-use Rattle.graph.proofs.Rows.{cut_length, cut_at, row_member, neighbour_low}
+use Rattle.graph.proofs.Rows.{at_row, row_low, in_row}
 
 -- ---- hand_on
 
-pub handed_none : (next labels : List ℕ) (r from : ℕ) (marks : List Bool) → Handed next labels r from from marks marks
-handed_none next labels r from marks =
-    record { stays = λ q m. m; only = λ q m. inl m; handed = λ p a b. absurd (omega arith) }
+pub handed_none : (nodes labels : List ℕ) (r : ℕ) (marks : List Bool) → Handed nodes labels 0 r marks marks
+handed_none nodes labels r marks = record { stays = λ q m. m; only = λ q m. inl m; handed = λ p a. absurd (omega arith) }
 
-module _ {next labels : List ℕ} {r from to : ℕ} {before after : List Bool} (h : Handed next labels r from to before after) (le : from ≤ to)
-    (t : ℕ) (is : t ≡ at labels (at next to)) (low : t < length after) where
+module _ {nodes labels : List ℕ} {i r : ℕ} {before after : List Bool} (h : Handed nodes labels i r before after)
+    (t : ℕ) (is : t ≡ at labels (at nodes i)) (low : t < length after) where
   abbrev stored : List Bool
   stored = set after t (marked after t || marked after r)
 
@@ -53,11 +53,11 @@ module _ {next labels : List ℕ} {r from to : ℕ} {before after : List Bool} (
   from_either false y e = inr e
 
   Source : ℕ → Type 0
-  Source q = (marked before q ≡ true) ⊎ ((marked before r ≡ true) × ((p : ℕ) × (from ≤ p) × (p < to + 1) × (at labels (at next p) ≡ q)))
+  Source q = (marked before q ≡ true) ⊎ ((marked before r ≡ true) × ((p : ℕ) × (p < i + 1) × (at labels (at nodes p) ≡ q)))
 
   wider : (q : ℕ) → marked after q ≡ true → Source q
   unfolding Source
-  wider q m = ⊎_elim (λ e. inl e) (λ e. inr (e.0, (e.1.0, e.1.1, (let w = e.1.2 in omega arith), e.1.3))) (h.only q m)
+  wider q m = ⊎_elim (λ e. inl e) (λ e. inr (e.0, (e.1.0, (let w = e.1.1 in omega arith), e.1.2))) (h.only q m)
 
   source : (q : ℕ) → marked stored q ≡ true → Source q
   unfolding Source wider
@@ -67,47 +67,47 @@ module _ {next labels : List ℕ} {r from to : ℕ} {before after : List Bool} (
       let here = sym (get_or-set_same after t (marked after t || marked after r) false low) ∙ subst (λ (k : ℕ). marked stored k ≡ true) e m in
       ⊎_elim
       (λ x. wider q (subst (λ (k : ℕ). marked after k ≡ true) (sym e) x))
-      (λ y. inr (own y, (to, le, omega arith, sym is ∙ sym e)))
+      (λ y. inr (own y, (i, omega arith, sym is ∙ sym e)))
       (from_either (marked after t) (marked after r) here))
       (λ ne. wider q (sym (get_or-set_other after t q (marked after t || marked after r) false ne) ∙ m))
       (same? q t)
 
-  pub handed_more : Handed next labels r from (to + 1) before stored
+  pub handed_more : Handed nodes labels (i + 1) r before stored
   unfolding Source
   handed_more =
       record {
         stays = λ q m. old q (h.stays q m);
         only = source;
-        handed = λ p a b m.
+        handed = λ p a m.
             ⊎_elim
-            (λ e. subst (λ (k : ℕ). marked stored (at labels (at next k)) ≡ true) (sym e) (subst (λ (k : ℕ). marked stored k ≡ true) is (new (h.stays r m))))
-            (λ ne. old (at labels (at next p)) (h.handed p a (omega arith) m))
-            (same? p to);
+            (λ e. subst (λ (k : ℕ). marked stored (at labels (at nodes k)) ≡ true) (sym e) (subst (λ (k : ℕ). marked stored k ≡ true) is (new (h.stays r m))))
+            (λ ne. old (at labels (at nodes p)) (h.handed p (omega arith) m))
+            (same? p i);
       }
 
-pub handed_as : {next labels : List ℕ} {r from to r' from' to' : ℕ} {before after : List Bool} → r ≡ r' → from ≡ from' → to ≡ to'
-    → Handed next labels r from to before after → Handed next labels r' from' to' before after
-handed_as {next} {labels} {before = before} {after} a b c h = rw (← a, ← b, ← c) h
+pub handed_all : {nodes labels : List ℕ} {i r : ℕ} {before after : List Bool} → Handed nodes labels i r before after → i ≤ length nodes → length nodes ≤ i
+    → Handed nodes labels (length nodes) r before after
+handed_all {nodes} {labels} {i} {r} {before} {after} h le ge =
+    let whole : i ≡ length nodes = omega arith in subst (λ (k : ℕ). Handed nodes labels k r before after) whole h
+
+pub handed_as : {row row' labels labels' : List ℕ} {r r' : ℕ} {before after : List Bool} → row ≡ row' → labels ≡ labels' → r ≡ r'
+    → Handed row labels (length row) r before after → Handed row' labels' (length row') r' before after
+handed_as {before = before} {after} a b c h = rw (← a, ← b, ← c) h
 
 -- ---- carry_marks
 
-module _ {n : ℕ} {edge : Edges} {ends next : List ℕ} (r : Rows n edge ends next) where
-  -- the place of a neighbour
-  place_of : (x y : ℕ) → x < n → edge x y ≡ true → (p : ℕ) × (begin_of ends x ≤ p) × (p < end_of ends x) × (at next p ≡ y)
-  place_of x y lt e =
-      let (i, h, is) = member_at y (row_of ends next x) (r.rows.holds x lt y ∙ e) in
-      let len = cut_length next (begin_of ends x) (end_of ends x) (r.rows.inside x lt) in
-      (begin_of ends x + i, omega arith, omega arith, sym (cut_at next (begin_of ends x) (end_of ends x) i (omega arith)) ∙ is)
+-- each node has a label
+pub labels_long : {n : ℕ} {edge : Edges} {labels : List ℕ} → Within n edge → labels ≡ region_of n edge → length labels ≡ n
+labels_long {n} {edge} within is = ap length is ∙ (region_laws n edge within).long
 
-  pub handing : {labels : List ℕ} (x regions : ℕ) → x < n → length labels ≡ n → ((y : ℕ) → y < n → at labels y < regions)
-      → Handing next labels (begin_of ends x) (end_of ends x) regions
-  handing x regions lt long low =
-      record {
-        ordered = r.rows.ordered x lt;
-        inside = r.rows.inside x lt;
-        nodes = λ p a b. let l = neighbour_low r.rows x p lt a b in omega arith;
-        below = λ p a b. low (at next p) (neighbour_low r.rows x p lt a b);
-      }
+-- and so have those of a row
+pub row_labels : {n : ℕ} {edge : Edges} {ends next : List ℕ} {labels : List ℕ} (r : Rows n edge ends next) (x regions : ℕ) → x < n → length labels ≡ n
+    → ((y : ℕ) → y < n → at labels y < regions) → Labels (row_of ends next x) labels regions
+row_labels {ends = ends} {next} r x regions lt long low =
+    record {
+      nodes_below = λ p h. let l = row_low r x lt p h in omega arith;
+      labels_below = λ p h. low (at (row_of ends next x) p) (row_low r x lt p h);
+    }
 
 -- In the loop: marks stay, each is due to one that was there, and the edges from the first i nodes are dealt with
 pub record Carrying (n : ℕ) (edge : Edges) (nodes : List ℕ) (before after : List Bool) (i : ℕ) : Type 0 where
@@ -127,12 +127,16 @@ carrying_none n edge nodes marks =
 
 module _ {n : ℕ} {edge : Edges} {ends next nodes : List ℕ} {before after after' : List Bool} {i : ℕ}
     (r : Rows n edge ends next) (by : ByRegion n (region_of n edge) nodes) (c : Carrying n edge nodes before after i) (lt : i < n)
-    (h : Handed next (region_of n edge) (at (region_of n edge) (at nodes i)) (begin_of ends (at nodes i)) (end_of ends (at nodes i)) after after') where
+    (h : Handed (row_of ends next (at nodes i)) (region_of n edge) (length (row_of ends next (at nodes i))) (at (region_of n edge) (at nodes i)) after after') where
   abbrev region : ℕ → ℕ
   region a = at (region_of n edge) a
 
   abbrev x : ℕ
   x = at nodes i
+
+  -- the neighbour at a place of its row
+  abbrev near : ℕ → ℕ
+  near p = at (row_of ends next x) p
 
   laws : RegionLaws n edge
   laws = region_laws n edge r.rows.within
@@ -150,8 +154,8 @@ module _ {n : ℕ} {edge : Edges} {ends next nodes : List ℕ} {before after aft
       ⊎_elim
       (λ e. e)
       (λ e.
-      let (p, a, b, is) = e.1 in
-      let up = laws.rises x (at next p) (row_member r.rows x p x_low a b) in
+      let (p, a, is) = e.1 in
+      let up = laws.rises x (near p) (at_row r x x_low p a) in
       let down = by.rise j i (omega arith) lt in
       let same : region (at nodes j) ≡ region x = omega arith in
       subst (λ (k : ℕ). marked after k ≡ true) (sym same) e.0)
@@ -163,11 +167,10 @@ module _ {n : ℕ} {edge : Edges} {ends next nodes : List ℕ} {before after aft
       ⊎_elim
       (λ w. c.sound q w b low e)
       (λ w.
-      let (p, from, to, is) = w.1 in
-      let there = row_member r.rows x p x_low from to in
+      let (p, a, is) = w.1 in
       let (s, sl, sm, path) = c.sound (region x) w.0 x x_low refl in
-      let both = (laws.same (at next p) b (neighbour_low r.rows x p x_low from to) low).0 (is ∙ sym e) in
-      (s, sl, sm, Reach·trans path (step there both.0)))
+      let both = (laws.same (near p) b (row_low r x x_low p a) low).0 (is ∙ sym e) in
+      (s, sl, sm, Reach·trans path (step (at_row r x x_low p a) both.0)))
       (h.only q m)
 
   pub carrying_more : Carrying n edge nodes before after' (i + 1)
@@ -180,8 +183,8 @@ module _ {n : ℕ} {edge : Edges} {ends next nodes : List ℕ} {before after aft
             (λ is.
             let e' = subst (λ (k : ℕ). edge (at nodes k) y ≡ true) is e in
             let m' = subst (λ (k : ℕ). marked after' (region (at nodes k)) ≡ true) is m in
-            let (p, a, b, at_y) = place_of r x y x_low e' in
-            subst (λ (k : ℕ). marked after' (region k) ≡ true) at_y (h.handed p a b (own_mark m')))
+            let (p, a, at_y) = in_row r x x_low y e' in
+            subst (λ (k : ℕ). marked after' (region k) ≡ true) at_y (h.handed p a (own_mark m')))
             (λ ne. h.stays (region y) (c.closed j (omega arith) y e (mark_before j (omega arith) m)))
             (same? j i);
       }
@@ -229,8 +232,16 @@ module _ (labels numbers : List ℕ) {n count : ℕ} {ends nodes sorted : List �
       }
 
   -- a region's nodes are as many as have its number
-  pub sizes : (r : ℕ) → r < count → end_of ends r ≡ begin_of ends r + many (at labels) r n
+  sizes : (r : ℕ) → r < count → end_of ends r ≡ begin_of ends r + many (at labels) r n
   sizes r h =
       l.ends_are r h ∙ start_suc (row_at count labels) n r
       ∙ ap₂ (λ (x : ℕ) (y : ℕ). x + y) (sym (begin_is l r (omega arith)))
       (many_same (row_at count labels) (at labels) r n (λ k q. least_lt (at labels k) count (low k q)))
+
+  pub region_sizes : n ≡ length labels → Sizes labels ends
+  region_sizes whole =
+      record {
+        size = λ r h.
+            let nodes = l.nodes in
+            subst (λ (k : ℕ). end_of ends r ≡ begin_of ends r + many (at labels) r k) whole (sizes r (omega arith));
+      }

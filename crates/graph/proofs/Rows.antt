@@ -2,6 +2,7 @@
 -- the row is a walk along the neighbours.
 --     cut_end, cut_cons, cut_length, cut_at     what stands from a place on
 --     row_member, neighbour_low                 a place of a row holds a neighbour, a node
+--     at_row, row_low, in_row                   the neighbours of a node, by their place in its row
 --     edges_are, rows_own, own_rows             the graph that rows stand for
 --     row_each                                  a walk along a row
 -- Assumes nothing.
@@ -16,7 +17,7 @@ use lib.Dec.{ltb}
 use lib.ListN.{length, get_or, take, drop, length-drop}
 use lib.Seq.{get_or-drop, get_or-take, length-take-le, drop-cons}
 use Rattle.tables.specs.Order.{Ascending, member}
-use Rattle.tables.specs.Laws.{same?, at_member, member_none}
+use Rattle.tables.specs.Laws.{same?, at_member, member_at, member_none}
 use Rattle.regions.specs.Graph.{Edges, flip, range, filter, each, next}
 use Rattle.regions.specs.Search.{Regions}
 use Rattle.graph.specs.Rows.{begin_of, end_of, cut, row_of, Holds, Rows, edges_of}
@@ -75,6 +76,17 @@ module _ {n : ℕ} {edge : Edges} {ends next : List ℕ} (r : Holds n edge ends 
 
 pub rows_own : {n : ℕ} {edge : Edges} {ends next : List ℕ} → Rows n edge ends next → Rows n (edges_of ends next) ends next
 rows_own {n} {edge} {ends} {next} r = subst (λ e. Rows n e ends next) (sym (edges_are r.rows)) r
+
+-- a place of the row itself, and the place of a neighbour
+module _ {n : ℕ} {edge : Edges} {ends next : List ℕ} (r : Rows n edge ends next) (x : ℕ) (lt : x < n) where
+  pub at_row : (p : ℕ) → p < length (row_of ends next x) → edge x (get_or (row_of ends next x) p 0) ≡ true
+  at_row p h = sym (r.rows.holds x lt (get_or (row_of ends next x) p 0)) ∙ at_member (get_or (row_of ends next x) p 0) (row_of ends next x) p h refl
+
+  pub row_low : (p : ℕ) → p < length (row_of ends next x) → get_or (row_of ends next x) p 0 < n
+  row_low p h = (r.rows.within x (get_or (row_of ends next x) p 0) (at_row p h)).1
+
+  pub in_row : (y : ℕ) → edge x y ≡ true → (p : ℕ) × (p < length (row_of ends next x)) × (get_or (row_of ends next x) p 0 ≡ y)
+  in_row y e = member_at y (row_of ends next x) (r.rows.holds x lt y ∙ e)
 
 -- ---- the numbers from one on that pass a test
 

@@ -16,12 +16,12 @@ pub record ByRegion (n : ℕ) (labels nodes : List ℕ) : Type 0 where
 pub record Sizes (labels ends : List ℕ) : Type 0 where
   pub size : (r : ℕ) → r < length ends → end_of ends r ≡ begin_of ends r + many (at labels) r (length labels)
 
--- the mark of region r is handed on to the regions of the nodes
-pub record Handed (nodes labels : List ℕ) (r : ℕ) (before after : List Bool) : Type 0 where
+-- the mark of region r is handed on to the regions of the first `count` nodes
+pub record Handed (nodes labels : List ℕ) (count r : ℕ) (before after : List Bool) : Type 0 where
   pub stays : (q : ℕ) → marked before q ≡ true → marked after q ≡ true
   pub only : (q : ℕ) → marked after q ≡ true
-      → (marked before q ≡ true) ⊎ ((marked before r ≡ true) × ((p : ℕ) × (p < length nodes) × (at labels (at nodes p) ≡ q)))
-  pub handed : (p : ℕ) → p < length nodes → marked before r ≡ true → marked after (at labels (at nodes p)) ≡ true
+      → (marked before q ≡ true) ⊎ ((marked before r ≡ true) × ((p : ℕ) × (p < count) × (at labels (at nodes p) ≡ q)))
+  pub handed : (p : ℕ) → p < count → marked before r ≡ true → marked after (at labels (at nodes p)) ≡ true
 
 -- each node has a label, and it is below a number
 pub record Labels (nodes labels : List ℕ) (regions : ℕ) : Type 0 where
