@@ -1,16 +1,16 @@
 -- The walk back: what `label_from` asks and does, the loop of `label_all` with its invariant `Labelling`, and the two walks of `regions`.
 -- Assumes nothing.
 use mathlib.Core.Path.{◌≡◌, refl, sym, ap, ap₂, ◌∙◌, subst}
-use mathlib.Core.Bool.{Bool, true, false}
+use mathlib.Core.Bool.{Bool, false}
 use mathlib.Core.List.{List, [], ◌∷◌, ◌++◌, reverse, reverse-cons, append-nil, append_assoc}
 use mathlib.Core.Logic.{inl}
 use Prim.Native.Nat.{ℕ, ◌+◌, ◌≤◌, ◌<◌}
 use native.Mathlib.Omega.{arith}
-use lib.ListN.{length, take, replicate, length-replicate, length-append}
+use lib.ListN.{length, replicate, length-replicate, length-append}
 use Rattle.regions.specs.Graph.{Edges, Within, flip, each}
 use Rattle.regions.specs.Kosaraju as Kosaraju
 use Rattle.regions.specs.Kosaraju.{label, unlabelled}
-use Rattle.regions.specs.Search.{fresh, Zeros, Searched, Ordered, labels_of, Labelled, Regions}
+use Rattle.regions.specs.Search.{fresh, Searched, labels_of, Labelled, Regions}
 use Rattle.regions.proofs.Laws.Main as Main
 use Rattle.regions.proofs.Laws.Lists.{◌∈◌, ∈-right}
 use Rattle.regions.proofs.Laws.Loops.{each_append}

@@ -2,19 +2,19 @@
 -- Assumes nothing.
 use mathlib.Core.Path.{◌≡◌, refl, sym, ap, ap₂, ◌∙◌, subst}
 use mathlib.Core.Bool.{Bool, true, false}
-use mathlib.Core.List.{List, [], ◌∷◌}
+use mathlib.Core.List.{List, ◌∷◌}
 use mathlib.Core.Logic.{⊎_elim}
-use Prim.Native.Nat.{ℕ, zero, suc, ◌+◌, ◌*◌, ◌-◌, ◌≤◌, ◌<◌}
+use Prim.Native.Nat.{ℕ, suc, ◌+◌, ◌*◌, ◌-◌, ◌≤◌, ◌<◌}
 use native.Mathlib.Numerals.{add-one}
 use native.Mathlib.Omega.{arith}
 use lib.ListN.{length, get_or, set, take, drop, length-set}
-use lib.Seq.{get_or-set_same, get_or-set_other, take-suc-set, drop-set-lt, drop-drop}
+use lib.Seq.{get_or-set_other, take-suc-set, drop-set-lt, drop-drop}
 use Rattle.tables.specs.Laws.{same?}
 use Rattle.regions.specs.Graph.{Edges, marked}
 use Rattle.regions.specs.Kosaraju.{Walk, push, visit}
 use Rattle.regions.specs.Search.{walk_of, weight, fresh, Zeros, Searched}
 use Rattle.regions.proofs.Again.{visit_old}
-use Rattle.regions.proofs.Frames.{Frame, frame}
+use Rattle.regions.proofs.Frames.{frame}
 use Rattle.regions.proofs.Stack.{weight_mark, zero_set, frames, frames_set, frames_push, work}
 use Rattle.graph.specs.Rows.{begin_of, end_of, Rows}
 use Rattle.graph.specs.inner.Room.{narrow, Room}

@@ -163,12 +163,7 @@ fn paint(labels: &mut [u16], members: &[u16], r: u16)
 }
 
 // The number of regions; `labels` gets the number of each node's. The two graphs have the edges, and the edges turned around.
-pub fn regions(
-    forward: Graph,
-    backward: Graph,
-    labels: &mut [u16],
-    stack: &mut [usize],
-) -> usize
+pub fn regions(forward: Graph, backward: Graph, labels: &mut [u16], stack: &mut [usize]) -> usize
     requires turned { let n = length forward.ends.now in
         Rows n (flip (edges_of forward.ends.now forward.next.now)) backward.ends.now backward.next.now }
     requires nodes { let n = length forward.ends.now in (n ≤ component_limit) × (length labels.old ≡ n) }

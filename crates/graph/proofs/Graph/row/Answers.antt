@@ -1,7 +1,4 @@
 -- `graph::Graph::row` meets its contract. Assumes nothing.
-use mathlib.Core.Path.{ap₂, ap}
-use lib.ListN.{take, drop}
-use Prim.Native.Nat.{◌-◌}
 use Rattle.graph.specs.Rows.{cut}
 use Rattle.graph.proofs.Graph.row.Goals as goal
 

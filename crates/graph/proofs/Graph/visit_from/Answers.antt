@@ -1,8 +1,5 @@
 -- Answers for the goals that the search leaves.
 use native.Mathlib.Omega.{arith}
-use Prim.Native.Nat.{◌<◌}
-use lib.ListN.{length}
-use Rattle.graph.specs.Rows.{end_of}
 use Rattle.graph.proofs.Stack.{low, pass, pass_less, enter, enter_less, leave, leave_less, searched_old, begin, searched}
 use Rattle.graph.proofs.Graph.visit_from.Goals as goal
 

@@ -11,8 +11,7 @@ pub label_all-requires : goal.label_all-requires
 label_all-requires c =
     let turned = c.requires.turned in
     let long = c.requires.nodes.1 in
-    let order = c.finish_order.new.order in
-    (
+    let order = c.finish_order.new.order in (
       order_backward turned (ap (λ (k : ℕ). take k order) long ∙ c.finish_order.ensures.order_is),
       long ∙ sym turned.rows.nodes,
       record {
