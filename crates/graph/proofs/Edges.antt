@@ -1,5 +1,5 @@
--- `linked_is`: the graph of connections by their ends is a graph of tested connections, as `signals` of crate `signals` is, where a connection that
--- passes the test has its members as ends, and one that does not has an end that is no node.
+-- `linked_is`: the graph of connections by their ends is a graph of tested connections, as `signals` of crate `signals` is, where a
+-- connection that passes the test has its members as ends, and one that does not has an end that is no node.
 -- Assumes nothing.
 use mathlib.Core.Path.{◌≡◌, refl, sym, ◌∙◌, fun_ext}
 use mathlib.Core.Bool.{Bool, true, false, ◌&&◌}

@@ -1,4 +1,5 @@
--- The open calls of `visit` as a stack of frames, and what one turn of a walk along rows does to it. No array is spoken of here but the rows.
+-- The open calls of `visit` as a stack of frames, and what one turn of a walk along rows does to it. No array is spoken of here but the
+-- rows.
 -- Assumes nothing.
 use mathlib.Core.Path.{◌≡◌, sym, ap, ◌∙◌}
 use mathlib.Core.Bool.{true, false}

@@ -1,5 +1,5 @@
--- Laws of rows. The row of a node holds its neighbours by rising number, some repeated; what is done at a node twice is done once, so a walk along
--- the row is a walk along the neighbours.
+-- Laws of rows. The row of a node holds its neighbours by rising number, some repeated; what is done at a node twice is done once, so a
+-- walk along the row is a walk along the neighbours.
 --     cut_end, cut_cons, cut_length, cut_at     what stands from a place on
 --     row_member, neighbour_low                 a place of a row holds a neighbour, a node
 --     at_row, row_low, in_row                   the neighbours of a node, by their place in its row

@@ -27,8 +27,8 @@ use Rattle.graph.proofs.Frames.{Placed, AllPlaced, finish, finish_start, finish_
 abbrev pub effort : ℕ → List Bool → ℕ → List ℕ → ℕ → ℕ → ℕ
 effort m visited depth stack node place = weight (m + 2) visited + work m (frame node place ∷ frames depth stack)
 
--- In the loop: to finish the open calls gives the state `goal`. The arrays were order₀ and stack₀ at the start, and the order had count₀ nodes.
--- `total` is the number of nodes that are open, in the order, or not visited.
+-- In the loop: to finish the open calls gives the state `goal`. The arrays were order₀ and stack₀ at the start, and the order had count₀
+-- nodes. `total` is the number of nodes that are open, in the order, or not visited.
 pub record Open (n : ℕ) (edge : Edges) (ends next : List ℕ) (goal : Walk) (total count₀ : ℕ) (order₀ stack₀ : List ℕ)
     (visited : List Bool) (order : List ℕ) (count : ℕ) (stack : List ℕ) (depth node place : ℕ) : Type 0 where
   pub rows : Rows n edge ends next

@@ -1,5 +1,6 @@
--- A graph on the nodes 0, 1, .., n - 1 as rows: `next` holds the neighbours of each node, row after row, and `ends` where the row of each node
--- ends. In a row they rise; a neighbour may be there more than once, as where several port connections lead from one component to another.
+-- A graph on the nodes 0, 1, .., n - 1 as rows: `next` holds the neighbours of each node, row after row, and `ends` where the row of each
+-- node ends. In a row they rise; a neighbour may be there more than once, as where several port connections lead from one component to
+-- another.
 -- Assumes nothing: these are definitions.
 use Rattle.std.specs.Prelude.{◌≡◌, ◌&&◌, List, ◌∷◌, ℕ, ◌-◌, ◌≤◌, ◌<◌, ltb, length, get_or, take, drop}
 use Rattle.tables.specs.Order.{member, Ascending}

@@ -20,7 +20,7 @@ pub struct Graph<'a> {
 }
 
 // Where the row of a node begins: where the one before it ends.
-pub(crate) fn begin_of(ends: &[u16], node: usize) -> usize
+pub fn begin_of(ends: &[u16], node: usize) -> usize
     requires { node ≤ length ends.now }
     ensures { result ≡ begin_of ends.now node }
 {

@@ -10,7 +10,8 @@ use super::Graph;
 use super::build::build_rows;
 use super::walk::regions;
 
-// Builds the rows of the edges that some connection makes and of the edges turned around, and finds the regions; answers how many there are.
+// Builds the rows of the edges that some connection makes and of the edges turned around, and finds the regions; answers how many there
+// are.
 pub fn prepare(
     sources: &[u16],
     sinks: &[u16],
@@ -21,7 +22,7 @@ pub fn prepare(
     labels: &mut [u16],
     stack: &mut [usize],
 ) -> usize
-    requires few { (length sources.now ≤ connection_limit) × (length sinks.now ≡ length sources.now) }
+    requires few { (length sources.now ≤ connection_limit) × (length sources.now ≤ length sinks.now) }
     requires nodes { let n = length labels.old in
         (n ≤ component_limit) × (length ends.old ≡ n) × (length back_ends.old ≡ n) }
     requires places { (length sources.now ≤ length next.old) × (length sources.now ≤ length back.old) }

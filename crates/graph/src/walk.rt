@@ -37,7 +37,8 @@ impl Graph<'_> {
         let mut place = begin_of(ends, start);
         let mut depth: usize = 0;
         let mut done = count;
-        // By hand: the stack grows and shrinks as the walk goes, no range says how. Its pairs lie flat: it is the slice that a caller lends.
+        // By hand: the stack grows and shrinks as the walk goes, no range says how. Its pairs lie flat: it is the slice that a caller
+        // lends.
         loop {
             if place < usize::from(ends[node]) {
                 let k = usize::from(next[place]);
@@ -143,9 +144,9 @@ impl Graph<'_> {
     {
         visited.fill(false);
         let mut count = 0;
-        for (start, is_start) in starts.iter().enumerate() {
+        for (node, is_start) in starts.iter().enumerate() {
             if *is_start {
-                count = self.visit_from(start, visited, order, count, stack);
+                count = self.visit_from(node, visited, order, count, stack);
             }
         }
     }

@@ -1,4 +1,5 @@
--- `graph::Graph::finish_order` meets its contract. The loop's invariant: the arrays hold what the first walk has after the nodes before `start`.
+-- `graph::Graph::finish_order` meets its contract. The loop's invariant: the arrays hold what the first walk has after the nodes before
+-- `start`.
 -- Assumes nothing.
 use Prim.Native.Nat.{zero}
 use lib.ListN.{length}

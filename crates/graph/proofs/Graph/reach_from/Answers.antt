@@ -4,17 +4,17 @@ use Rattle.graph.proofs.Order.{reach_begin, reach_more, reach_skip, reach_end, w
 use Rattle.graph.proofs.Graph.reach_from.Goals as goal
 use Rattle.graph.proofs.Graph.reach_from.Goals.{then-is_start, else-is_start}
 
-pub loop-start-init : goal.loop-start-init
-loop-start-init c = reach_begin _ c.requires.1 (c.fill.ensures.after (λ y e. e)) c.args.starts.now
+pub loop-node-init : goal.loop-node-init
+loop-node-init c = reach_begin _ c.requires.1 (c.fill.ensures.after (λ y e. e)) c.args.starts.now
 
 pub visit_from-count-requires : goal.visit_from-count-requires
-visit_from-count-requires c = walk_room c.loop-start.invariant _ (let long = c.requires.0 in omega arith)
+visit_from-count-requires c = walk_room c.loop-node.invariant _ (let long = c.requires.0 in omega arith)
 
-pub loop-start-preserved : goal.loop-start-preserved
-loop-start-preserved c =
-    let start = c.loop-start.start in
+pub loop-node-preserved : goal.loop-node-preserved
+loop-node-preserved c =
+    let start = c.loop-node.node in
     let starts = c.args.starts.now in
-    let w = c.loop-start.invariant in
+    let w = c.loop-node.invariant in
     elim c.if-is_start.branch [
       | then-is_start v ↦
           let call = v.visit_from-count in
@@ -24,4 +24,4 @@ loop-start-preserved c =
     ]
 
 pub returns : goal.returns
-returns c = let long = c.requires.0 in reach_end _ _ c.loop-start.invariant (omega arith) (omega arith)
+returns c = let long = c.requires.0 in reach_end _ _ c.loop-node.invariant (omega arith) (omega arith)

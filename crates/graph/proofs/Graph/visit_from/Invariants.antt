@@ -1,6 +1,6 @@
--- `graph::Graph::visit_from` meets its contract. The loop's invariant: to finish the open calls gives what `visit` gives at the start. A turn passes a
--- neighbour that is visited, enters one that is not, or leaves the node.
--- The measure weighs each node that is not visited by the places and 2, and adds the places that are left of each open call. Assumes nothing.
+-- `graph::Graph::visit_from` meets its contract. The loop's invariant: to finish the open calls gives what `visit` gives at the start. A
+-- turn passes a neighbour that is visited, enters one that is not, or leaves the node. The measure weighs each node that is not visited by
+-- the places and 2, and adds the places that are left of each open call. Assumes nothing.
 use Prim.Native.Nat.{suc, ◌+◌, ◌-◌}
 use mathlib.Core.List.{◌∷◌}
 use lib.ListN.{length}

@@ -1,4 +1,5 @@
--- `graph::walk::regions` meets its contract: the nodes as the walk forward finished them are the order that the walk back asks for. Assumes nothing.
+-- `graph::walk::regions` meets its contract: the nodes as the walk forward finished them are the order that the walk back asks for. Assumes
+-- nothing.
 use mathlib.Core.Path.{sym, ap, ◌∙◌}
 use Prim.Native.Nat.{ℕ}
 use native.Mathlib.Omega.{arith}
