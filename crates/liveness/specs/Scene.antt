@@ -1,7 +1,7 @@
 -- An accepted scene, and what the stages of its analysis leave in their arrays.
 -- Assumes nothing: these are definitions.
 use Rattle.std.specs.Prelude.{None}
-use Rattle.std.specs.Prelude.{ℕ, ◌*◌, ◌≤◌, ◌≡◌, Bool, List, length, ℤ}
+use Rattle.std.specs.Prelude.{ℕ, ◌*◌, ◌≤◌, ◌<◌, ◌≡◌, Bool, cond, List, length, get_or, ℤ}
 use Rattle.sets.specs.Members.{SetOf}
 use Rattle.lists.specs.Limits.{component_limit, component_width}
 use Rattle.lists.specs.Records.{component_count, port_count}
@@ -10,6 +10,7 @@ use Rattle.lists.specs.Ends.{SettledEnds}
 use Rattle.lists.specs.Order.{first_not_ascending, component_order}
 use Rattle.lists.specs.Within.{Components, PortConnections}
 use Rattle.regions.specs.Search.{Zeros}
+use Rattle.signals.specs.Signals.{is_signal}
 use Rattle.signals.specs.Sources.{is_on_frontier, is_drive}
 use Rattle.signals.specs.Regions.{labels, region_count, region_of_place, holds_drive, is_inferred}
 use Rattle.signals.specs.Drive.{drive, potential}
@@ -74,6 +75,13 @@ pub record PreparedRoom (cs ps : List ℤ) (forward backward labelled members re
   pub members_room : component_count cs ≤ length members
   pub regions_room : component_count cs ≤ length region_of
   pub stack_room : 2 * component_count cs ≤ length stack
+
+-- ---- the ends of port connections, of which rows are built
+
+-- the members, and a number that no node has for the sink of a support
+pub record NarrowEnds (ps : List ℤ) (sources sinks froms tos : List ℕ) : Type 0 where
+  pub sources_are : (k : ℕ) → k < port_count ps → get_or froms k 0 ≡ get_or sources k 0
+  pub sinks_are : (k : ℕ) → k < port_count ps → get_or tos k 0 ≡ cond (is_signal ps k) (get_or sinks k 0) component_limit
 
 -- ---- the marks and the rows of a scene
 

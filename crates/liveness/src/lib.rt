@@ -7,6 +7,7 @@
 #![tactic(auto)]
 
 mod alive;
+pub mod edges;
 mod infer;
 pub mod plot;
 pub mod steps;

@@ -52,7 +52,7 @@ visit_low n edge (suc fuel) x s lt low = go (get_or s.visited x false) (visit_lo
 
 -- ---- label_from
 
-fresh_le : (l : List Bool) → fresh l ≤ length l
+pub fresh_le : (l : List Bool) → fresh l ≤ length l
 unfolding weight
 fresh_le [] = omega arith
 fresh_le (true ∷ l) = let h = fresh_le l in omega (arith, h)
@@ -102,7 +102,7 @@ module _ {n : ℕ} {edge : Edges} {x : ℕ} {visited₀ visited : List Bool} {me
 
 -- ---- regions
 
-label_count : (n : ℕ) (edge : Edges) (x : ℕ) (s : Labels) → (label n edge x s).count ≤ suc s.count
+pub label_count : (n : ℕ) (edge : Edges) (x : ℕ) (s : Labels) → (label n edge x s).count ≤ suc s.count
 unfolding label
 label_count n edge x s = go (get_or s.visited x false)
   where

@@ -20,13 +20,13 @@ use Rattle.regions.proofs.Laws.Loops.{each_append, range_suc}
 use Rattle.regions.proofs.Laws.Main.{order_length}
 use Rattle.regions.proofs.Stack.{searched_old}
 
-fresh_none : (n : ℕ) → fresh (replicate n false) ≡ n
+pub fresh_none : (n : ℕ) → fresh (replicate n false) ≡ n
 unfolding weight
 fresh_none zero = refl
 fresh_none (suc n) = let h = fresh_none n in omega (arith, h)
 
 -- what holds past a place holds past a later one
-drop_more : {A : Type 0} (l m : List A) {i j : ℕ} → i ≤ j → drop i l ≡ drop i m → drop j l ≡ drop j m
+pub drop_more : {A : Type 0} (l m : List A) {i j : ℕ} → i ≤ j → drop i l ≡ drop i m → drop j l ≡ drop j m
 drop_more l m {i} {j} h e =
     let p : i + (j - i) ≡ j = omega arith in
     subst (λ (k : ℕ). drop k l ≡ drop k m) p (sym (drop-drop (j - i) i l) ∙ ap (drop (j - i)) e ∙ drop-drop (j - i) i m)
@@ -44,7 +44,7 @@ room_here {n} {keys} {visited} {order} {stack} r = subst (λ (m : ℕ). Room m k
 -- ---- the nodes to walk from
 
 -- every node before `start`
-range_next : (start : ℕ) → range zero (start + 1) ≡ range zero start ++ (start ∷ [])
+pub range_next : (start : ℕ) → range zero (start + 1) ≡ range zero start ++ (start ∷ [])
 range_next start =
     ap (range zero) (add-one start) ∙ range_suc zero start ∙ ap (λ (k : ℕ). range zero start ++ (k ∷ [])) (zero-add start)
 
@@ -62,11 +62,11 @@ module _ (marks : List Bool) (start : ℕ) where
   starts_next : starts_of (start + 1) marks ≡ starts_of start marks ++ filter (marked marks) (start ∷ [])
   starts_next = ap (filter (marked marks)) (range_next start) ∙ filter_append (marked marks) (range zero start) (start ∷ [])
 
-  starts_more : marked marks start ≡ true → starts_of (start + 1) marks ≡ starts_of start marks ++ (start ∷ [])
+  pub starts_more : marked marks start ≡ true → starts_of (start + 1) marks ≡ starts_of start marks ++ (start ∷ [])
   unfolding filter
   starts_more e = starts_next ∙ ap (λ b. starts_of start marks ++ cond b (start ∷ []) []) e
 
-  starts_same : marked marks start ≡ false → starts_of (start + 1) marks ≡ starts_of start marks
+  pub starts_same : marked marks start ≡ false → starts_of (start + 1) marks ≡ starts_of start marks
   unfolding filter
   starts_same e = starts_next ∙ ap (λ b. starts_of start marks ++ cond b (start ∷ []) []) e ∙ append-nil (starts_of start marks)
 
