@@ -12,7 +12,7 @@ use Rattle.capi.proofs.region_table.dustroute_reach_table.Goals as goal
 pub pack_refusal-requires : goal.pack_refusal-requires
 pack_refusal-requires c =
     subst (λ (x : Result ⊤ Refusal). Small x) (sym c.in-Err.ensures.by.answer)
-    (liveness_small c.args.components.now c.args.ports.now c.args.frontiers.now _)
+    (liveness_small _ _ _ _)
 
 pub returns-in-Err : goal.returns-in-Err
 returns-in-Err c = refused_table c.args.square.now c.args.regions.now c.args.stack.now _ c.in-Err.ensures c.pack_refusal.ensures
