@@ -83,7 +83,7 @@ sloped_rows cs ps = sloped_below cs ps (connection_count ps)
 -- ---- rows of six cut to five
 
 -- the first five numbers of each
-unfoldable pub without_slopes : List ℕ → List ℕ
+unfoldable pub without_slopes : {A : Type 0} → List A → List A
 without_slopes (a ∷ b ∷ c ∷ d ∷ e ∷ slope ∷ rows) = a ∷ b ∷ c ∷ d ∷ e ∷ without_slopes rows
 without_slopes (a ∷ b ∷ c ∷ d ∷ e ∷ []) = []
 without_slopes (a ∷ b ∷ c ∷ d ∷ []) = []
@@ -93,7 +93,7 @@ without_slopes (a ∷ []) = []
 without_slopes [] = []
 
 -- and the sixth
-unfoldable pub slopes_of : List ℕ → List ℕ
+unfoldable pub slopes_of : {A : Type 0} → List A → List A
 slopes_of (a ∷ b ∷ c ∷ d ∷ e ∷ slope ∷ rows) = slope ∷ slopes_of rows
 slopes_of (a ∷ b ∷ c ∷ d ∷ e ∷ []) = []
 slopes_of (a ∷ b ∷ c ∷ d ∷ []) = []
