@@ -7,7 +7,7 @@ use Rattle.checks.specs.Refusals.{ports_refusal, packed}
 use Rattle.lists.specs.Slices.{left_of}
 use Rattle.faces.specs.Ports.{Port}
 use Rattle.faces.specs.Rows.{rows_of}
-use Rattle.scene.specs.Kept.{kept_rows, kept_count}
+use Rattle.scene.specs.Kept.{sloped_rows, kept_count}
 
 -- 1 for yes
 abbrev pub as_number : Bool → ℕ
@@ -27,4 +27,4 @@ sent_as (Err refusal) count = packed (Err refusal)
 
 pub record Sent (cs ps out out' : List ℤ) (r : ℕ) : Type 0 where
   pub answer : r ≡ sent_as (ports_refusal cs ps (length out)) (kept_count cs ps)
-  pub left : out' ≡ left_of (ports_refusal cs ps (length out)) (map pos (kept_rows cs ps)) out
+  pub left : out' ≡ left_of (ports_refusal cs ps (length out)) (map pos (sloped_rows cs ps)) out

@@ -1,13 +1,13 @@
 // Ports, steps and kept connections for the tests from Rust.
-ghost use Rattle.std.specs.Prelude.{◌≡◌, length};
+ghost use Rattle.std.specs.Prelude.{◌≡◌, ◌+◌, ◌*◌, length};
 ghost use Rattle.faces.specs.Ports.{ports_for};
-ghost use Rattle.faces.specs.Step.{facing_between};
+ghost use Rattle.faces.specs.Step.{facing_between, slope_between};
 ghost use Rattle.probe.specs.Ports.{place_code, Sent};
 
 use checks::refusals::pack_refusal;
 use faces::face::Face;
 use faces::ports::{PORTS, port_count, ports_for};
-use faces::step::facing_between;
+use faces::step::step_between;
 use scene::connections::port_connections;
 
 #[unsafe(no_mangle)]
@@ -40,8 +40,9 @@ pub extern "C" fn probe_port(
     }
 }
 
+// The face of a step, 0 for none, and 256 times its slope.
 #[unsafe(no_mangle)]
-pub extern "C" fn probe_facing_between(
+pub extern "C" fn probe_step_between(
     x: i64,
     y: i64,
     z: i64,
@@ -49,9 +50,10 @@ pub extern "C" fn probe_facing_between(
     to_y: i64,
     to_z: i64,
 ) -> u64
-    ensures { result ≡ facing_between x y z to_x to_y to_z }
+    ensures { result ≡ facing_between x y z to_x to_y to_z + 256 * slope_between x y z to_x to_y to_z }
 {
-    facing_between((x, y, z), (to_x, to_y, to_z)).map_or(0, u64::from)
+    let step = step_between((x, y, z), (to_x, to_y, to_z));
+    step.face.map_or(0, u64::from) + 256 * u64::from(step.slope)
 }
 
 // A refusal as one number, or the count of kept rows above its sixteen lowest bits.
