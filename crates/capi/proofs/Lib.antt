@@ -5,4 +5,5 @@ mod OneInput
 mod WaySmall
 mod Cleared
 mod LightLaws
+mod KeptLaws
 pub mod Laws

@@ -5,3 +5,4 @@ pub mod OneInput
 pub mod TheWay
 pub mod Clear
 pub mod Light
+pub mod Kept

@@ -1,14 +1,12 @@
-// Ports, steps and kept connections for the tests from Rust.
+// Ports and steps for the tests from Rust.
 ghost use Rattle.std.specs.Prelude.{◌≡◌, ◌+◌, ◌*◌, length};
 ghost use Rattle.faces.specs.Ports.{ports_for};
 ghost use Rattle.faces.specs.Step.{facing_between, slope_between};
-ghost use Rattle.probe.specs.Ports.{place_code, Sent};
+ghost use Rattle.probe.specs.Ports.{place_code};
 
-use checks::refusals::pack_refusal;
 use faces::face::Face;
 use faces::ports::{PORTS, port_count, ports_for};
 use faces::step::step_between;
-use scene::connections::port_connections;
 
 #[unsafe(no_mangle)]
 pub extern "C" fn probe_port_count(kind: u64, facing: u64, support: u64, conducts: u64) -> usize
@@ -54,19 +52,4 @@ pub extern "C" fn probe_step_between(
 {
     let step = step_between((x, y, z), (to_x, to_y, to_z));
     step.face.map_or(0, u64::from) + 256 * u64::from(step.slope)
-}
-
-// A refusal as one number, or the count of kept rows above its sixteen lowest bits.
-#[unsafe(no_mangle)]
-pub extern "C" fn probe_port_connections(
-    components: &[i64],
-    connections: &[i64],
-    out: &mut [i64],
-) -> u64
-    ensures { Sent components.now connections.now out.old out.new result }
-{
-    match port_connections(components, connections, out) {
-        Ok(count) => 65536 * count as u64,
-        Err(refusal) => pack_refusal(refusal),
-    }
 }
