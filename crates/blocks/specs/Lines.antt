@@ -18,7 +18,7 @@ abbrev pub component_keys : List (List ℕ)
 component_keys = ascii "id" ∷ ascii "net" ∷ ascii "fragment" ∷ ascii "region" ∷ ascii "drive" ∷ ascii "potential" ∷ []
 
 abbrev pub connection_keys : List (List ℕ)
-connection_keys = ascii "source" ∷ ascii "source_port" ∷ ascii "sink" ∷ ascii "sink_port" ∷ ascii "transfer" ∷ []
+connection_keys = ascii "source" ∷ ascii "source_port" ∷ ascii "sink" ∷ ascii "sink_port" ∷ ascii "transfer" ∷ ascii "slope" ∷ []
 
 abbrev pub region_keys : List (List ℕ)
 region_keys = ascii "cyclic" ∷ ascii "has_drive" ∷ []

@@ -18,12 +18,13 @@ const COMPONENT_KEYS: [&[u8]; 6] = [
     b"potential",
 ];
 
-const CONNECTION_KEYS: [&[u8]; 5] = [
+const CONNECTION_KEYS: [&[u8]; 6] = [
     b"source",
     b"source_port",
     b"sink",
     b"sink_port",
     b"transfer",
+    b"slope",
 ];
 
 const REGION_KEYS: [&[u8]; 2] = [b"cyclic", b"has_drive"];

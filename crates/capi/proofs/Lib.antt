@@ -6,4 +6,5 @@ mod WaySmall
 mod Cleared
 mod LightLaws
 mod ReachTable
+mod KeptLaws
 pub mod Laws

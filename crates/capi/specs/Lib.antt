@@ -6,3 +6,4 @@ pub mod TheWay
 pub mod Clear
 pub mod Light
 pub mod ReachTable
+pub mod Kept

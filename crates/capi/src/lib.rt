@@ -4,6 +4,7 @@
 
 mod alive;
 mod clear;
+mod kept;
 mod light;
 mod one_input;
 mod region_table;

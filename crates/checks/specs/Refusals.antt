@@ -5,7 +5,7 @@ use Rattle.lists.specs.declared.Fault.{Fault}
 use Rattle.lists.specs.declared.Section.{Section}
 use Rattle.std.specs.Prelude.{⊤, Option, Some, None, Result, Ok, Err}
 use Rattle.std.specs.Prelude.{ℕ, ◌+◌, ◌*◌, ◌/◌, ◌%◌, ◌≤◌, min, Bool, true, not, cond, ◌&&◌, ◌||◌, List, [], ◌∷◌, length, eqb, leb, ltb, ℤ}
-use Rattle.lists.specs.Limits.{component_limit, connection_limit, frontier_limit, component_width, connection_width, port_width, frontier_width}
+use Rattle.lists.specs.Limits.{component_limit, connection_limit, frontier_limit, component_width, connection_width, port_width, kept_width, frontier_width}
 use Rattle.lists.specs.Records.{component_count, connection_count}
 use Rattle.lists.specs.Ranges.{first_out_of_range, component_low, component_high, connection_low, connection_high, port_low, port_high, frontier_low, frontier_high}
 use Rattle.lists.specs.Order.{first_not_ascending, component_order, connection_order}
@@ -74,9 +74,9 @@ room_for_groups components nets fragments = room_for components 1 nets && room_f
 abbrev pub grouping_refusal : List ℤ → List ℤ → ℕ → ℕ → Result ⊤ Refusal
 grouping_refusal cs ps nets fragments = grouping_lists cs ps [] (room_for_groups (component_count cs) nets fragments)
 
--- port connections: a place per grouping connection
+-- port connections with their slopes: a place per grouping connection
 abbrev pub ports_refusal : List ℤ → List ℤ → ℕ → Result ⊤ Refusal
-ports_refusal cs ps ports = grouping_lists cs ps [] (room_for (connection_count ps) port_width ports)
+ports_refusal cs ps ports = grouping_lists cs ps [] (room_for (connection_count ps) kept_width ports)
 
 -- per component one region, two source rows of two numbers, four verdict rows of three, one pair of the walk's stack
 abbrev pub room_for_rows : ℕ → ℕ → ℕ → ℕ → ℕ → Bool

@@ -3,13 +3,14 @@
 --     diff_fits              the difference of two coordinates fits
 --     range_abs              the size of a coordinate
 --     facing_by_shifts       the face of a step, an axis at a time
---     facing_same            the same of equal numbers
+--     slope_by_shift         its slope by the shift along y
+--     slope_most             a slope is at most 2
 -- Assumes nothing.
 use mathlib.Core.Path.{◌≡◌, refl, sym, ap, ◌∙◌}
 use mathlib.Core.Bool.{Bool, true, false, cond, ◌&&◌}
 use Prim.Native.Nat.{ℕ, zero, suc, ◌+◌, ◌≤◌, ◌<◌}
 use native.Mathlib.Omega.{arith}
-use lib.Dec.{leb, ltb}
+use lib.Dec.{eqb, leb, ltb}
 use lib.IntN.{ℤ, pos, negsuc, neg_ℤ, nat_abs, ◌+ℤ◌, ◌-ℤ◌}
 use lib.Signed.{mag}
 use borrow.Author.Tests.{leb-true}
@@ -19,7 +20,7 @@ use mir.Facts.{to_z-of_z}
 use Rattle.lists.specs.Signed.{in_range}
 use Rattle.lists.proofs.Search.{both}
 use Rattle.faces.specs.Ports.{NoFace}
-use Rattle.faces.specs.Step.{shift, level_face, face_of, is_coordinate, shift_between, facing_between}
+use Rattle.faces.specs.Step.{Level, Falling, shift, level_face, face_of, slope_of, is_coordinate, shift_between, facing_between, slope_between}
 use Rattle.faces.specs.declared.step.Shift.{Shift}
 use Rattle.faces.specs.declared.step.Shift.TheVariants.{Back, Same, Ahead, Far}
 
@@ -97,6 +98,36 @@ facing_by_shifts x y z x' y' z' =
     by_axis (is_coordinate x) (is_coordinate y) (is_coordinate z) (is_coordinate x') (is_coordinate y') (is_coordinate z')
     (shift (x' -ℤ x)) (shift (y' -ℤ y)) (shift (z' -ℤ z))
 
-pub facing_same : {x y z x' y' z' a b c a' b' c' : ℤ} → x ≡ a → y ≡ b → z ≡ c → x' ≡ a' → y' ≡ b' → z' ≡ c'
-    → facing_between x y z x' y' z' ≡ facing_between a b c a' b' c'
-facing_same p q r p' q' r' = cc
+-- a face that is found stands behind six tests, two of them of y
+faced_on_y : (a b c a' b' c' : Bool) (face : ℕ) → eqb (cond ((a && (b && c)) && (a' && (b' && c'))) face NoFace) NoFace ≡ false → (b && b') ≡ true
+faced_on_y false b c a' b' c' face e = cc
+faced_on_y true false c a' b' c' face e = cc
+faced_on_y true true false a' b' c' face e = cc
+faced_on_y true true true false b' c' face e = cc
+faced_on_y true true true true false c' face e = cc
+faced_on_y true true true true true c' face e = refl
+
+module _ (x y z x' y' z' : ℤ) where
+  -- both numbers along y are coordinates where there is a face
+  on_y : (t : Bool) → eqb (facing_between x y z x' y' z') NoFace ≡ t → cond t Level (slope_of (shift (y' -ℤ y))) ≡ cond t Level (slope_of (shift_between y y'))
+  unfolding facing_between shift_between
+  on_y true e = refl
+  on_y false e =
+      let faced = faced_on_y (is_coordinate x) (is_coordinate y) (is_coordinate z) (is_coordinate x') (is_coordinate y') (is_coordinate z')
+      (face_of (shift (x' -ℤ x)) (shift (y' -ℤ y)) (shift (z' -ℤ z))) e in
+      rw faced
+
+  pub slope_by_shift : slope_between x y z x' y' z' ≡ cond (eqb (facing_between x y z x' y' z') NoFace) Level (slope_of (shift_between y y'))
+  unfolding slope_between
+  slope_by_shift = on_y (eqb (facing_between x y z x' y' z') NoFace) refl
+
+  pub slope_most : slope_between x y z x' y' z' ≤ Falling
+  unfolding slope_between
+  slope_most = go (eqb (facing_between x y z x' y' z') NoFace) (shift (y' -ℤ y))
+    where
+      go : (t : Bool) (s : Shift) → cond t Level (slope_of s) ≤ Falling
+      go true s = omega arith
+      go false Back = omega arith
+      go false Same = omega arith
+      go false Ahead = omega arith
+      go false Far = omega arith

@@ -1,4 +1,5 @@
--- The numbers that stand for roles, channels and faces (specs/Ports.antt), and for the places of a component's ports.
+-- The numbers that stand for roles, channels and faces (specs/Ports.antt), for slopes (specs/Step.antt), and for the places of a
+-- component's ports.
 -- Assumes nothing: these are definitions.
 use Rattle.std.specs.Prelude.{ℕ, ◌<◌, ◌≡◌, ◌⊎◌, List, [], ◌∷◌, Option, Some, None, Result, MatchResult}
 use Rattle.faces.specs.Ports.{port}
@@ -11,6 +12,8 @@ use Rattle.faces.specs.declared.ports.Role.TheVariants.{Input, Output, Bidirecti
 use Rattle.faces.specs.declared.ports.Channel.{Channel}
 use Rattle.faces.specs.declared.ports.Channel.TheVariants.{RedstoneSignal, WeakPower, StrongPower, Mechanical, Structural}
 use Rattle.faces.specs.declared.ports.Port.{Port}
+use Rattle.faces.specs.declared.step.Slope.{Slope}
+use Rattle.faces.specs.declared.step.Slope.TheVariants.{Level, Rising, Falling}
 
 abbrev pub role_code : Role → ℕ
 role_code Input = 0
@@ -33,6 +36,11 @@ face_code South = 3
 face_code West = 4
 face_code Up = 5
 face_code Down = 6
+
+abbrev pub slope_code : Slope → ℕ
+slope_code Level = 0
+slope_code Rising = 1
+slope_code Falling = 2
 
 -- 0 for none
 abbrev pub face_number : Option Face → ℕ

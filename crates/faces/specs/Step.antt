@@ -1,6 +1,7 @@
--- The face of a step (document 01, "scene.rs: ports", and W3). A step is sink minus source: East is x + 1, South z + 1, Up y + 1.
+-- The face of a step (document 01, "scene.rs: ports", and W3) and its slope (document 02, R-2). A step is sink minus source: East is x + 1,
+-- South z + 1, Up y + 1.
 -- Assumes nothing: these are definitions.
-use Rattle.std.specs.Prelude.{ℕ, zero, suc, Bool, cond, ◌&&◌, ℤ, pos, negsuc, ◌-ℤ◌}
+use Rattle.std.specs.Prelude.{ℕ, zero, suc, Bool, cond, ◌&&◌, eqb, ℤ, pos, negsuc, ◌-ℤ◌}
 use Rattle.lists.specs.Signed.{in_range}
 use Rattle.lists.specs.Ranges.{least_coordinate, greatest_coordinate}
 use Rattle.lists.specs.Records.{Component}
@@ -39,6 +40,24 @@ face_of x Ahead z = level_face Up x z
 face_of x Back z = level_face Down x z
 face_of x Far z = NoFace
 
+-- ---- slopes
+
+abbrev pub Level : ℕ
+Level = 0
+
+abbrev pub Rising : ℕ
+Rising = 1
+
+abbrev pub Falling : ℕ
+Falling = 2
+
+-- by the shift of y, of a step that has a face: one that is pure Up rises, one that is pure Down falls
+abbrev pub slope_of : Shift → ℕ
+slope_of Same = Level
+slope_of Ahead = Rising
+slope_of Back = Falling
+slope_of Far = Level
+
 -- ---- from source to sink
 
 abbrev pub is_coordinate : ℤ → Bool
@@ -58,3 +77,10 @@ facing_between x y z x' y' z' =
 
 abbrev pub step_face : Component → Component → ℕ
 step_face source sink = facing_between source.x source.y source.z sink.x sink.y sink.z
+
+-- by position alone, whatever the connection's kind; a step without a face is level
+unfoldable pub slope_between : ℤ → ℤ → ℤ → ℤ → ℤ → ℤ → ℕ
+slope_between x y z x' y' z' = cond (eqb (facing_between x y z x' y' z') NoFace) Level (slope_of (shift (y' -ℤ y)))
+
+abbrev pub step_slope : Component → Component → ℕ
+step_slope source sink = slope_between source.x source.y source.z sink.x sink.y sink.z

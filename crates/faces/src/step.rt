@@ -1,7 +1,9 @@
-// The face of a step from source to sink.
-ghost use Rattle.std.specs.Prelude.{◌≡◌};
-ghost use Rattle.faces.specs.Codes.{face_number};
+// The step from source to sink: its face, and whether it is level, rising or falling.
+ghost use Rattle.std.specs.Prelude.{◌≡◌, cond, eqb};
+ghost use Rattle.faces.specs.Codes.{face_number, slope_code};
+ghost use Rattle.faces.specs.Ports.{NoFace};
 ghost use Rattle.faces.specs.Step.{is_coordinate, shift_between, level_face, face_of, facing_between};
+ghost use Rattle.faces.specs.Step.{Level, slope_of, slope_between};
 
 use super::face::Face;
 use lists::FAR;
@@ -13,6 +15,28 @@ pub enum Shift {
     Same,
     Ahead,
     Far,
+}
+
+#[derive(Clone, Copy, PartialEq, Eq)]
+pub enum Slope {
+    Level,
+    Rising,
+    Falling,
+}
+
+impl From<Slope> for u64 {
+    ghost from_gives = { λ slope number. number ≡ slope_code slope };
+
+    fn from(slope: Slope) -> u64 {
+        slope as u64
+    }
+}
+
+// A step from one position to another. One without a face is level.
+#[derive(Clone, Copy)]
+pub struct Step {
+    pub face: Option<Face>,
+    pub slope: Slope,
 }
 
 fn is_coordinate(v: i64) -> bool
@@ -64,13 +88,31 @@ fn face_of(x: Shift, y: Shift, z: Shift) -> Option<Face>
     }
 }
 
-// The face of the step from one position to another, if it has one. Positions are any numbers.
-pub fn facing_between(from: (i64, i64, i64), to: (i64, i64, i64)) -> Option<Face>
-    ensures { face_number result ≡ facing_between from.0 from.1 from.2 to.0 to.1 to.2 }
+// The slope of a step by its face and by its shift along y.
+fn slope_of(face: Option<Face>, y: Shift) -> Slope
+    ensures { slope_code result ≡ cond (eqb (face_number face) NoFace) Level (slope_of y) }
 {
-    face_of(
-        shift_between(from.0, to.0),
-        shift_between(from.1, to.1),
-        shift_between(from.2, to.2),
-    )
+    if face.is_none() {
+        return Slope::Level;
+    }
+    match y {
+        Shift::Back => Slope::Falling,
+        Shift::Ahead => Slope::Rising,
+        Shift::Same | Shift::Far => Slope::Level,
+    }
+}
+
+// The step from one position to another. Positions are any numbers.
+pub fn step_between(from: (i64, i64, i64), to: (i64, i64, i64)) -> Step
+    ensures face { face_number result.face ≡ facing_between from.0 from.1 from.2 to.0 to.1 to.2 }
+    ensures slope { slope_code result.slope ≡ slope_between from.0 from.1 from.2 to.0 to.1 to.2 }
+{
+    let x = shift_between(from.0, to.0);
+    let y = shift_between(from.1, to.1);
+    let z = shift_between(from.2, to.2);
+    let face = face_of(x, y, z);
+    Step {
+        face,
+        slope: slope_of(face, y),
+    }
 }

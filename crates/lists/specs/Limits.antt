@@ -32,6 +32,10 @@ connection_width = 3
 abbrev pub port_width : ℕ
 port_width = 5
 
+-- of a connection that is kept: the five of a port connection, and the slope of its step
+abbrev pub kept_width : ℕ
+kept_width = 6
+
 -- x, y, z
 abbrev pub frontier_width : ℕ
 frontier_width = 3

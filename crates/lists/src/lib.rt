@@ -45,6 +45,9 @@ pub const CONNECTION: usize = 3;
 // source, source port, sink, sink port, transfer
 pub const PORT: usize = 5;
 
+// Of a connection that is kept: the five of a port connection, and the slope of its step.
+pub const KEPT: usize = 6;
+
 // x, y, z
 pub const FRONTIER: usize = 3;
 

@@ -1,3 +1,2 @@
 pub mod Placed
-pub mod Selected
 pub mod Table

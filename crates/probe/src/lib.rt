@@ -17,7 +17,7 @@ use checks::refusals::{
 };
 use lists::ends::Ends;
 use lists::ids::{place_at, place_of};
-use lists::{COMPONENT, COMPONENTS, CONNECTION, CONNECTIONS, IDS, PORT};
+use lists::{COMPONENT, COMPONENTS, CONNECTION, CONNECTIONS, IDS, KEPT};
 
 // What the checks of a grouping's lists say, as one number.
 fn pack_grouping(components: &[i64], connections: &[i64], frontiers: &[i64], enough: bool) -> u64
@@ -53,7 +53,7 @@ pub extern "C" fn probe_grouping_refusal(
 pub extern "C" fn probe_ports_refusal(components: &[i64], connections: &[i64], ports: usize) -> u64
     ensures { result ≡ packed (ports_refusal components.now connections.now ports) }
 {
-    let enough = room_for(connections.len() / CONNECTION, PORT, ports);
+    let enough = room_for(connections.len() / CONNECTION, KEPT, ports);
     pack_grouping(components, connections, &connections[..0], enough)
 }
 

@@ -1,14 +1,12 @@
-// Ports, steps and kept connections for the tests from Rust.
-ghost use Rattle.std.specs.Prelude.{◌≡◌, length};
+// Ports and steps for the tests from Rust.
+ghost use Rattle.std.specs.Prelude.{◌≡◌, ◌+◌, ◌*◌, length};
 ghost use Rattle.faces.specs.Ports.{ports_for};
-ghost use Rattle.faces.specs.Step.{facing_between};
-ghost use Rattle.probe.specs.Ports.{place_code, Sent};
+ghost use Rattle.faces.specs.Step.{facing_between, slope_between};
+ghost use Rattle.probe.specs.Ports.{place_code};
 
-use checks::refusals::pack_refusal;
 use faces::face::Face;
 use faces::ports::{PORTS, port_count, ports_for};
-use faces::step::facing_between;
-use scene::connections::port_connections;
+use faces::step::step_between;
 
 #[unsafe(no_mangle)]
 pub extern "C" fn probe_port_count(kind: u64, facing: u64, support: u64, conducts: u64) -> usize
@@ -40,8 +38,9 @@ pub extern "C" fn probe_port(
     }
 }
 
+// The face of a step, 0 for none, and 256 times its slope.
 #[unsafe(no_mangle)]
-pub extern "C" fn probe_facing_between(
+pub extern "C" fn probe_step_between(
     x: i64,
     y: i64,
     z: i64,
@@ -49,22 +48,8 @@ pub extern "C" fn probe_facing_between(
     to_y: i64,
     to_z: i64,
 ) -> u64
-    ensures { result ≡ facing_between x y z to_x to_y to_z }
+    ensures { result ≡ facing_between x y z to_x to_y to_z + 256 * slope_between x y z to_x to_y to_z }
 {
-    facing_between((x, y, z), (to_x, to_y, to_z)).map_or(0, u64::from)
-}
-
-// A refusal as one number, or the count of kept rows above its sixteen lowest bits.
-#[unsafe(no_mangle)]
-pub extern "C" fn probe_port_connections(
-    components: &[i64],
-    connections: &[i64],
-    out: &mut [i64],
-) -> u64
-    ensures { Sent components.now connections.now out.old out.new result }
-{
-    match port_connections(components, connections, out) {
-        Ok(count) => 65536 * count as u64,
-        Err(refusal) => pack_refusal(refusal),
-    }
+    let step = step_between((x, y, z), (to_x, to_y, to_z));
+    step.face.map_or(0, u64::from) + 256 * u64::from(step.slope)
 }

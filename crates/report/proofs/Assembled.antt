@@ -15,7 +15,7 @@ use Rattle.lists.specs.Records.{component_count}
 use Rattle.lists.specs.Ids.{first_repeated}
 use Rattle.lines.specs.Text.{ascii}
 use Rattle.lines.specs.Decimal.{line_of}
-use Rattle.scene.specs.Kept.{kept_rows}
+use Rattle.scene.specs.Kept.{sloped_rows}
 use Rattle.signals.specs.Regions.{region_count}
 use Rattle.assessment.specs.Verdicts.{source_rows, input_rows}
 use Rattle.liveness.specs.declared.Analysis.{Analysis}
@@ -39,13 +39,13 @@ inputs_is : (cs kept fs : List ℤ) → first_repeated cs ≡ None → inputs_te
 inputs_is cs kept fs once = rw (rows_lines cs kept fs once)
 
 pub whole_is : (cs ps fs : List ℤ) → first_repeated cs ≡ None
-    → whole_text cs (kept_list cs ps) fs (component_rows cs ps fs (component_count cs)) (kept_rows cs ps)
+    → whole_text cs (kept_list cs ps) fs (component_rows cs ps fs (component_count cs)) (sloped_rows cs ps)
     (region_rows cs ps fs (region_count cs (kept_list cs ps))) (source_rows cs (kept_list cs ps) fs) (input_rows cs (kept_list cs ps) fs)
     ≡ report_of cs ps fs
 unfolding report_of
 whole_is cs ps fs once =
     let components = block_text Block.Components (component_rows cs ps fs (component_count cs)) in
-    let kept = block_text Block.Connections (kept_rows cs ps) in
+    let kept = block_text Block.Connections (sloped_rows cs ps) in
     let regions = block_text Block.Regions (region_rows cs ps fs (region_count cs (kept_list cs ps))) in
     let sources = block_text Block.Sources (source_rows cs (kept_list cs ps) fs) in
     in_order (line_of (ascii "answer") (pos 0)) components kept regions sources (inputs_text cs (kept_list cs ps) fs (input_rows cs (kept_list cs ps) fs))
@@ -72,8 +72,8 @@ same_text : (cs fs : List ℤ) {kept kept' : List ℤ} {a a' b b' c c' d d' e e'
     → whole_text cs kept fs a b c d e ≡ whole_text cs kept' fs a' b' c' d' e'
 same_text cs fs k a b c d e = rw (k, a, b, c, d, e)
 
-components_are : (cs ps fs : List ℤ) {nets fragments regions sources inputs : List ℕ} {r : Analysis}
-    → Gathered cs ps (kept_list cs ps) nets fragments → Analyzed cs (kept_list cs ps) fs regions sources inputs r
+components_are : (cs ps fs : List ℤ) {nets fragments slopes regions sources inputs : List ℕ} {r : Analysis}
+    → Gathered cs ps (kept_list cs ps) nets fragments slopes → Analyzed cs (kept_list cs ps) fs regions sources inputs r
     → all_rows (component_row_by cs nets fragments regions r.drive.words r.potential.words) (component_count cs) ≡ component_rows cs ps fs (component_count cs)
 components_are cs ps fs g a =
     rw (g.nets_are, g.fragments_are, a.regions_are)
@@ -84,14 +84,14 @@ regions_are : (cs ps fs : List ℤ) {regions sources inputs : List ℕ} {r : Ana
 regions_are cs ps fs {r = r} a =
     ap (all_rows (region_row_by r.cyclic.words r.has_drive.words)) a.region_count_lem ∙ region_rows_lem cs ps fs a.cyclic_set a.has_drive_set
 
-module _ (cs ps fs : List ℤ) {kept : List ℤ} {nets fragments regions sources inputs : List ℕ} {r : Analysis} where
-  pub assembled : {rows connections marks : List ℕ} → first_repeated cs ≡ None → Gathered cs ps kept nets fragments → Analyzed cs kept fs regions sources inputs r
+module _ (cs ps fs : List ℤ) {kept : List ℤ} {nets fragments slopes regions sources inputs : List ℕ} {r : Analysis} where
+  pub assembled : {rows connections marks : List ℕ} → first_repeated cs ≡ None → Gathered cs ps kept nets fragments slopes → Analyzed cs kept fs regions sources inputs r
       → rows ≡ all_rows (component_row_by cs nets fragments regions r.drive.words r.potential.words) (component_count cs)
-      → connections ≡ kept_rows cs ps
+      → connections ≡ sloped_rows cs ps
       → marks ≡ all_rows (region_row_by r.cyclic.words r.has_drive.words) r.regions
       → whole_text cs kept fs rows connections marks sources inputs ≡ report_of cs ps fs
   assembled once g a e f h =
-      let g' = subst (λ (k : List ℤ). Gathered cs ps k nets fragments) g.kept_are g in
+      let g' = subst (λ (k : List ℤ). Gathered cs ps k nets fragments slopes) g.kept_are g in
       let a' = subst (λ (k : List ℤ). Analyzed cs k fs regions sources inputs r) g.kept_are a in
       same_text cs fs g.kept_are (e ∙ components_are cs ps fs g' a') f (h ∙ regions_are cs ps fs a') a'.sources_are a'.inputs_are
       ∙ whole_is cs ps fs once

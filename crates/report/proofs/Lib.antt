@@ -5,6 +5,7 @@ pub mod VerdictText
 pub mod Fitting
 pub mod ReadLists
 pub mod Scenes
+pub mod CutRows
 pub mod Assembled
 pub mod SheetLaws
 pub mod ReadBack

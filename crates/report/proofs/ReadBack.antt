@@ -14,11 +14,13 @@ use mathlib.Core.List.{List, [], ◌∷◌, ◌++◌, append_assoc, map, map-app
 use Prim.Native.Nat.{ℕ, zero, suc, ◌+◌, ◌*◌, ◌/◌, ◌%◌, ◌≤◌, ◌<◌}
 use native.Mathlib.Nat.{eq-or-lt_of_le, le_of_suc-le-suc}
 use native.Mathlib.Omega.{arith}
+use lib.Dec.{ltb}
 use lib.IntN.{ℤ, pos}
+use borrow.Author.Tests.{ltb-true, ltb-false}
 use lib.ListN.{length, get_or, drop, length-map, get_or-append}
 use lib.Seq.{get_or-append-add}
 use Rattle.sets.specs.Members.{as_nat}
-use Rattle.lists.specs.Records.{component_count, port_count, natural_at}
+use Rattle.lists.specs.Records.{component_count, connection_count, port_count, natural_at}
 use Rattle.lists.specs.Within.{PortConnections}
 use Rattle.lists.specs.Slices.{left_of}
 use Rattle.lists.proofs.Fields.{field_most, first_most}
@@ -37,8 +39,8 @@ use Rattle.blocks.specs.Lines.{component_keys, connection_keys, region_keys, sou
 use Rattle.circuit.specs.Topology.{net_kinds, fragment_kinds, forest_of}
 use Rattle.circuit.proofs.Nets.{numbers_below}
 use Rattle.circuit.proofs.Numbering.{roots_most}
-use Rattle.scene.specs.Kept.{kept_rows}
-use Rattle.scene.proofs.KeptEnds.{kept_whole}
+use Rattle.scene.specs.Kept.{kept_rows, kept_count, sloped_rows}
+use Rattle.scene.proofs.Slopes.{five_at, cut_map, sloped_count, cut_sloped, sloped_small}
 use Rattle.signals.specs.Regions.{region_count}
 use Rattle.signals.proofs.Tabulated.{tab_at}
 use Rattle.signals.proofs.Within.{scene_regions}
@@ -80,11 +82,26 @@ module _ (ns : List ℕ) (w : PortConnections (map pos ns)) where
   field_small k (suc (suc (suc (suc zero)))) h l = omega (arith, natural_is ns refl (k * 5 + 4), field_most w k 4 h (omega arith) 6 refl refl)
   field_small k (suc (suc (suc (suc (suc f))))) h l = absurd (omega arith)
 
-  kept_in_range : length ns % 5 ≡ 0 → AllInRange (map pos ns)
-  kept_in_range whole =
-      all_in_range ns (λ k h.
-      let parts : k / 5 * 5 + k % 5 ≡ k = omega arith in
-      rw parts at (field_small (k / 5) (k % 5) (omega (arith, h, whole, length-map ns pos)) (omega arith)))
+-- of rows of six: the five numbers of a port connection, and a slope
+kept_in_range : (cs ps : List ℤ) → PortConnections (kept_list cs ps) → AllInRange (map pos (sloped_rows cs ps))
+kept_in_range cs ps w = all_in_range rows number_small
+  where
+    rows : List ℕ
+    rows = sloped_rows cs ps
+
+    small : (k f : ℕ) → k < kept_count cs ps → (t : Bool) → ltb f 5 ≡ t → f < 6 → get_or rows (k * 6 + f) 0 ≤ limit
+    small k f h true e l =
+        let five : f < 5 = ltb-true f 5 e in
+        let same = sym (five_at rows k f (omega (arith, sloped_count cs ps, h)) five) ∙ ap (λ (ns : List ℕ). get_or ns (k * 5 + f) 0) (cut_sloped cs ps) in
+        omega (arith, same, field_small (kept_rows cs ps) w k f (omega (arith, h, length-map (kept_rows cs ps) pos)) five)
+    small k f h false e l =
+        let last : f ≡ 5 = omega (arith, ltb-false f 5 e, l) in
+        rw last (omega (arith, sloped_small cs ps (connection_count ps) k))
+
+    number_small : (k : ℕ) → k < length rows → get_or rows k 0 ≤ limit
+    number_small k h =
+        let parts : k / 6 * 6 + k % 6 ≡ k = omega arith in
+        rw parts at (small (k / 6) (k % 6) (omega (arith, h, sloped_count cs ps)) (ltb (k % 6) 5) refl (omega arith))
 
 flag_small : (b : Bool) → as_nat b ≤ limit
 flag_small true = omega arith
@@ -171,7 +188,7 @@ module _ (cs ps fs : List ℤ) (e : sheet_refusal cs ps fs ≡ Ok tt) where
         ++ (block (ascii "sources") source_keys (source_rows cs kept fs) ++ (input_block cs kept fs ++ rest))
 
     abbrev after_components : List ℕ
-    after_components = block (ascii "connections") connection_keys (kept_rows cs ps) ++ after_connections
+    after_components = block (ascii "connections") connection_keys (sloped_rows cs ps) ++ after_connections
 
     abbrev after_answer : List ℕ
     after_answer = block (ascii "components") component_keys rows ++ after_components
@@ -179,7 +196,7 @@ module _ (cs ps fs : List ℤ) (e : sheet_refusal cs ps fs ≡ Ok tt) where
     in_order : report_of cs ps fs ++ rest ≡ line_of (ascii "answer") (pos 0) ++ after_answer
     unfolding report_of
     in_order =
-        six_then (line_of (ascii "answer") (pos 0)) (block (ascii "components") component_keys rows) (block (ascii "connections") connection_keys (kept_rows cs ps))
+        six_then (line_of (ascii "answer") (pos 0)) (block (ascii "components") component_keys rows) (block (ascii "connections") connection_keys (sloped_rows cs ps))
         (block (ascii "regions") region_keys (region_rows cs ps fs (region_count cs kept))) (block (ascii "sources") source_keys (source_rows cs kept fs)) (input_block cs kept fs) rest
 
     components_read : read_block (ascii "components") component_keys after_answer ≡ got (map pos rows) after_components
@@ -188,12 +205,12 @@ module _ (cs ps fs : List ℤ) (e : sheet_refusal cs ps fs ≡ Ok tt) where
         let whole : length rows / 6 * 6 ≡ length rows = omega (arith, rows_count) in
         block_read (ascii "components") component_keys rows after_components (rows_in_range (component_row cs ps fs) n row_small) few whole
 
-    connections_read : read_block (ascii "connections") connection_keys after_components ≡ got kept after_connections
+    connections_read : read_block (ascii "connections") connection_keys after_components ≡ got (map pos (sloped_rows cs ps)) after_connections
     connections_read =
-        let records = kept_whole cs ps in
-        let few : length (kept_rows cs ps) / 5 ≤ limit = omega (arith, scene.connections.few, length-map (kept_rows cs ps) pos) in
-        let whole : length (kept_rows cs ps) / 5 * 5 ≡ length (kept_rows cs ps) = omega (arith, records) in
-        block_read (ascii "connections") connection_keys (kept_rows cs ps) after_connections (kept_in_range (kept_rows cs ps) scene.connections records) few whole
+        let count = sloped_count cs ps in
+        let few : length (sloped_rows cs ps) / 6 ≤ limit = omega (arith, scene.connections.few, length-map (kept_rows cs ps) pos, count) in
+        let whole : length (sloped_rows cs ps) / 6 * 6 ≡ length (sloped_rows cs ps) = omega (arith, count) in
+        block_read (ascii "connections") connection_keys (sloped_rows cs ps) after_connections (kept_in_range cs ps scene.connections) few whole
 
     -- a region's row has two numbers
     count_read : read_line (ascii "regions") after_connections ≡ taken (pos (region_count cs kept)) after_count
@@ -208,7 +225,7 @@ module _ (cs ps fs : List ℤ) (e : sheet_refusal cs ps fs ≡ Ok tt) where
     pub regions_printed : RegionsPrinted cs kept (report_of cs ps fs ++ rest)
     regions_printed = record {
       components = map pos rows;
-      connections = kept;
+      connections = map pos (sloped_rows cs ps);
       count = region_count cs kept;
       after_answer = after_answer;
       after_components = after_components;
@@ -219,7 +236,7 @@ module _ (cs ps fs : List ℤ) (e : sheet_refusal cs ps fs ≡ Ok tt) where
       connections_read = connections_read;
       count_read = count_read;
       ids_are = λ v h. column_at 0 v h (omega arith);
-      connections_are = refl;
+      connections_are = cut_map pos (sloped_rows cs ps) ∙ ap (map pos) (cut_sloped cs ps);
       demand = same_regions cs kept (region_count cs kept) (λ v h. region_laid cs kept [] v h ∙ sym (column_at 3 v h (omega arith))) (report_demand cs ps fs e []);
     }
 

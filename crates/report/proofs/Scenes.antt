@@ -3,26 +3,29 @@
 --     kept_scene             the liveness entry takes the kept connections
 --     front_long, front_is     what was laid into a slice is its front
 --     analyzed               what the analysis leaves
---     nets_long, fragments_long, regions_long, regions_few, kept_fit     how long the lists are that were left
+--     sloped_front, kept_cut     what port selection leaves
+--     nets_long, fragments_long, regions_long, regions_few, slopes_few     how long the lists are that were left
 -- Assumes nothing.
 use Rattle.std.specs.Prelude.{Ok}
 use mathlib.Core.Path.{◌≡◌, ap, sym, ◌∙◌}
 use mathlib.Core.Bool.{true}
-use mathlib.Core.List.{List}
+use mathlib.Core.List.{List, map}
 use Prim.Native.Nat.{ℕ, ◌+◌, ◌*◌, ◌≤◌}
 use native.Mathlib.Omega.{arith}
 use lib.IntN.{ℤ, pos}
 use lib.ListN.{length, take, drop, length-append, length-map}
 use lib.Seq.{take_at}
-use Rattle.lists.specs.Limits.{connection_limit, port_width}
-use Rattle.lists.specs.Records.{component_count}
+use Rattle.lists.specs.Limits.{connection_limit, kept_width}
+use Rattle.lists.specs.Records.{component_count, connection_count}
 use Rattle.checks.specs.Refusals.{sheet_refusal}
 use Rattle.lists.specs.Slices.{laid}
 use Rattle.checks.proofs.Accepted.{GroupingScene, grouping_accept}
 use Rattle.circuit.specs.Topology.{net_kinds, fragment_kinds, forest_of, nets_of, fragments_of}
 use Rattle.circuit.proofs.Roots.{length_groups}
-use Rattle.scene.specs.Kept.{kept_rows}
-use Rattle.scene.proofs.KeptEnds.{kept_whole, kept_no_missing}
+use Rattle.scene.specs.Kept.{sloped_rows}
+use Rattle.scene.specs.Answer.{AllKept}
+use Rattle.scene.proofs.KeptEnds.{kept_no_missing}
+use Rattle.scene.proofs.Slopes.{sloped_count, sloped_small, cut_sloped}
 use Rattle.scene.proofs.KeptWithin.{kept_within}
 use Rattle.signals.specs.Regions.{region_of_place, regions_of}
 use Rattle.assessment.specs.Verdicts.{source_rows, input_rows}
@@ -32,7 +35,8 @@ use Rattle.liveness.specs.Scene.{Scene}
 use Rattle.liveness.specs.Entry.{AnalyzedBy}
 use Rattle.liveness.specs.declared.Analysis.{Analysis}
 use Rattle.report.specs.Report.{kept_list}
-use Rattle.report.specs.Printing.{Gathered, Analyzed}
+use Rattle.report.specs.Printing.{SlopedFront, Cut, Gathered, Analyzed}
+use Rattle.report.proofs.CutRows.{five_long}
 
 module _ (cs ps fs : List ℤ) (e : sheet_refusal cs ps fs ≡ Ok tt) where
   pub sheet_scene : GroupingScene cs ps fs true
@@ -75,7 +79,7 @@ analyzed {cs} {ps} {fs} {regions = regions} {sources = sources} {inputs = inputs
 
 -- ---- how long they are
 
-module _ {cs ps kept : List ℤ} {nets fragments : List ℕ} (g : Gathered cs ps kept nets fragments) where
+module _ {cs ps kept : List ℤ} {nets fragments slopes : List ℕ} (g : Gathered cs ps kept nets fragments slopes) where
   pub nets_long : component_count cs ≤ length nets
   nets_long = omega (arith, length_groups (forest_of cs ps net_kinds) (component_count cs), front_long (nets_of cs ps) g.nets_old g.nets_are)
 
@@ -83,9 +87,23 @@ module _ {cs ps kept : List ℤ} {nets fragments : List ℕ} (g : Gathered cs ps
   fragments_long =
       omega (arith, length_groups (forest_of cs ps fragment_kinds) (component_count cs), front_long (fragments_of cs ps) g.fragments_old g.fragments_are)
 
-  -- the kept connections are whole records
-  pub kept_fit : Scene cs kept → length kept ≤ port_width * connection_limit
-  kept_fit s = omega (arith, s.connections.few, ap length g.kept_are, length-map (kept_rows cs ps) pos, kept_whole cs ps)
+  -- a slope for each kept connection
+  pub slopes_few : Scene cs kept → length slopes ≤ connection_limit
+  slopes_few s = omega (arith, s.connections.few, five_long g.sloped)
+
+-- ---- rows of six at the front of a slice, and cut
+
+pub sloped_front : {cs ps out out' : List ℤ} {n : ℕ} → AllKept cs ps out out' n → SlopedFront (sloped_rows cs ps) n out'
+sloped_front {cs} {ps} {out} {out'} {n} k =
+    let long : length (sloped_rows cs ps) ≡ n * kept_width = omega (arith, sloped_count cs ps, k.count) in
+    record {
+      long = long;
+      is = front_is (map pos (sloped_rows cs ps)) out k.rows (n * kept_width) (omega (arith, long, length-map (sloped_rows cs ps) pos));
+      small = λ j h. omega (arith, sloped_small cs ps (connection_count ps) j);
+    }
+
+pub kept_cut : (cs ps : List ℤ) {five : List ℤ} {slopes : List ℕ} → Cut (sloped_rows cs ps) five slopes → five ≡ kept_list cs ps
+kept_cut cs ps cut = cut.five_are ∙ ap (map pos) (cut_sloped cs ps)
 
 module _ {cs ps fs : List ℤ} {regions sources inputs : List ℕ} {r : Analysis} (a : Analyzed cs ps fs regions sources inputs r) where
   pub regions_long : component_count cs ≤ length regions

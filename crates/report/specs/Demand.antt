@@ -10,6 +10,7 @@ use Rattle.lines.specs.Text.{ascii}
 use Rattle.lines.specs.Line.{Taken, taken, refused, read_line, natural}
 use Rattle.sheet.specs.Sheet.{Fields, got, stop, read_fields}
 use Rattle.blocks.specs.Lines.{component_keys, connection_keys}
+use Rattle.scene.specs.Kept.{without_slopes}
 use Rattle.liveness.specs.Demand.{RegionsOfScene}
 
 -- the numbers of so many rows, each with these keys
@@ -41,5 +42,6 @@ pub record RegionsPrinted (cs ps : List ℤ) (report : List ℕ) : Type 0 where
   pub count_read : read_line (ascii "regions") after_connections ≡ taken (pos count) after_count
   -- `id` is number 0 of the six in a component's row, `region` number 3
   pub ids_are : (v : ℕ) → v < component_count cs → get_or (column 0 6 components) v 0 ≡ (component cs v).id
-  pub connections_are : connections ≡ ps
+  -- the first five of a connection's six numbers
+  pub connections_are : without_slopes connections ≡ ps
   pub demand : RegionsOfScene cs ps (column 3 6 components) count

@@ -3,19 +3,22 @@
 --     asked_text, row_lines, inputs_text     the verdict rows, each asked for by the id of its device and by its port
 --     blocks_text, whole_text               the blocks before them, and the report by its rows
 --     AskedOf                             the scenes that the tables of ports are of
+--     SlopedFront, Cut                    rows of six at the front of a slice; the same as rows of five and slopes
 --     Accepts, Gathered, Analyzed         the lists of an accepted sheet; what grouping, port selection and the analysis left
 -- Assumes nothing: these are definitions.
 use Rattle.blocks.specs.declared.Block.{Block}
 use Rattle.std.specs.Prelude.{Ok}
-use Rattle.std.specs.Prelude.{ℕ, ◌/◌, ◌≡◌, List, [], ◌∷◌, ◌++◌, map, length, get_or, ℤ, pos}
+use Rattle.std.specs.Prelude.{ℕ, ◌+◌, ◌*◌, ◌/◌, ◌<◌, ◌≡◌, List, [], ◌∷◌, ◌++◌, map, length, get_or, take, ℤ, pos}
 use Rattle.sets.specs.Members.{as_nat, member_of}
 use Rattle.checks.specs.Refusals.{sheet_refusal}
+use Rattle.lists.specs.Limits.{kept_width}
 use Rattle.lists.specs.Ids as ids
 use Rattle.lists.specs.Ids.{IdTable}
 use Rattle.lists.specs.Slices.{laid}
 use Rattle.lines.specs.Text.{ascii}
 use Rattle.lines.specs.Decimal.{line_of}
 use Rattle.circuit.specs.Topology.{nets_of, fragments_of}
+use Rattle.scene.specs.Kept.{sloped_rows, without_slopes, slopes_of}
 use Rattle.inputs.specs.declared.asked.Asked.{Asked}
 use Rattle.inputs.specs.Inputs.{Ready}
 use Rattle.inputs.specs.Query.{row_place, at_place, is_immediate, is_inferred_for}
@@ -46,9 +49,17 @@ component_row_by cs nets fragments regions drive potential p =
 abbrev pub region_row_by : List ℕ → List ℕ → ℕ → List ℕ
 region_row_by cyclic drive r = as_nat (member_of cyclic r) ∷ as_nat (member_of drive r) ∷ []
 
--- a list of numbers with no sign
-abbrev pub AllNatural : List ℤ → Type 0
-AllNatural list = (ns : List ℕ) × (list ≡ map pos ns)
+-- n rows of six stand at the front of a slice, their sixth numbers small
+pub record SlopedFront (rows : List ℕ) (n : ℕ) (slice : List ℤ) : Type 0 where
+  pub long : length rows ≡ n * kept_width
+  pub is : take (n * kept_width) slice ≡ map pos rows
+  pub small : (k : ℕ) → k < n → get_or rows (k * kept_width + 5) 0 < 256
+
+-- rows of six as a list of rows of five and a list of their sixth numbers
+pub record Cut (rows : List ℕ) (five : List ℤ) (slopes : List ℕ) : Type 0 where
+  pub long : length rows ≡ length slopes * kept_width
+  pub five_are : five ≡ map pos (without_slopes rows)
+  pub slopes_are : slopes ≡ slopes_of rows
 
 -- ---- verdict rows
 
@@ -86,9 +97,10 @@ pub record Accepts (cs ps fs : List ℤ) (keys : List ℕ) : Type 0 where
   pub accepted : sheet_refusal cs ps fs ≡ Ok tt
   pub table : IdTable cs keys
 
--- its groups and its kept connections
-pub record Gathered (cs ps : List ℤ) (kept : List ℤ) (nets fragments : List ℕ) : Type 0 where
+-- its groups, and its kept connections with their slopes
+pub record Gathered (cs ps : List ℤ) (kept : List ℤ) (nets fragments slopes : List ℕ) : Type 0 where
   pub kept_are : kept ≡ kept_list cs ps
+  pub sloped : Cut (sloped_rows cs ps) kept slopes
   pub nets_old : List ℕ
   pub nets_are : nets ≡ laid (nets_of cs ps) nets_old
   pub fragments_old : List ℕ

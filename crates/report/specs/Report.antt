@@ -1,7 +1,7 @@
 -- The report of a sheet (document 01, "The sheet and the program", its worked example): what is printed of a scene, one definition to a block,
 -- in the order in which the blocks are printed. The connections are those kept, and the analysis is that of the liveness entry on them.
 -- The keys, and the lines of given numbers, are in crate `blocks` (Lines.antt).
---     component_rows, region_rows        the numbers of two blocks; those of the others are kept_rows, source_rows, input_rows
+--     component_rows, region_rows        the numbers of two blocks; those of the others are sloped_rows, source_rows, input_rows
 --     input_block                       the verdict rows, each with its immediate sources and inferred inputs
 --     report_of                         the whole
 -- Assumes nothing: these are definitions.
@@ -16,7 +16,7 @@ use Rattle.lines.specs.Decimal.{line_of}
 use Rattle.blocks.specs.Lines.{component_keys, connection_keys, region_keys, source_keys, block, input_text}
 use Rattle.circuit.specs.Topology.{nets_of, fragments_of}
 use Rattle.faces.specs.Ports.{ports_of}
-use Rattle.scene.specs.Kept.{kept_rows}
+use Rattle.scene.specs.Kept.{kept_rows, sloped_rows}
 use Rattle.regions.specs.Graph.{marked}
 use Rattle.signals.specs.Regions.{region_of_place, region_count, is_cyclic, holds_drive}
 use Rattle.signals.specs.Drive.{drive, potential}
@@ -30,7 +30,7 @@ unfoldable pub all_rows : (ℕ → List ℕ) → ℕ → List ℕ
 all_rows row zero = []
 all_rows row (suc n) = all_rows row n ++ row n
 
--- the kept connections as a list of the liveness entry
+-- the kept connections as a list of the liveness entry, without their slopes
 abbrev pub kept_list : List ℤ → List ℤ → List ℤ
 kept_list cs ps = map pos (kept_rows cs ps)
 
@@ -97,7 +97,7 @@ unfoldable pub report_of : List ℤ → List ℤ → List ℤ → List ℕ
 report_of cs ps fs =
     line_of (ascii "answer") (pos 0)
     ++ (block (ascii "components") component_keys (component_rows cs ps fs (component_count cs))
-    ++ (block (ascii "connections") connection_keys (kept_rows cs ps)
+    ++ (block (ascii "connections") connection_keys (sloped_rows cs ps)
     ++ (block (ascii "regions") region_keys (region_rows cs ps fs (region_count cs (kept_list cs ps)))
     ++ (block (ascii "sources") source_keys (source_rows cs (kept_list cs ps) fs)
     ++ input_block cs (kept_list cs ps) fs))))

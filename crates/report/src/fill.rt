@@ -1,16 +1,18 @@
 // Rows of numbers for the blocks, from what the entries wrote and answered.
-ghost use Rattle.std.specs.Prelude.{◌≡◌, List, map, ℕ, ◌+◌, ◌*◌, ◌≤◌, length, pos};
+ghost use Rattle.std.specs.Prelude.{◌≡◌, List, map, ℕ, ◌+◌, ◌*◌, ◌≤◌, length, take, pos};
+ghost use Rattle.lists.specs.Limits.{port_width, kept_width};
 ghost use Rattle.lists.specs.Records.{component_count};
 ghost use Rattle.lists.specs.Ids.{IdTable};
 ghost use Rattle.lists.specs.Slices.{laid};
 ghost use Rattle.assessment.specs.Rows.{Put};
 ghost use Rattle.report.specs.Report.{all_rows};
-ghost use Rattle.report.specs.Printing.{component_row_by, region_row_by, AllNatural};
+ghost use Rattle.report.specs.Printing.{component_row_by, region_row_by, SlopedFront, Cut};
 
 use assessment::verdicts::put_row;
 use lists::ids::member_of;
 use lists::numbers::natural_at;
 use lists::views::ComponentList;
+use lists::{KEPT, PORT};
 use sets::ComponentSet;
 
 // Fills the rows of the components, in list order, given the table of ids, the numbers of their groups and
@@ -60,12 +62,37 @@ pub fn fill_regions(count: usize, cyclic: ComponentSet, has_drive: ComponentSet,
     }
 }
 
-// Fills the rows of the kept connections, which are the numbers of their list.
-pub fn fill_connections(ports: &[i64], rows: &mut [u64])
-    requires { AllNatural ports.now × (length ports.now ≤ length rows.old) }
-    ensures { (ns : List ℕ) → ports.now ≡ map pos ns → rows.new ≡ laid ns rows.old }
+// Cuts rows of six at the front of a slice: rows of five are left there, and the slopes in a slice with a place for each row.
+pub fn cut_slopes(rows: &mut [i64], slopes: &mut [u8])
+    requires front { (ns : List ℕ) × SlopedFront ns (length slopes.old) rows.old }
+    requires rows_in_bounds { length slopes.old * kept_width ≤ length rows.old }
+    ensures { (ns : List ℕ) → SlopedFront ns (length slopes.old) rows.old →
+        Cut ns (take (length slopes.old * port_width) rows.new) slopes.new }
 {
-    for (i, row) in rows[..ports.len()].iter_mut().enumerate() {
-        *row = natural_at(ports, i);
+    for (k, slope) in slopes.iter_mut().enumerate() {
+        let at = k * KEPT;
+        *slope = natural_at(rows, at + PORT) as u8;
+        rows.copy_within(at..at + PORT, k * PORT);
+    }
+}
+
+// Fills the rows of the kept connections: the five numbers of each, and its slope.
+pub fn fill_connections(ports: &[i64], slopes: &[u8], rows: &mut [u64])
+    requires cut { (ns : List ℕ) × Cut ns ports.now slopes.now }
+    requires rows_in_bounds { length slopes.now * kept_width ≤ length rows.old }
+    ensures { (ns : List ℕ) → Cut ns ports.now slopes.now → rows.new ≡ laid ns rows.old }
+{
+    let mut at = 0;
+    for (k, &slope) in slopes.iter().enumerate() {
+        let from = k * PORT;
+        let row = [
+            natural_at(ports, from),
+            natural_at(ports, from + 1),
+            natural_at(ports, from + 2),
+            natural_at(ports, from + 3),
+            natural_at(ports, from + 4),
+            u64::from(slope),
+        ];
+        at = put_row(rows, at, &row);
     }
 }

@@ -7,7 +7,7 @@ ghost use Rattle.report.specs.Report.{report_of};
 ghost use Rattle.report.specs.Entry.{fits, lists_checked, PrintedBy};
 ghost use Rattle.report.specs.Printing.{AskedOf, whole_text, Accepts, Gathered, Analyzed};
 
-use super::fill::{fill_components, fill_connections, fill_regions};
+use super::fill::{cut_slopes, fill_components, fill_connections, fill_regions};
 use super::rows::put_rows;
 use blocks::answer::put_accepted;
 use blocks::{Block, put_block};
@@ -16,7 +16,7 @@ use circuit::settle::group;
 use inputs::asked::{Asked, make_ready};
 use lists::ends::{Ends, settle_ends};
 use lists::views::{ComponentList, ConnectionList, PortList};
-use lists::{COMPONENT, COMPONENTS, CONNECTIONS, Fault, PORT, Refusal};
+use lists::{COMPONENT, COMPONENTS, CONNECTIONS, Fault, KEPT, PORT, Refusal};
 use liveness::plot::Plot;
 use liveness::steps::analyze;
 use liveness::{Analysis, Rows};
@@ -26,7 +26,7 @@ use sets::ComponentSet;
 // How many numbers the rows of a full scene have: of components, of kept connections, of regions, of sources, of inputs, and of the stack.
 const COMPONENT_ROWS: usize = 6 * COMPONENTS;
 
-const KEPT_ROWS: usize = PORT * CONNECTIONS;
+const KEPT_ROWS: usize = KEPT * CONNECTIONS;
 
 const REGION_ROWS: usize = 2 * COMPONENTS;
 
@@ -36,13 +36,14 @@ const INPUT_ROWS: usize = 12 * COMPONENTS;
 
 const STACK: usize = 2 * COMPONENTS;
 
-// The net and the fragment of each component.
-// `Gathered` is no ghost field of it: the functions below are not lent the connections that it relates the groups to, so that a field could
+// The net and the fragment of each component, and the slope of each kept connection.
+// `Gathered` is no ghost field of it: the functions below are not lent the connections that it relates these to, so that a field could
 // only say that there are some, and each `ensures` is of the same ones.
 #[derive(Clone, Copy)]
 struct Groups<'a> {
     nets: &'a [u64],
     fragments: &'a [u64],
+    slopes: &'a [u8],
 }
 
 // The rows of the text. `AskedOf` is no ghost field of what is asked: it binds the lists that a text is of, and each `ensures` is of the same
@@ -102,12 +103,13 @@ fn print_analysis(
     found: Analysis,
     out: &mut [u8],
 ) -> Result<usize, Refusal>
-    requires gathered { let g = groups.now in (ps : List ℤ) × Gathered asked.now.components.now ps ports.now g.nets.now g.fragments.now }
+    requires gathered { let cs = asked.now.components.now in let g = groups.now in
+        (ps : List ℤ) × Gathered cs ps ports.now g.nets.now g.fragments.now g.slopes.now }
     requires analyzed { let a = asked.now in let r = rows.now in
         (fs : List ℤ) × (AskedOf a ports.now fs ×
         Analyzed a.components.now ports.now fs r.regions.now r.sources.now r.inputs.now found) }
     ensures { let a = asked.now in let g = groups.now in let r = rows.now in
-        (ps fs : List ℤ) → Gathered a.components.now ps ports.now g.nets.now g.fragments.now →
+        (ps fs : List ℤ) → Gathered a.components.now ps ports.now g.nets.now g.fragments.now g.slopes.now →
         AskedOf a ports.now fs →
         Analyzed a.components.now ports.now fs r.regions.now r.sources.now r.inputs.now found →
         PrintedBy (fits (report_of a.components.now ps fs) (length out.old)) (report_of a.components.now ps fs) out.old out.new result }
@@ -127,11 +129,11 @@ fn print_analysis(
         found.potential,
         &mut components,
     );
-    fill_connections(ports, &mut kept);
+    fill_connections(ports, groups.slopes, &mut kept);
     fill_regions(count, found.cyclic, found.has_drive, &mut marks);
     let text = TextRows {
         components: &components[..6 * n],
-        kept: &kept[..ports.len()],
+        kept: &kept[..KEPT * groups.slopes.len()],
         regions: &marks[..2 * count],
         sources: rows.sources,
         inputs: rows.inputs,
@@ -150,12 +152,12 @@ fn print_ready(
     out: &mut [u8],
 ) -> Result<usize, Refusal>
     requires gathered { let p = plot.now in let g = groups.now in
-        (ps : List ℤ) × Gathered p.components.now ps p.ports.now g.nets.now g.fragments.now }
+        (ps : List ℤ) × Gathered p.components.now ps p.ports.now g.nets.now g.fragments.now g.slopes.now }
     requires analyzed { let p = plot.now in let r = rows.now in
         Analyzed p.components.now p.ports.now p.frontiers.now r.regions.now r.sources.now r.inputs.now found }
     requires stack_room { 2 * component_count plot.now.components.now ≤ length stack.old }
     ensures { let p = plot.now in let g = groups.now in
-        (ps : List ℤ) → Gathered p.components.now ps p.ports.now g.nets.now g.fragments.now →
+        (ps : List ℤ) → Gathered p.components.now ps p.ports.now g.nets.now g.fragments.now g.slopes.now →
         PrintedBy (fits (report_of p.components.now ps p.frontiers.now) (length out.old)) (report_of p.components.now ps p.frontiers.now)
         out.old out.new result }
 {
@@ -185,10 +187,11 @@ fn print_kept(
     out: &mut [u8],
 ) -> Result<usize, Refusal>
     requires { let g = groups.now in
-        (ps : List ℤ) × (Accepts scene.now ps frontiers.now keys.now × Gathered scene.now ps ports.now g.nets.now g.fragments.now) }
+        (ps : List ℤ) × (Accepts scene.now ps frontiers.now keys.now ×
+        Gathered scene.now ps ports.now g.nets.now g.fragments.now g.slopes.now) }
     ensures { let g = groups.now in
         (ps : List ℤ) → Accepts scene.now ps frontiers.now keys.now →
-        Gathered scene.now ps ports.now g.nets.now g.fragments.now →
+        Gathered scene.now ps ports.now g.nets.now g.fragments.now g.slopes.now →
         PrintedBy (fits (report_of scene.now ps frontiers.now) (length out.old)) (report_of scene.now ps frontiers.now)
         out.old out.new result }
 {
@@ -236,9 +239,13 @@ fn print_scene(
     };
     group(keys, connected, &mut nets, &mut fragments);
     let count = keep_all(listed, keys, connected, &mut ports);
+    let mut all_slopes = [0u8; CONNECTIONS];
+    let slopes = &mut all_slopes[..count];
+    cut_slopes(&mut ports, slopes);
     let groups = Groups {
         nets: &nets,
         fragments: &fragments,
+        slopes,
     };
     print_kept(keys, scene, &ports[..count * PORT], frontiers, &groups, out)
 }

@@ -15,17 +15,20 @@ use borrow.Author.Tests.{le-leb, eqb-true}
 use Rattle.lists.specs.Limits.{connection_limit, port_width}
 use Rattle.lists.specs.Signed.{at, in_range}
 use Rattle.lists.specs.First.{is_found}
-use Rattle.lists.specs.Records.{component, connection, component_count, connection_count, natural_at, port_count, port_connection}
+use Rattle.lists.specs.Records.{Connection, component, connection, component_count, connection_count, natural_at, port_count, port_connection}
 use Rattle.lists.specs.Ranges.{port_low, port_high}
 use Rattle.lists.specs.Ids.{place_below, place_of, has_component}
 use Rattle.lists.specs.Within.{Components, PortConnections}
 use Rattle.lists.proofs.Search.{found_at, never}
 use Rattle.lists.proofs.Fields.{first_most}
-use Rattle.scene.specs.Kept.{link_of, rows_below, kept_rows, kept_count}
+use Rattle.scene.specs.Kept.{link_of, row_by, rows_below, kept_rows, kept_count}
 use Rattle.scene.proofs.KeptEnds.{KeptEnds, kept_ends}
-use Rattle.scene.proofs.Writes.{row_few}
 
 -- ---- how many
+
+row_few : (p : Connection) (l : Option (ℕ × ℕ)) → length (row_by p l) ≤ port_width
+row_few p (Some (i, j)) = omega arith
+row_few p None = omega arith
 
 rows_few : (cs ps : List ℤ) (k : ℕ) → length (rows_below cs ps k) ≤ k * port_width
 unfolding rows_below

@@ -1,5 +1,6 @@
 -- Laws of the definitions, for the proofs of this crate and of those above it.
 pub mod Links
+pub mod Slopes
 pub mod Writes
 pub mod KeptEnds
 pub mod KeptWithin

@@ -19,11 +19,12 @@ use borrow.Rule.Slice.PartMut.{put_mid}
 use mir.Syntax.{w64}
 use mir.Val.{to_z, of_z, SFits}
 use mir.Facts.{to_z-of_z}
-use Rattle.lists.specs.Limits.{port_width}
+use Rattle.lists.specs.Limits.{kept_width}
 use Rattle.lists.specs.Records.{Connection, connection, connection_count}
 use Rattle.lists.specs.Slices.{laid}
-use Rattle.scene.specs.Kept.{link_of, row_by, kept_row, rows_below}
+use Rattle.scene.specs.Kept.{link_of, slope_along, sloped_by, sloped_row, sloped_below}
 use Rattle.scene.specs.Answer.{Put, Filled, AllKept}
+use Rattle.scene.proofs.Slopes.{sloped_long}
 
 -- a row written over a part of its length
 pub part_put : {part row : List ℤ} (l : List ℤ) (a k : ℕ) → part ≡ row → length row ≡ k → Put row a l (put_mid a k l part)
@@ -45,33 +46,34 @@ put_more rows row out out₁ out₂ e p =
 
 -- `count` rows are laid, which are those kept of connections 0, 1, .., k - 1
 pub record Laid (cs ps old out : List ℤ) (count k : ℕ) : Type 0 where
-  pub rows : out ≡ laid (map pos (rows_below cs ps k)) old
-  pub full : count * port_width ≡ length (map pos (rows_below cs ps k))
+  pub rows : out ≡ laid (map pos (sloped_below cs ps k)) old
+  pub full : count * kept_width ≡ length (map pos (sloped_below cs ps k))
   pub few : count ≤ k
 
 pub none_laid : (cs ps old : List ℤ) → Laid cs ps old old 0 0
-unfolding rows_below
+unfolding sloped_below
 none_laid cs ps old = record { rows = refl; full = refl; few = omega arith }
 
-pub row_few : (p : Connection) (l : Option (ℕ × ℕ)) → length (row_by p l) ≤ port_width
-row_few p (Some (i, j)) = omega arith
-row_few p None = omega arith
+row_few : (p : Connection) (l : Option (ℕ × ℕ)) (slope : ℕ) → length (sloped_by p l slope) ≤ kept_width
+row_few p (Some (i, j)) slope = omega arith
+row_few p None slope = omega arith
 
-rows_more : (cs ps : List ℤ) (k : ℕ) → map pos (rows_below cs ps (k + 1)) ≡ map pos (rows_below cs ps k) ++ map pos (kept_row cs ps k)
-unfolding rows_below
-rows_more cs ps k = rw (add-one k) (map-append pos (rows_below cs ps k) (kept_row cs ps k))
+rows_more : (cs ps : List ℤ) (k : ℕ) → map pos (sloped_below cs ps (k + 1)) ≡ map pos (sloped_below cs ps k) ++ map pos (sloped_row cs ps k)
+unfolding sloped_below
+rows_more cs ps k = rw (add-one k) (map-append pos (sloped_below cs ps k) (sloped_row cs ps k))
 
 pub one_laid : (cs ps old out out' : List ℤ) (count k r : ℕ) → Laid cs ps old out count k
-    → Filled (map pos (kept_row cs ps k)) count out out' r → Laid cs ps old out' r (k + 1)
+    → Filled (map pos (sloped_row cs ps k)) count out out' r → Laid cs ps old out' r (k + 1)
 one_laid cs ps old out out' count k r i f =
     let put = rw i.full at f.put in
-    let few = row_few (connection ps k) (link_of cs (connection ps k)) in
+    let p = connection ps k in
+    let few = row_few p (link_of cs p) (slope_along cs p) in
     record {
-      rows = rw (rows_more cs ps k) (put_more (map pos (rows_below cs ps k)) (map pos (kept_row cs ps k)) old out out' i.rows put);
+      rows = rw (rows_more cs ps k) (put_more (map pos (sloped_below cs ps k)) (map pos (sloped_row cs ps k)) old out out' i.rows put);
       full = rw (rows_more cs ps k, length-append) (omega (arith, f.count, i.full));
-      few = omega (arith, f.count, i.few, few, length-map (kept_row cs ps k) pos);
+      few = omega (arith, f.count, i.few, few, length-map (sloped_row cs ps k) pos);
     }
 
 pub all_laid : (cs ps old out : List ℤ) (count k : ℕ) → connection_count ps ≡ k → Laid cs ps old out count k → AllKept cs ps old out count
 all_laid cs ps old out count k e i =
-    record { rows = rw e i.rows; count = rw e (omega (arith, i.full, length-map (rows_below cs ps k) pos)) }
+    record { rows = rw e i.rows; count = rw e (omega (arith, i.full, length-map (sloped_below cs ps k) pos, sloped_long cs ps k)) }

@@ -1,15 +1,27 @@
 -- What the ports entry answers (document 01, after the table of refusals): number, list and item of a refusal, which changes no slice; or
--- number 0 and how many port connections are kept, and these as rows in the lent slice.
+-- number 0 and how many port connections are kept, and these as rows in the lent slice, six numbers each, the slope last.
 -- Assumes nothing: these are definitions.
-use Rattle.std.specs.Prelude.{Result, Ok, Err}
+use Rattle.std.specs.Prelude.{Option, Some, None, Result, Ok, Err}
 use Rattle.lists.specs.declared.Refusal.{Refusal}
 use Rattle.std.specs.Prelude.{ℕ, ◌+◌, ◌*◌, ◌≡◌, List, [], ◌∷◌, ◌++◌, map, length, take, drop, ℤ, pos}
-use Rattle.lists.specs.Limits.{port_width}
+use Rattle.lists.specs.Limits.{kept_width}
 use Rattle.checks.specs.Refusals.{ports_refusal, refusal_numbers, numbers_by}
 use Rattle.lists.specs.Slices.{laid, left_of}
-use Rattle.scene.specs.Kept.{kept_rows, kept_count}
+use Rattle.faces.specs.Codes.{slope_code}
+use Rattle.scene.specs.Kept.{sloped_rows, kept_count}
+use Rattle.scene.specs.declared.connections.Link.{Link}
 
--- ---- what the code writes on the way
+-- ---- what the code hands on and writes on the way
+
+-- the ports of a connection that has them
+abbrev pub ports_by : Option Link → Option (ℕ × ℕ)
+ports_by (Some link) = Some (link.source_port, link.sink_port)
+ports_by None = None
+
+-- and its slope
+abbrev pub SlopeIs : Option Link → ℕ → Type 0
+SlopeIs (Some link) slope = slope_code link.slope ≡ slope
+SlopeIs None slope = Unit
 
 -- the row stands at a place of the slice, and the rest is as it was
 pub record Put (row : List ℤ) (at : ℕ) (out out' : List ℤ) : Type 0 where
@@ -17,12 +29,12 @@ pub record Put (row : List ℤ) (at : ℕ) (out out' : List ℤ) : Type 0 where
 
 -- the rows stand after those before, and there are r then
 pub record Filled (rows : List ℤ) (before : ℕ) (out out' : List ℤ) (r : ℕ) : Type 0 where
-  pub put : Put rows (before * port_width) out out'
-  pub count : r * port_width ≡ before * port_width + length rows
+  pub put : Put rows (before * kept_width) out out'
+  pub count : r * kept_width ≡ before * kept_width + length rows
 
 -- all that is kept stands at the front, and r says how many rows these are
 pub record AllKept (cs ps out out' : List ℤ) (r : ℕ) : Type 0 where
-  pub rows : out' ≡ laid (map pos (kept_rows cs ps)) out
+  pub rows : out' ≡ laid (map pos (sloped_rows cs ps)) out
   pub count : r ≡ kept_count cs ps
 
 -- ---- what the entry answers
@@ -38,4 +50,4 @@ ports_answer cs ps n = numbers_by (ports_refusal cs ps n) (kept_count cs ps ∷ 
 
 pub record Answered (cs ps out out' : List ℤ) (r : Result ℕ Refusal) : Type 0 where
   pub answer : answer_of r ≡ ports_answer cs ps (length out)
-  pub left : out' ≡ left_of (ports_refusal cs ps (length out)) (map pos (kept_rows cs ps)) out
+  pub left : out' ≡ left_of (ports_refusal cs ps (length out)) (map pos (sloped_rows cs ps)) out

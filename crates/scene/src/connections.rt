@@ -1,24 +1,32 @@
-// The port connections that are kept of a scene.
+// The port connections that are kept of a scene, each with the slope of its step.
 ghost use Rattle.std.specs.Prelude.{◌≡◌, Some, ◌+◌, ◌*◌, ◌≤◌, ◌<◌, map, length, pos};
-ghost use Rattle.lists.specs.Limits.{port_width};
+ghost use Rattle.lists.specs.Limits.{kept_width};
 ghost use Rattle.lists.specs.Records.{component, connection, component_count, connection_count};
 ghost use Rattle.lists.specs.Ids.{IdTable};
-ghost use Rattle.faces.specs.Codes.{face_code, face_number};
+ghost use Rattle.faces.specs.Codes.{face_code, face_number, slope_code};
 ghost use Rattle.faces.specs.Ports.{ports_of};
 ghost use Rattle.faces.specs.Rows.{port_places};
-ghost use Rattle.faces.specs.Step.{step_face};
+ghost use Rattle.faces.specs.Step.{step_face, step_slope};
 ghost use Rattle.faces.specs.Select.{select_port};
-ghost use Rattle.scene.specs.Kept.{ports_between, link_of, row_by, kept_row};
-ghost use Rattle.scene.specs.Answer.{Put, Filled, AllKept, Answered};
+ghost use Rattle.scene.specs.Kept.{ports_between, link_of, slope_along, sloped_by, sloped_row};
+ghost use Rattle.scene.specs.Answer.{ports_by, SlopeIs, Put, Filled, AllKept, Answered};
 
 use checks::refusals::{grouping_lists, room_for};
 use faces::face::Face;
 use faces::ports::ports_for;
 use faces::select::{select_port, transfer_of};
-use faces::step::facing_between;
+use faces::step::{Slope, Step, step_between};
 use lists::hints::{Hints, SLOTS, hint_ids, place_near};
 use lists::views::{ComponentList, ConnectionList};
-use lists::{COMPONENT, COMPONENTS, CONNECTION, PORT, Refusal};
+use lists::{COMPONENT, COMPONENTS, CONNECTION, KEPT, Refusal};
+
+// The ports that a connection takes at its ends, and the slope of its step.
+#[derive(Clone, Copy)]
+struct Link {
+    source_port: usize,
+    sink_port: usize,
+    slope: Slope,
+}
 
 // The lists of an accepted scene, with the table of the components' ids and hints into it.
 #[derive(Drop)]
@@ -46,63 +54,74 @@ impl Scene<'_> {
         select_port(ports, u64::from(face), outgoing, kind)
     }
 
-    // The face of the step from component a to component b, if it has one.
-    fn step_face(&self, a: usize, b: usize) -> Option<Face>
+    // The step from component a to component b.
+    fn step(&self, a: usize, b: usize) -> Step
         requires { (a < component_count self.now.components.numbers.now) × (b < component_count self.now.components.numbers.now) }
-        ensures { let cs = self.now.components.numbers.now in face_number result ≡ step_face (component cs a) (component cs b) }
+        ensures face { let cs = self.now.components.numbers.now in face_number result.face ≡ step_face (component cs a) (component cs b) }
+        ensures slope { let cs = self.now.components.numbers.now in slope_code result.slope ≡ step_slope (component cs a) (component cs b) }
     {
-        facing_between(self.components.position(a), self.components.position(b))
+        step_between(self.components.position(a), self.components.position(b))
     }
 
-    // The ports that a connection from component a to component b takes at its ends.
-    fn ports_between(&self, a: usize, b: usize, kind: u64) -> Option<(usize, usize)>
+    // The link of a connection from component a to component b.
+    fn link_between(&self, a: usize, b: usize, kind: u64) -> Option<Link>
         requires { (a < component_count self.now.components.numbers.now) × (b < component_count self.now.components.numbers.now) }
-        ensures { result ≡ ports_between (component self.now.components.numbers.now a) (component self.now.components.numbers.now b) kind }
+        ensures ports { let cs = self.now.components.numbers.now in ports_by result ≡ ports_between (component cs a) (component cs b) kind }
+        ensures slope { let cs = self.now.components.numbers.now in SlopeIs result (step_slope (component cs a) (component cs b)) }
     {
-        let face = self.step_face(a, b)?;
-        let source = self.port_at(a, face, true, kind)?;
-        let sink = self.port_at(b, face.opposite(), false, kind)?;
-        Some((source, sink))
+        let step = self.step(a, b);
+        let face = step.face?;
+        let source_port = self.port_at(a, face, true, kind)?;
+        let sink_port = self.port_at(b, face.opposite(), false, kind)?;
+        Some(Link {
+            source_port,
+            sink_port,
+            slope: step.slope,
+        })
     }
 
-    // The ports of connection k.
-    fn link_of(&self, k: usize) -> Option<(usize, usize)>
+    // The link of connection k.
+    fn link_of(&self, k: usize) -> Option<Link>
         requires { k < connection_count self.now.connections.numbers.now }
-        ensures { result ≡ link_of self.now.components.numbers.now (connection self.now.connections.numbers.now k) }
+        ensures ports { let s = self.now in
+            ports_by result ≡ link_of s.components.numbers.now (connection s.connections.numbers.now k) }
+        ensures slope { let s = self.now in
+            SlopeIs result (slope_along s.components.numbers.now (connection s.connections.numbers.now k)) }
     {
         let a = place_near(self.keys, self.hints, self.connections.source(k))?;
         let b = place_near(self.keys, self.hints, self.connections.sink(k))?;
-        self.ports_between(a, b, self.connections.kind(k))
+        self.link_between(a, b, self.connections.kind(k))
     }
 
-    // The row of connection k with its ports.
-    fn row(&self, k: usize, ports: (usize, usize)) -> [i64; PORT]
+    // The row of connection k with its link.
+    fn row(&self, k: usize, link: Link) -> [i64; KEPT]
         requires k_bound { k < connection_count self.now.connections.numbers.now }
-        requires port_bounds { (ports.0 < port_places) × (ports.1 < port_places) }
-        ensures { result ≡ map pos (row_by (connection self.now.connections.numbers.now k) (Some ports)) }
+        requires port_bounds { (link.source_port < port_places) × (link.sink_port < port_places) }
+        ensures { result ≡ map pos
+            (sloped_by (connection self.now.connections.numbers.now k) (ports_by (Some link)) (slope_code link.slope)) }
     {
-        let (source_port, sink_port) = ports;
         [
             self.connections.source(k) as i64,
-            source_port as i64,
+            link.source_port as i64,
             self.connections.sink(k) as i64,
-            sink_port as i64,
+            link.sink_port as i64,
             transfer_of(self.connections.kind(k)) as i64,
+            u64::from(link.slope) as i64,
         ]
     }
 
     // Writes what is kept of connection k after `count` rows, and answers how many there are then.
     fn keep(&self, k: usize, out: &mut [i64], count: usize) -> usize
         requires k_bound { k < connection_count self.now.connections.numbers.now }
-        requires port_width_in_bounds { count * port_width + port_width ≤ length out.old }
+        requires kept_width_in_bounds { count * kept_width + kept_width ≤ length out.old }
         ensures { let s = self.now in
-            Filled (map pos (kept_row s.components.numbers.now s.connections.numbers.now k)) count out.old out.new result }
+            Filled (map pos (sloped_row s.components.numbers.now s.connections.numbers.now k)) count out.old out.new result }
     {
-        let Some(ports) = self.link_of(k) else {
+        let Some(link) = self.link_of(k) else {
             return count;
         };
-        let at = count * PORT;
-        out[at..at + PORT].copy_from_slice(&self.row(k, ports));
+        let at = count * KEPT;
+        out[at..at + KEPT].copy_from_slice(&self.row(k, link));
         count + 1
     }
 }
@@ -115,7 +134,7 @@ pub fn keep_all(
     out: &mut [i64],
 ) -> usize
     requires id_table { IdTable components.numbers.now keys.now }
-    requires port_width_in_bounds { connection_count connections.numbers.now * port_width ≤ length out.old }
+    requires kept_width_in_bounds { connection_count connections.numbers.now * kept_width ≤ length out.old }
     ensures { AllKept components.entry.numbers.now connections.entry.numbers.now out.old out.new result }
 {
     let mut hints = [[0u16; 2]; SLOTS];
@@ -133,7 +152,7 @@ pub fn keep_all(
     count
 }
 
-// The port connections of a scene, in the order of its grouping connections, as rows at the front of `out`.
+// The port connections of a scene with their slopes, in the order of its grouping connections, as rows at the front of `out`.
 pub fn port_connections(
     components: &[i64],
     connections: &[i64],
@@ -141,7 +160,7 @@ pub fn port_connections(
 ) -> Result<usize, Refusal>
     ensures { Answered components.now connections.now out.old out.new result }
 {
-    let enough = room_for(connections.len() / CONNECTION, PORT, out.len());
+    let enough = room_for(connections.len() / CONNECTION, KEPT, out.len());
     let mut keys = [0u64; COMPONENTS];
     grouping_lists(
         components,

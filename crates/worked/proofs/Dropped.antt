@@ -9,8 +9,8 @@ use Rattle.lists.specs.Ids.{place_below}
 use Rattle.circuit.specs.Topology.{net_kinds, fragment_kinds, joins, joins_of}
 use Rattle.faces.specs.Ports.{opposite, face_or, neither, repeater_ports, ports_for}
 use Rattle.faces.specs.Select.{serves, select_port, transfer_of}
-use Rattle.faces.specs.Step.{shift_between, facing_between}
-use Rattle.scene.specs.Kept.{ports_between, rows_below, kept_rows}
+use Rattle.faces.specs.Step.{shift_between, facing_between, slope_between}
+use Rattle.scene.specs.Kept.{ports_between, rows_below, kept_rows, sloped_below, sloped_rows}
 use Rattle.report.specs.Report.{component_row, component_rows, region_row, region_rows, report_of}
 use Rattle.report.proofs.RowText.{rows_same}
 use Rattle.worked.specs.Example.{lever_and_repeater, from_lever, and_support}
@@ -27,6 +27,10 @@ same_kept : kept_rows lever_and_repeater and_support ≡ kept_rows lever_and_rep
 unfolding first_from place_below opposite face_or neither repeater_ports ports_for serves select_port transfer_of shift_between facing_between ports_between rows_below
 same_kept = refl
 
+same_sloped : sloped_rows lever_and_repeater and_support ≡ sloped_rows lever_and_repeater from_lever
+unfolding first_from place_below opposite face_or neither repeater_ports ports_for serves select_port transfer_of shift_between facing_between slope_between ports_between sloped_below
+same_sloped = refl
+
 same_components : (n : ℕ) → component_rows lever_and_repeater and_support [] n ≡ component_rows lever_and_repeater from_lever [] n
 same_components n =
     rows_same (component_row lever_and_repeater and_support []) (component_row lever_and_repeater from_lever []) n
@@ -37,4 +41,4 @@ same_regions n = rows_same (region_row lever_and_repeater and_support []) (regio
 
 pub dropped_uncounted : report_of lever_and_repeater and_support [] ≡ report_of lever_and_repeater from_lever []
 unfolding report_of
-dropped_uncounted = simp (same_components, same_regions, same_kept)
+dropped_uncounted = simp (same_components, same_regions, same_kept, same_sloped)

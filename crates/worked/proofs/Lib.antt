@@ -3,6 +3,7 @@
 --     Worked      W1 to W12, in a single list
 --     Founding    the straight row, and the same with a cleared block named at either end
 --     Lighting    the one pass over the regions
+--     Staircase   wires up a step and down again
 --     Dropped     the worked sheet with a connection more that is dropped
 --     Printed     the worked sheet, from its bytes to those of its report
 --     Walks       small graphs
@@ -10,6 +11,7 @@ mod Forests
 pub mod Worked
 pub mod Founding
 pub mod Lighting
+pub mod Staircase
 mod Dropped
 pub mod Printed
 mod Walks

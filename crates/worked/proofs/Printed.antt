@@ -24,8 +24,8 @@ use Rattle.circuit.specs.Groups.{roots_below, groups_of}
 use Rattle.circuit.specs.Topology.{net_kinds, fragment_kinds, joins, joins_of, nets_of, fragments_of}
 use Rattle.faces.specs.Ports.{opposite, face_or, neither, repeater_ports, ports_for}
 use Rattle.faces.specs.Select.{serves, select_port, transfer_of}
-use Rattle.faces.specs.Step.{facing_between}
-use Rattle.scene.specs.Kept.{ports_between, rows_below}
+use Rattle.faces.specs.Step.{facing_between, slope_between}
+use Rattle.scene.specs.Kept.{ports_between, rows_below, sloped_below}
 use Rattle.regions.specs.Graph as graph
 use Rattle.regions.specs.Kosaraju as walk
 use Rattle.signals.specs.Signals.{signals}
@@ -55,7 +55,7 @@ unfolding first_from place_below forest.range forest.redirect forest.link forest
 example_fragments = ap (λ (f : forest.Forest). groups_of (forest.unite_all f (joins_of lever_and_repeater from_lever fragment_kinds)) 2) single_places_lem
 
 example_prints : report_of lever_and_repeater from_lever [] ≡ report_text
-unfolding count_below first_from tabulate place_below smaller_ids digits_then field_lines opposite face_or neither repeater_ports ports_for serves select_port transfer_of facing_between ports_between rows_below graph.range graph.filter graph.each graph.next walk.visit walk.order walk.paint walk.label walk.labels walk.reached signals source_kind first_at is_on_frontier is_cyclic holds_drive fed_from_outside neighbours is_inferred members_where drive potential fed_by status_of port_rows verdict_rows sources_at source_rows_below is_immediate upstream is_inferred_for all_rows spaced member_id ids_below port_lines verdict_lines report_of
+unfolding count_below first_from tabulate place_below smaller_ids digits_then field_lines opposite face_or neither repeater_ports ports_for serves select_port transfer_of facing_between slope_between ports_between rows_below sloped_below graph.range graph.filter graph.each graph.next walk.visit walk.order walk.paint walk.label walk.labels walk.reached signals source_kind first_at is_on_frontier is_cyclic holds_drive fed_from_outside neighbours is_inferred members_where drive potential fed_by status_of port_rows verdict_rows sources_at source_rows_below is_immediate upstream is_inferred_for all_rows spaced member_id ids_below port_lines verdict_lines report_of
 example_prints = simp (example_nets, example_fragments)
 
 -- `connections=` counts those kept

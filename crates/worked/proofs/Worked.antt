@@ -17,8 +17,8 @@ use Rattle.circuit.specs.Groups.{roots_below, groups_of}
 use Rattle.circuit.specs.Topology.{net_kinds, joins, joins_of, nets_of, net_count}
 use Rattle.faces.specs.Ports.{opposite, face_or, neither, repeater_ports, ports_for}
 use Rattle.faces.specs.Select.{serves, select_port, transfer_of}
-use Rattle.faces.specs.Step.{facing_between}
-use Rattle.scene.specs.Kept.{ports_between, rows_below}
+use Rattle.faces.specs.Step.{facing_between, slope_between}
+use Rattle.scene.specs.Kept.{ports_between, rows_below, sloped_below}
 use Rattle.regions.specs.Graph as graph
 use Rattle.regions.specs.Kosaraju as walk
 use Rattle.signals.specs.Signals.{signals}
@@ -34,7 +34,7 @@ abbrev Is : Answers → ℕ → Type 0
 Is answers k = answers ≡ get_or expected k []
 
 w1_is : Is w1 0
-unfolding first_from first_out_of_range first_not_ascending first_repeated first_end_missing not_whole grouping_lists liveness_lists digits_then field_lines roots_below rows_below graph.range graph.each walk.order walk.labels verdict_rows source_rows_below all_rows verdict_lines report_of
+unfolding first_from first_out_of_range first_not_ascending first_repeated first_end_missing not_whole grouping_lists liveness_lists digits_then field_lines roots_below rows_below sloped_below graph.range graph.each walk.order walk.labels verdict_rows source_rows_below all_rows verdict_lines report_of
 w1_is = refl
 
 -- the forest of W2 has a place for each component that a scene may have: its numbers are computed once
@@ -51,11 +51,11 @@ unfolding first_from all_from tabulate record_in_range first_out_of_range record
 w2_is = ap₂ (λ (numbers : List ℕ) (n : ℕ). grouping_checks three (dust 2 0) ∷ tabulate (ids_of three numbers) n) w2_numbers w2_count
 
 w3_is : Is w3 2
-unfolding facing_between
+unfolding facing_between slope_between
 w3_is = refl
 
 w4_is : Is w4 3
-unfolding first_from all_from record_in_range first_out_of_range record_before first_not_ascending place_below first_repeated not_whole grouping_lists opposite face_or neither repeater_ports ports_for serves select_port transfer_of facing_between ports_between rows_below
+unfolding first_from all_from record_in_range first_out_of_range record_before first_not_ascending place_below first_repeated not_whole grouping_lists opposite face_or neither repeater_ports ports_for serves select_port transfer_of facing_between slope_between ports_between sloped_below
 w4_is = refl
 
 w5_is : Is w5 4

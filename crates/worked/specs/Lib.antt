@@ -2,4 +2,5 @@
 pub mod Plots
 pub mod Founding
 pub mod Lighting
+pub mod Staircase
 pub mod Example

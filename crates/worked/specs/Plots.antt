@@ -16,9 +16,9 @@ use Rattle.lines.specs.Text.{ascii}
 use Rattle.circuit.specs.Topology.{nets_of, net_count, fragment_count}
 use Rattle.faces.specs.Ports.{ports_for}
 use Rattle.faces.specs.Rows.{row_of}
-use Rattle.faces.specs.Step.{facing_between}
+use Rattle.faces.specs.Step.{facing_between, slope_between}
 use Rattle.faces.specs.Select.{select_port}
-use Rattle.scene.specs.Kept.{kept_rows, kept_count}
+use Rattle.scene.specs.Kept.{sloped_rows, kept_count}
 use Rattle.regions.specs.Graph.{range, filter}
 use Rattle.signals.specs.Regions.{regions_of, region_count, is_cyclic}
 use Rattle.assessment.specs.Verdicts.{source_rows, input_rows}
@@ -81,9 +81,9 @@ regions cs ps = tabulate (ids_of cs (regions_of cs ps)) (region_count cs ps)
 abbrev pub cyclic : List ℤ → List ℤ → List ℕ
 cyclic cs ps = tabulate (λ r. as_nat (is_cyclic cs ps r)) (region_count cs ps)
 
--- the face of a step from 0, 0, 0
-abbrev pub face : ℤ → ℤ → ℤ → List ℕ
-face x y z = facing_between (pos 0) (pos 0) (pos 0) x y z ∷ []
+-- face and slope of a step from 0, 0, 0
+abbrev pub step : ℤ → ℤ → ℤ → List ℕ
+step x y z = facing_between (pos 0) (pos 0) (pos 0) x y z ∷ slope_between (pos 0) (pos 0) (pos 0) x y z ∷ []
 
 abbrev pub port_number : Option ℕ → List ℕ
 port_number (Some k) = k ∷ []
@@ -108,9 +108,9 @@ three = wire 0 ++ wire 1 ++ wire 2
 abbrev pub w2 : Answers
 w2 = grouping_checks three (dust 2 0) ∷ nets three (dust 2 0)
 
--- W3 step 1,-1,0 is East (2); 1,1,1 and 0,0,0 have no face (0)
+-- W3 step 1,-1,0 is East (2) and falls (2); 1,1,1 and 0,0,0 have no face (0) and are level (0)
 abbrev pub w3 : Answers
-w3 = face (pos 1) (negsuc 0) (pos 0) ∷ face (pos 1) (pos 1) (pos 1) ∷ face (pos 0) (pos 0) (pos 0) ∷ []
+w3 = step (pos 1) (negsuc 0) (pos 0) ∷ step (pos 1) (pos 1) (pos 1) ∷ step (pos 0) (pos 0) (pos 0) ∷ []
 
 -- W4 Torch, support East (2): in from East is port 4, out to East port 1. Then Torch 1 and wire 2 to the East of it, connected both ways
 abbrev pub east_torch : List ℤ
@@ -123,7 +123,7 @@ w4 =
     port_number (select_port (ports_for 3 0 2 0) 2 false 0)
     ∷ port_number (select_port (ports_for 3 0 2 0) 2 true 0)
     ∷ grouping_checks east_torch (dust 1 2 ++ dust 2 1)
-    ∷ kept_rows east_torch (dust 1 2 ++ dust 2 1)
+    ∷ sloped_rows east_torch (dust 1 2 ++ dust 2 1)
     ∷ []
 
 -- W5 Repeater facing Up (5): Up, Down, four Controls, Support 6
@@ -184,7 +184,7 @@ computed = w1 ∷ w2 ∷ w3 ∷ w4 ∷ w5 ∷ w6 ∷ w7 ∷ w8 ∷ w9 ∷ w10 �
 abbrev pub accepted : List ℕ
 accepted = 0 ∷ []
 
--- a source row is id, source kind; a verdict row device, port, status; a kept connection source, port, sink, port, transfer
+-- a source row is id, source kind; a verdict row device, port, status; a kept connection source, port, sink, port, transfer, slope
 abbrev pub expected : List Answers
 expected =
     -- W1 all counts 0
@@ -194,12 +194,12 @@ expected =
     ∷ [])
     -- W2 nets {1}, {0,2}
     ∷ (accepted ∷ (1 ∷ []) ∷ (0 ∷ 2 ∷ []) ∷ [])
-    -- W3 East; no face; no face
-    ∷ ((2 ∷ []) ∷ (0 ∷ []) ∷ (0 ∷ []) ∷ [])
+    -- W3 East and falling; no face; no face
+    ∷ ((2 ∷ 2 ∷ []) ∷ (0 ∷ 0 ∷ []) ∷ (0 ∷ 0 ∷ []) ∷ [])
     -- W4 in from East is port 4, out to East port 1
     ∷ ((4 ∷ []) ∷ (1 ∷ [])
     ∷ accepted
-    ∷ (1 ∷ 1 ∷ 2 ∷ 3 ∷ 0 ∷ 2 ∷ 3 ∷ 1 ∷ 4 ∷ 0 ∷ [])
+    ∷ (1 ∷ 1 ∷ 2 ∷ 3 ∷ 0 ∷ 0 ∷ 2 ∷ 3 ∷ 1 ∷ 4 ∷ 0 ∷ 0 ∷ [])
     ∷ [])
     -- W5 role, face, channel: out Up, in Down, four Controls, Support 6 (channel 4)
     ∷ ((1 ∷ 5 ∷ 0 ∷ [])

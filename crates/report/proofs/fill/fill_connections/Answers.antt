@@ -1,45 +1,53 @@
--- Answers for the goals that the search leaves.
-use mathlib.Core.Path.{◌≡◌, sym, ap, ◌∙◌}
-use mathlib.Core.List.{List, map}
-use Prim.Native.Nat.{ℕ, ◌≤◌, ◌<◌}
+-- `report::fill::fill_connections` meets its contract.
+-- Assumes nothing.
+use mathlib.Core.Path.{refl, ◌∙◌}
+use mathlib.Core.List.{[]}
+use native.Mathlib.Nat.{zero-add}
 use native.Mathlib.Omega.{arith}
-use lib.IntN.{ℤ, pos}
-use lib.ListN.{length, take, length-map}
-use lib.Seq.{length-take-le}
-use Rattle.std.proofs.lemmas.List.{take_all, take_more, take_more_set}
-use Rattle.report.proofs.RowText.{natural_in, natural_is}
+use Rattle.assessment.proofs.Devices.{below_none, below_more}
+use Rattle.report.proofs.CutRows.{first_rows, six, rows_step, number_in, first_in, row_few, row_joined, rows_all}
 use Rattle.report.proofs.fill.fill_connections.Goals as goal
-use Rattle.report.proofs.fill.fill_connections.Goals.{Start}
 
-as_long : {ports : List ℤ} (ns : List ℕ) → ports ≡ map pos ns → length ports ≡ length ns
-as_long ns e = ap length e ∙ length-map ns pos
-
--- the front that is filled
-front : (s : Start) → length (take (length s.args.ports.now) s.args.rows.now) ≡ length s.args.ports.now
-front s = length-take-le _ _ s.requires.1
-
-whole : (items ns : List ℕ) (i : ℕ) → length items ≤ i → length ns ≤ i → take i items ≡ take i ns → items ≡ ns
-whole items ns i l m e = sym (take_all i items l) ∙ e ∙ take_all i ns m
+pub loop-k-init : goal.loop-k-init
+loop-k-init c ns cut = below_none (first_rows ns) (λ p. []) 6 6 _ _ refl
 
 pub natural_at-requires : goal.natural_at-requires
-natural_at-requires c =
-    let s = (goal.at.natural_at-requires c).Start in
-    let (ns, e) = c.requires.0 in
-    (omega (arith, c.loop-i-test.true, front s), natural_in ns e c.loop-i.i)
+natural_at-requires c = first_in c.requires.cut.1 c.loop-k.k c.loop-k-test.true
 
-pub loop-i-preserved : goal.loop-i-preserved
-loop-i-preserved c ns e =
-    let s = (goal.at.loop-i-preserved c).Start in
-    let l = c.loop-i in
-    let here : l.i < length l.row-items = omega (arith, c.loop-i-test.true, l.auto.row-items) in
-    let there : l.i < length ns = omega (arith, c.loop-i-test.true, front s, as_long ns e) in
-    rw (take_more_set l.row-items l.i c.natural_at.result here, l.invariant ns e, c.natural_at.ensures, natural_is ns e l.i)
-    (sym (take_more ns l.i 0 there))
+pub natural_at-requires-in-loop-k : goal.natural_at-requires-in-loop-k
+natural_at-requires-in-loop-k c = number_in c.requires.cut.1 c.loop-k.k c.loop-k-test.true 1 (omega arith)
+
+pub natural_at-requires-in-loop-k-2 : goal.natural_at-requires-in-loop-k-2
+natural_at-requires-in-loop-k-2 c = number_in c.requires.cut.1 c.loop-k.k c.loop-k-test.true 2 (omega arith)
+
+pub natural_at-requires-in-loop-k-3 : goal.natural_at-requires-in-loop-k-3
+natural_at-requires-in-loop-k-3 c = number_in c.requires.cut.1 c.loop-k.k c.loop-k-test.true 3 (omega arith)
+
+pub natural_at-requires-in-loop-k-4 : goal.natural_at-requires-in-loop-k-4
+natural_at-requires-in-loop-k-4 c = number_in c.requires.cut.1 c.loop-k.k c.loop-k-test.true 4 (omega arith)
+
+pub put_row-at-requires : goal.put_row-at-requires
+put_row-at-requires c =
+    let (ns, cut) = c.requires.cut in
+    let i = c.loop-k.invariant ns cut in
+    omega (arith, i.put.place, i.few, c.requires.rows_in_bounds, c.loop-k-test.true, c.loop-k.auto.rows)
+
+pub loop-k-preserved : goal.loop-k-preserved
+loop-k-preserved c ns cut =
+    let l = c.loop-k in
+    below_more (first_rows ns) (six ns) 6 6 _ _ (rows_step ns) c.loop-k-test.true (l.invariant ns cut) (row_few cut l.k c.loop-k-test.true)
+    (row_joined cut l.k c.loop-k-test.true
+    c.natural_at.ensures
+    c.natural_at-in-loop-k.ensures
+    c.natural_at-in-loop-k-2.ensures
+    c.natural_at-in-loop-k-3.ensures
+    c.natural_at-in-loop-k-4.ensures
+    c.from.ensures
+    c.put_row-at.ensures)
+    c.put_row-at.auto.out
 
 pub returns : goal.returns
-returns c ns e =
-    let s = (goal.at.returns c).Start in
-    let l = c.loop-i in
-    let all : l.row-items ≡ ns = whole l.row-items ns l.i (omega (arith, l.auto.row-items, c.loop-i-test.false))
-    (omega (arith, c.loop-i-test.false, front s, as_long ns e)) (l.invariant ns e) in
-    rw (all, as_long ns e)
+returns c ns cut =
+    let l = c.loop-k in
+    let put = rw (rows_all cut l.k c.loop-k-test.false) at (l.invariant ns cut).put in
+    put.is ∙ rw zero-add

@@ -1,11 +1,11 @@
--- `report::fill::fill_connections` meets its contract: before place i stand the numbers before it.
+-- `report::fill::fill_connections` meets its contract: before row k the rows before it stand at the front.
 -- Assumes nothing.
-use mathlib.Core.Path.{◌≡◌}
-use mathlib.Core.List.{List, map}
+use mathlib.Core.List.{List}
 use Prim.Native.Nat.{ℕ}
-use lib.IntN.{pos}
-use lib.ListN.{take}
+use Rattle.assessment.proofs.Devices.{RowsPut}
+use Rattle.report.specs.Printing.{Cut}
+use Rattle.report.proofs.CutRows.{first_rows}
 use Rattle.report.proofs.fill.fill_connections.Given as goal
 
-abbrev pub invariant-loop-i : goal.invariant-loop-i
-invariant-loop-i l = (ns : List ℕ) → l.ports ≡ map pos ns → take l.i l.row-items ≡ take l.i ns
+abbrev pub invariant-loop-k : goal.invariant-loop-k
+invariant-loop-k l = (ns : List ℕ) → Cut ns l.ports l.slopes → RowsPut (first_rows ns) 6 6 l.k-end l.initial.rows l.rows l.at l.k

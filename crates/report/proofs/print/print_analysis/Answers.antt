@@ -1,24 +1,24 @@
 -- `report::print::print_analysis` meets its contract: the filled rows are those of the report.
 -- Assumes nothing.
-use mathlib.Core.Path.{◌≡◌, sym, ap, subst, ◌∙◌}
+use mathlib.Core.Path.{◌≡◌, sym, subst}
 use mathlib.Core.List.{List}
 use Prim.Native.Nat.{ℕ, ◌*◌, ◌≤◌}
 use native.Mathlib.Omega.{arith}
-use lib.IntN.{ℤ, pos}
-use lib.ListN.{length, take, length-map}
+use lib.IntN.{ℤ}
+use lib.ListN.{length, take}
 use lib.Seq.{length-take-le}
 use Rattle.lists.specs.Limits.{component_limit}
 use Rattle.lists.specs.Records.{component_count}
 use Rattle.lists.specs.Ids.{IdTable}
 use Rattle.lists.specs.Slices.{laid}
 use Rattle.lists.proofs.Table.{table_long}
-use Rattle.scene.specs.Kept.{kept_rows}
+use Rattle.scene.specs.Kept.{sloped_rows}
 use Rattle.liveness.specs.Scene.{Scene}
 use Rattle.liveness.specs.declared.Analysis.{Analysis}
 use Rattle.report.specs.Report.{all_rows}
 use Rattle.report.specs.Printing.{component_row_by, region_row_by, Analyzed}
 use Rattle.report.specs.Entry.{fits, PrintedBy}
-use Rattle.report.proofs.Scenes.{front_is, nets_long, fragments_long, regions_long, regions_few, kept_fit}
+use Rattle.report.proofs.Scenes.{front_is, nets_long, fragments_long, regions_long, regions_few, slopes_few}
 use Rattle.report.proofs.Assembled.{component_count_lem, region_pairs, assembled}
 use Rattle.report.proofs.print.print_analysis.Goals as goal
 
@@ -41,7 +41,10 @@ fill_components-requires-clause-components_in_bounds c =
 pub fill_connections-requires : goal.fill_connections-requires
 fill_connections-requires c =
     let g = c.requires.gathered in
-    ((kept_rows c.args.asked.now.components.now g.0, g.1.kept_are), kept_fit g.1 c.requires.analyzed.1.0.fed_scene.scene)
+    record {
+      cut = (sloped_rows c.args.asked.now.components.now g.0, g.1.sloped);
+      rows_in_bounds = omega (arith, slopes_few g.1 c.requires.analyzed.1.0.fed_scene.scene);
+    }
 
 pub fill_regions-requires : goal.fill_regions-requires
 fill_regions-requires c = regions_fit c.requires.analyzed.1.1 c.requires.analyzed.1.0.fed_scene.scene
@@ -88,13 +91,13 @@ returns c ps fs groups ready found =
     let called = c.print_rows in
     let a = c.args in
     let cs = a.asked.now.components.now in
-    let rows = kept_rows cs ps in
+    let rows = sloped_rows cs ps in
     let f = a.found in
     let many = table_long a.asked.now.table in
     let components-are = components_are cs a.groups.now.nets.now a.groups.now.fragments.now a.rows.now.regions.now f.drive.words f.potential.words _ _ many
     (rw c.component_list.ensures at c.fill_components.ensures) in
-    let connections-are : take (length a.ports.now) c.fill_connections.new.rows ≡ rows =
-    front_is rows _ (c.fill_connections.ensures rows groups.kept_are) _ (ap length groups.kept_are ∙ length-map rows pos) in
+    let connections-are : take (6 * length a.groups.now.slopes.now) c.fill_connections.new.rows ≡ rows =
+    front_is rows _ (c.fill_connections.ensures rows groups.sloped) _ (omega (arith, groups.sloped.long)) in
     let regions-are = regions_are f.cyclic.words f.has_drive.words f.regions _ c.fill_regions.ensures in
     subst (λ (t : List ℕ). PrintedBy (fits t (length a.out.now)) t a.out.now called.new.out called.result)
     (assembled cs ps fs ready.fed_scene.scene.distinct groups found components-are connections-are regions-are)

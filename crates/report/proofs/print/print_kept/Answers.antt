@@ -17,8 +17,8 @@ use Rattle.report.specs.Printing.{Accepts, Gathered}
 use Rattle.report.proofs.Scenes.{kept_scene, front_long, analyzed}
 use Rattle.report.proofs.print.print_kept.Goals as goal
 
-scene_of : {cs ps kept fs : List ℤ} {keys nets fragments : List ℕ}
-    → Accepts cs ps fs keys → Gathered cs ps kept nets fragments → Scene cs kept
+scene_of : {cs ps kept fs : List ℤ} {keys nets fragments slopes : List ℕ}
+    → Accepts cs ps fs keys → Gathered cs ps kept nets fragments slopes → Scene cs kept
 scene_of {cs} {ps} {fs = fs} a g = subst (Scene cs) (sym g.kept_are) (kept_scene cs ps fs a.accepted)
 
 pub invariant_of-linked : goal.invariant_of-linked

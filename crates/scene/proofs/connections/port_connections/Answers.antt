@@ -8,7 +8,7 @@ use native.Mathlib.Omega.{arith}
 use lib.ListN.{length}
 use lib.Seq.{length-take-le}
 use borrow.Author.Tests.{leb-true}
-use Rattle.lists.specs.Limits.{port_width}
+use Rattle.lists.specs.Limits.{kept_width}
 use Rattle.lists.specs.Records.{component_count, connection_count}
 use Rattle.checks.proofs.Accepted.{GroupingScene, grouping_accept}
 use Rattle.scene.proofs.connections.port_connections.Goals as goal
@@ -41,5 +41,5 @@ keep_all-requires c =
     let s = accepted (goal.at.keep_all-requires c).After-grouping_lists c.in_ok-grouping_lists.was in
     let room = sym c.room_for-enough.ensures ∙ s.scene.lengths.room in record {
       id_table = c.grouping_lists.ensures.table c.in_ok-grouping_lists.was;
-      port_width_in_bounds = omega (arith, leb-true (connection_count c.args.connections.now) (length c.args.out.now / port_width) room);
+      kept_width_in_bounds = omega (arith, leb-true (connection_count c.args.connections.now) (length c.args.out.now / kept_width) room);
     }

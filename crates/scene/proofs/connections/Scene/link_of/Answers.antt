@@ -4,8 +4,8 @@ use mathlib.Core.Path.{sym, ◌∙◌}
 use Rattle.lists.proofs.Table.{place_below_lem}
 use Rattle.scene.proofs.connections.Scene.link_of.Goals as goal
 
-pub ports_between-requires : goal.ports_between-requires
-ports_between-requires c =
+pub link_between-requires : goal.link_between-requires
+link_between-requires c =
     let cs = c.args.self.now.components.numbers.now in
     let table = c.args.self.now.id_table in
     (place_below_lem cs _ _ (sym (c.place_near.ensures cs table) ∙ c.in_ok-a.was), place_below_lem cs _ _ (sym (c.place_near-2.ensures cs table) ∙ c.in_ok-b.was))

@@ -1,4 +1,4 @@
--- `probe::ports::probe_port_connections` meets its contract.
+-- `capi::kept::dustroute_ports` meets its contract.
 -- Assumes nothing.
 use Rattle.std.specs.Prelude.{⊤, Result, Ok, Err}
 use mathlib.Core.Path.{◌≡◌, sym, ap, ◌∙◌}
@@ -14,12 +14,12 @@ use Rattle.checks.proofs.Accepted.{grouping_accept}
 use Rattle.scene.specs.Kept.{kept_count}
 use Rattle.scene.specs.Answer.{answer_of}
 use Rattle.scene.proofs.KeptWithin.{kept_few}
-use Rattle.probe.proofs.Selected.{RefusedAs, kept_accepted, refused_as}
-use Rattle.probe.proofs.ports.probe_port_connections.Goals as goal
-use Rattle.probe.proofs.ports.probe_port_connections.Goals.{After-port_connections}
+use Rattle.capi.proofs.KeptLaws.{by_lists, RefusedAs, kept_accepted, refused_as}
+use Rattle.capi.proofs.kept.dustroute_ports.Goals as goal
+use Rattle.capi.proofs.kept.dustroute_ports.Goals.{After-port_connections}
 
 abbrev refusal : After-port_connections → Result ⊤ Refusal
-refusal c = ports_refusal c.args.components.now c.args.connections.now (length c.args.out.now)
+refusal c = ports_refusal c.args.components.now c.args.connections.now (length c.args.ports.now)
 
 -- what an answer says of the checks
 when-kept : (c : After-port_connections) (m : ℕ) → c.port_connections.result ≡ Ok m
@@ -46,10 +46,10 @@ pack_refusal-requires c =
 
 pub returns-in-Ok : goal.returns-in-Ok
 returns-in-Ok c =
-    let w = when-kept (goal.at.returns-in-Ok c).After-port_connections _ c.in-Ok.is in
-    record { answer = rw w.0 (ap (λ (n : ℕ). 65536 * n) w.1); left = c.port_connections.ensures.left }
+    let (ok, count) = when-kept (goal.at.returns-in-Ok c).After-port_connections _ c.in-Ok.is in
+    by_lists _ _ _ (rw ok (ap (λ (n : ℕ). 65536 * n) count)) c.port_connections.ensures.left
 
 pub returns-in-Err : goal.returns-in-Err
 returns-in-Err c =
-    let w = when-refused (goal.at.returns-in-Err c).After-port_connections _ c.in-Err.is in
-    record { answer = c.pack_refusal.ensures ∙ w.packs _; left = c.port_connections.ensures.left }
+    let refused = when-refused (goal.at.returns-in-Err c).After-port_connections _ c.in-Err.is in
+    by_lists _ _ _ (c.pack_refusal.ensures ∙ refused.packs _) c.port_connections.ensures.left
