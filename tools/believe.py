@@ -19,7 +19,7 @@ ENTRIES = {
     "circuit/lib": ["from_parts", "fragment_nets"],
     "scene/connections": ["port_connections"],
     "faces/ports": ["ports_for", "port_count"],
-    "faces/step": ["facing_between"],
+    "faces/step": ["step_between"],
     "faces/select": ["select_port", "transfer_of"],
     "liveness/lib": ["analyze_signal_liveness"],
     "inputs/lib": ["required_input"],
@@ -36,6 +36,7 @@ ENTRIES = {
     "capi/one_input": ["dustroute_driven"],
     "capi/the_way": ["dustroute_trail", "dustroute_check_trail"],
     "capi/clear": ["dustroute_clear"],
+    "capi/kept": ["dustroute_ports"],
     "capi/light": ["dustroute_light"],
     "capi/region_table": ["dustroute_reach_table"],
 }
