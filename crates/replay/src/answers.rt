@@ -5,7 +5,8 @@ use circuit::{fragment_nets, from_parts};
 use inputs::{InputSources, required_input};
 use lists::ends::Ends;
 use lists::{
-    COMPONENT, COMPONENTS, CONNECTION, CONNECTIONS, FRONTIER, FRONTIERS, PORT, Refusal, list_number,
+    COMPONENT, COMPONENTS, CONNECTION, CONNECTIONS, FRONTIER, FRONTIERS, KEPT, PORT, Refusal,
+    list_number,
 };
 use liveness::{Analysis, analyze_signal_liveness};
 use records::{PortRecord, analyze_records};
@@ -63,6 +64,13 @@ fn records_of(ports: &[i64]) -> [PortRecord; CONNECTIONS] {
             transfer: row[4],
         }
     })
+}
+
+// Brings the first five numbers of so many rows of six to the front, since the Rust's rows have no slope.
+fn drop_slopes(rows: &mut [i64; CONNECTIONS * KEPT], count: usize) {
+    for k in 0..CONNECTIONS.min(count) {
+        rows.copy_within(k * KEPT..k * KEPT + PORT, k * PORT);
+    }
 }
 
 impl Entry {
@@ -221,12 +229,13 @@ impl Replay {
 
     // The port connections that are kept of a scene, and its liveness by them.
     fn replay_kept(&mut self, scene: Scene) {
-        let mut kept = [0i64; CONNECTIONS * PORT];
+        let mut kept = [0i64; CONNECTIONS * KEPT];
         let selected = port_connections(scene.components, scene.connections, &mut kept);
         let Ok(count) = selected else {
             self.refuse();
             return;
         };
+        drop_slopes(&mut kept, count);
         let ports = &kept[..CONNECTIONS.min(count) * PORT];
         self.compare_signed(b"kept", ports);
         self.replay_liveness(scene, ports);
