@@ -217,6 +217,39 @@ static void cleared_up(void)
     hold(get(sets, 32) == 0, "no loop");
 }
 
+/* Wires up a step and down again, the second step by dust that is saved as
+   rising, and a connection to a block that is not there. The slice has a number
+   more than is asked for, dirty; then one too few. */
+static void up_and_down(void)
+{
+    enum { ROWS = 4 * 6 };
+    const int64_t wires[] = {
+        1, 0, 64, 0, 0, 0, 0, 0,
+        2, 1, 65, 0, 0, 0, 0, 0,
+        3, 2, 64, 0, 0, 0, 0, 0,
+    };
+    const int64_t joined[] = {1, 2, 1, 2, 1, 2, 2, 3, 1, 3, 9, 0};
+    const int64_t wanted[] = {1, 1, 2, 3, 0, 1, 2, 3, 1, 1, 0, 2, 2, 1, 3, 3, 0, 2};
+    int64_t row[ROWS + 1];
+    memset(row, FILLING, sizeof row);
+    const int64_t dirty = row[ROWS];
+    uint64_t answer = dustroute_ports(wires, 24, joined, 12, row, ROWS - 1);
+    hold(answer == (2 | 3 << 8) && row[0] == dirty, "2: no room for the rows");
+    const int64_t twice[] = {1, 2, 1, 1, 2, 1};
+    answer = dustroute_ports(wires, 24, twice, 6, row, ROWS + 1);
+    hold(answer == (6 | 1 << 8 | 1 << 16) && row[0] == dirty, "6: a connection twice");
+    answer = dustroute_ports(wires, 24, joined, 12, row, ROWS + 1);
+    hold(DUSTROUTE_ACCEPTED(answer) && DUSTROUTE_COUNT(answer, 0) == 3, "three connections kept");
+    hold(memcmp(row, wanted, sizeof wanted) == 0, "up, down and down");
+    for (size_t k = 18; k <= ROWS; k++)
+        hold(row[k] == dirty, "nothing behind the rows");
+    int64_t fed[3 * 5];
+    for (size_t k = 0; k < 3; k++)
+        memcpy(fed + 5 * k, row + 6 * k, 5 * sizeof *row);
+    answer = analyzed(put_all(components, wires, 24), put_all(ports, fed, 15), 0, sizeof stack);
+    hold(DUSTROUTE_ACCEPTED(answer) && DUSTROUTE_COUNT(answer, 0) == 2, "two regions, without the slopes");
+}
+
 /* A ring of wires through as many components as there may be, four connections
    from each to the next, and frontiers that are all the origin. */
 static void full_lists(void)
@@ -329,6 +362,7 @@ int main(int count, char **arguments)
         worked_liveness();
         refusals();
         cleared_up();
+        up_and_down();
         full_plot();
     }
     if (faults == 0)

@@ -66,9 +66,9 @@
  *     8   the port asked for has no verdict row; list 3, item 0
  *     10  the row's status is not 0; list 3, item 0
  *
- * 6 is of dustroute_groups alone, 7 of the others but dustroute_clear; 8 is of
- * dustroute_driven, dustroute_trail and dustroute_check_trail, 10 of
- * dustroute_trail alone.
+ * 6 is of dustroute_groups and dustroute_ports alone, 7 of the others but
+ * dustroute_clear; 8 is of dustroute_driven, dustroute_trail and
+ * dustroute_check_trail, 10 of dustroute_trail alone.
  *
  *
  * WHAT IS WRITTEN
@@ -121,6 +121,9 @@
 #define DUSTROUTE_STACK_BYTES(components) ((components) * (size_t)(2 * 8))
 #define DUSTROUTE_SETS_BYTES (4 * 16 * 8)
 
+/* Numbers that the slice of dustroute_ports must have for so many connections. */
+#define DUSTROUTE_PORTS_NUMBERS(connections) ((connections) * (size_t)6)
+
 /* Numbers that the slices of dustroute_driven must have. */
 #define DUSTROUTE_MET_NUMBERS 16
 #define DUSTROUTE_DRIVEN_STACK_NUMBERS(components) ((components) * (size_t)2)
@@ -168,6 +171,24 @@ uint64_t dustroute_groups(
     const uint8_t *connections, size_t connections_len,
     uint8_t *nets, size_t nets_len,
     uint8_t *fragments, size_t fragments_len);
+
+/*
+ * The ports that connections take: at either end the first port of the component
+ * that has the face of the step from source to sink and also fits. A connection
+ * with an end that has no component, face or port is dropped, and so is support;
+ * those kept stay in order.
+ *
+ * ports     rows of six numbers: source id, source port, sink id, sink port,
+ *           transfer; slope of the step, 0 level, 1 rising, 2 falling, by
+ *           position alone, whatever the kind of the connection. The other
+ *           entries take these as ports without the slopes.
+ *
+ * Counts: rows.
+ */
+uint64_t dustroute_ports(
+    const int64_t *components, size_t components_len,
+    const int64_t *connections, size_t connections_len,
+    int64_t *ports, size_t ports_len);
 
 /*
  * regions   the region of each component, in list order. Two components share

@@ -1,5 +1,5 @@
 //! The kept port connections, compared with the unchanged Rust where they are
-//! given and with the restatement where they are refused.
+//! given, their slopes and refusals with the restatement.
 
 use std::fmt::Display;
 
@@ -14,7 +14,8 @@ pub struct Ports {
     calls: u64,
     by_number: [u64; 7],
     connections: u64,
-    kept: u64,
+    /// Level, rising and falling.
+    kept: [u64; 3],
 }
 
 impl Ports {
@@ -32,7 +33,9 @@ impl Ports {
             Ok(rows) => {
                 self.by_number[0] += 1;
                 self.connections += connections.len() as u64 / 3;
-                self.kept += rows.len() as u64;
+                for row in &rows {
+                    self.kept[usize::try_from(row[5]).unwrap_or(0)] += 1;
+                }
                 assert_eq!(given, Ok(rows.len() as u64), "count, {case}{scene}");
                 let held = out.holds(rows.as_flattened());
                 assert!(held, "rows, lent {lent}, {case}{scene}");
@@ -64,17 +67,18 @@ impl Counted for Ports {
             kept,
         } = self;
         println!(
-            "{title}: {calls} calls, by number {by_number:?}, {kept} of {connections} connections kept"
+            "{title}: {calls} calls, by number {by_number:?}, of {connections} connections kept by slope {kept:?}"
         );
     }
 }
 
-/// The Rust's rows, or the restatement's refusal.
-fn wanted(scene: &Scene, lent: usize) -> Result<Vec<[i64; 5]>, probe::Refusal> {
+/// The Rust's rows with the restatement's slopes, or its refusal.
+fn wanted(scene: &Scene, lent: usize) -> Result<Vec<[i64; 6]>, probe::Refusal> {
     let (components, connections) = (&scene.components, &scene.connections);
     if let Some(refusal) = refusals::ports(components, connections, lent) {
         let scenes::Refusal { number, list, item } = refusal;
         return Err(probe::Refusal { number, list, item });
     }
-    Ok(oracle::ports(components, connections))
+    let kept = oracle::ports(components, connections);
+    Ok(paper::sloped(components, &kept))
 }

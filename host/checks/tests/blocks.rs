@@ -1,7 +1,8 @@
 //! The proved ports of single blocks and faces of single steps against the
-//! unchanged Rust, and what they give outside the ranges of their codes.
+//! unchanged Rust, and what they give outside the ranges of their codes; the
+//! slopes of steps against the words of the request.
 
-use probe::ports::{Block, facing_between, port, port_count};
+use probe::ports::{Block, port, port_count, step_between};
 use scenes::limits::{FAR, LAST_FACE, LAST_KIND};
 
 type Cell = [i64; 3];
@@ -101,10 +102,22 @@ fn wanted_face(from: Cell, to: Cell) -> u64 {
     kept.first().map_or(0, |row| row[1].unsigned_abs() + 1)
 }
 
-fn hold_face(from: Cell, to: Cell) -> u64 {
-    let face = facing_between(from, to);
-    assert_eq!(face, wanted_face(from, to), "{from:?} to {to:?}");
-    face
+/// A step with a face rises or falls by one or not at all; one without is
+/// level.
+fn wanted_slope(face: u64, from: Cell, to: Cell) -> u64 {
+    match (face, i128::from(to[1]) - i128::from(from[1])) {
+        (1.., 1) => 1,
+        (1.., -1) => 2,
+        _ => 0,
+    }
+}
+
+fn hold_step(from: Cell, to: Cell) -> [u64; 2] {
+    let step = step_between(from, to);
+    let face = wanted_face(from, to);
+    let slope = wanted_slope(face, from, to);
+    assert_eq!(step, [face, slope], "{from:?} to {to:?}");
+    step
 }
 
 /// All cells whose axes are among these.
@@ -117,17 +130,19 @@ fn cells(axes: &[i64]) -> Vec<Cell> {
 
 #[test]
 fn every_step_has_the_face_of_the_rust() {
-    let mut by_face = [0_u64; 7];
+    let (mut by_face, mut by_slope) = ([0_u64; 7], [0_u64; 3]);
     for from in cells(&[-FAR, 1 - FAR, 0, FAR - 1, FAR]) {
         for step in cells(&[-2, -1, 0, 1, 2]) {
             let to = [0, 1, 2].map(|axis| from[axis] + step[axis]);
-            for face in [hold_face(from, to), hold_face(to, from)] {
+            for [face, slope] in [hold_step(from, to), hold_step(to, from)] {
                 by_face[usize::try_from(face).unwrap_or(0)] += 1;
+                by_slope[usize::try_from(slope).unwrap_or(0)] += 1;
             }
         }
     }
-    println!("steps by face, none first: {by_face:?}");
-    assert!(by_face.iter().all(|count| *count > 0));
+    println!("steps by face, none first: {by_face:?}; by slope: {by_slope:?}");
+    assert!(by_face.iter().chain(&by_slope).all(|count| *count > 0));
+    assert_eq!(by_slope[1], by_slope[2]);
 }
 
 /// Differences that a 64-bit number cannot hold, and cells outside the range.
@@ -149,7 +164,7 @@ fn steps_of_any_numbers_have_a_face_or_none() {
     let mut count = 0;
     for &from in &all {
         for &to in &all {
-            hold_face(from, to);
+            hold_step(from, to);
             count += 1;
         }
     }

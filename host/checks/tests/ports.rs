@@ -3,7 +3,7 @@
 
 use checks::runs::{self, Seeds};
 use checks::{Counted, Ports};
-use scenes::limits::{COMPONENT, COMPONENTS, FAR, LAST_FACE, LAST_KIND, PORT_CONNECTION};
+use scenes::limits::{COMPONENT, COMPONENTS, FAR, KEPT_ROW, LAST_FACE, LAST_KIND};
 use scenes::random::Random;
 use scenes::{Lent, Profile, Scene};
 
@@ -65,7 +65,7 @@ fn on_every_step_between_two_blocks() {
                 let scene = two_blocks(corner, step, [kinds % 13, kinds / 13], random);
                 let case = format!("corner {corner:?} step {step:?}");
                 if !is_outside {
-                    ports.call(&scene, 10 * PORT_CONNECTION, &case);
+                    ports.call(&scene, 10 * KEPT_ROW, &case);
                 }
             }
         }
@@ -105,7 +105,7 @@ fn on_every_pair_of_neighbours() {
                 records.sort_unstable_by_key(|record| [record[1], record[2], record[3]]);
                 let scene = with_every_connection(records.concat());
                 let case = format!("{source:?} to {sink:?}");
-                ports.call(&scene, 10 * PORT_CONNECTION, &case);
+                ports.call(&scene, 10 * KEPT_ROW, &case);
             }
         }
     }
@@ -135,11 +135,11 @@ fn with_slices_of_every_length() {
         let enough = Lent::enough(scene).ports;
         for lent in [
             0,
-            enough.saturating_sub(5),
+            enough.saturating_sub(6),
             enough.saturating_sub(1),
             enough + 1,
-            enough + 4,
             enough + 5,
+            enough + 6,
             enough + 1_000,
         ] {
             ports.call(scene, lent, &case);

@@ -1,4 +1,5 @@
-//! The codes of kinds, faces, connections and transfers, as enums in their order.
+//! The codes of kinds, faces, connections, transfers and slopes, as enums in
+//! their order.
 
 /// What a component is. The codes of the product's lists and sheets are the
 /// places in [`BlockKind::ALL`].
@@ -164,9 +165,25 @@ impl TransferKind {
     ];
 }
 
+/// Whether a step climbs. The codes are the places in [`Slope::ALL`].
+#[derive(Clone, Copy, Debug, Eq, Hash, Ord, PartialEq, PartialOrd)]
+pub enum Slope {
+    /// Code 0: the sink is as high as the source.
+    Level,
+    /// Code 1: the sink is one higher.
+    Rising,
+    /// Code 2: the sink is one lower.
+    Falling,
+}
+
+impl Slope {
+    /// Every slope, by rising code.
+    pub const ALL: [Self; 3] = [Self::Level, Self::Rising, Self::Falling];
+}
+
 #[cfg(test)]
 mod tests {
-    use super::{BlockKind, ConnectionKind, Facing, TransferKind};
+    use super::{BlockKind, ConnectionKind, Facing, Slope, TransferKind};
 
     /// As in the table of faces: 0 none, North, East, South, West, Up, Down.
     #[test]
@@ -189,5 +206,7 @@ mod tests {
         assert_eq!(ConnectionKind::Support as i64, 9);
         assert_eq!(TransferKind::DirectionalDevice as i64, 4);
         assert_eq!(TransferKind::StructuralSupport as i64, 6);
+        assert_eq!(Slope::Rising as i64, 1);
+        assert_eq!(Slope::Falling as i64, 2);
     }
 }

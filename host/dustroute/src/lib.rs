@@ -5,6 +5,8 @@
 //! - [`groups`] joins components into nets and fragments.
 //! - [`liveness`] finds regions of signals that feed each other, the sources of
 //!   signals, what they drive, and a verdict for each required input.
+//! - [`ports`] finds the port connections that grouping connections make, and
+//!   whether each climbs.
 //! - [`driven`] tells of one required input whether it is driven, without the
 //!   rest of the plot.
 //! - [`trail`] shows the way from a drive source to a driven input, and
@@ -73,6 +75,7 @@ mod light;
 pub mod limits;
 mod liveness;
 mod numbers;
+mod ports;
 mod reach_table;
 mod refusal;
 mod scene;
@@ -80,7 +83,7 @@ mod trail;
 mod what_if;
 
 pub use clear::{Cleared, Dropped, Missing, clear};
-pub use codes::{BlockKind, ConnectionKind, Facing, TransferKind};
+pub use codes::{BlockKind, ConnectionKind, Facing, Slope, TransferKind};
 pub use driven::{DrivenInput, driven};
 pub use groups::{ComponentGroups, Groups, groups};
 pub use light::{ComponentLight, Lighting, Step, light};
@@ -88,6 +91,7 @@ pub use liveness::{
     ComponentLiveness, Liveness, Region, RequiredInput, RequiredInputStatus, SignalSource,
     SignalSourceKind, liveness,
 };
+pub use ports::{KeptConnection, ports};
 pub use reach_table::{ReachTable, reach_table};
 pub use refusal::{List, Place, Reason, Refusal};
 pub use scene::{Component, ComponentId, Connection, PortConnection, PortRef, Position};

@@ -8,7 +8,7 @@ use std::thread::{self, Builder};
 use dustroute::{
     BlockKind, Component, ComponentId, Connection, ConnectionKind, List, Place, PortConnection,
     PortRef, Position, Reason, Refusal, TransferKind, clear, driven, groups, light, limits,
-    liveness, reach_table,
+    liveness, ports, reach_table,
 };
 use scenes::Profile;
 use typed::Lists;
@@ -78,9 +78,10 @@ fn as_many_connections_as_the_limit_and_more() {
         let refused = (count > 4_096).then(|| too_long(List::Connections, 4_096));
         let connections: Vec<Connection> = pairs.clone().map(joined).take(count).collect();
         assert_eq!(groups(&components, &connections).err(), refused);
-        let ports: Vec<PortConnection> = pairs.clone().map(fed).take(count).collect();
-        assert_eq!(liveness(&components, &ports, &[]).err(), refused);
-        assert_eq!(clear(&components, &ports, &[]).err(), refused);
+        assert_eq!(ports(&components, &connections).err(), refused);
+        let feeds: Vec<PortConnection> = pairs.clone().map(fed).take(count).collect();
+        assert_eq!(liveness(&components, &feeds, &[]).err(), refused);
+        assert_eq!(clear(&components, &feeds, &[]).err(), refused);
     }
 }
 
@@ -138,6 +139,7 @@ fn mark(plot: &Lists) -> Result<[usize; 2], Refusal> {
     let groups = groups(&plot.components, &plot.connections)?;
     let found = liveness(&plot.components, &plot.ports, &plot.frontiers)?;
     light(&plot.components, &plot.ports, &plot.frontiers)?;
+    ports(&plot.components, &plot.connections)?;
     for row in found.inputs.iter().take(20) {
         driven(&plot.components, &plot.ports, &plot.frontiers, row.input)?;
     }

@@ -4,7 +4,8 @@
 //! They follow the paper's words rule by rule, and the answers have the shape
 //! of the crate `oracle`, so that the unchanged Rust can be held to the paper.
 //! Only the channels of ports are taken from the Rust, where the paper itself
-//! points to it. A report prints the Rust's own answers.
+//! points to it. A report prints the Rust's own answers, but for slopes, which
+//! the Rust does not have.
 
 mod groups;
 mod liveness;
@@ -16,4 +17,4 @@ mod walk;
 
 pub use groups::{greatest_ranks, groups};
 pub use liveness::liveness;
-pub use ports::{ports, ports_of};
+pub use ports::{ports, ports_of, sloped};

@@ -1,4 +1,4 @@
-//! "Ports": tables by kind, the step's face, the first port that fits.
+//! "Ports": tables by kind, the step's face and slope, the first port that fits.
 
 use std::collections::BTreeMap;
 
@@ -105,6 +105,16 @@ fn face(source: &[i64], sink: &[i64]) -> Option<i64> {
     }
 }
 
+/// Level 0, rising 1, falling 2. "A pure Up step rises, a pure Down step falls
+/// and one without a face is level."
+fn slope(source: &[i64], sink: &[i64]) -> i64 {
+    match (face(source, sink), sink[2] - source[2]) {
+        (Some(_), 1) => 1,
+        (Some(_), -1) => 2,
+        _ => 0,
+    }
+}
+
 /// The first port with the face that also fits.
 fn choose(record: &[i64], face: i64, fits: impl Fn(Port) -> bool) -> Option<i64> {
     let ports = of(record).into_iter().zip(0..);
@@ -129,11 +139,31 @@ fn fits_sink(kind: i64, [role, _, channel]: Port) -> bool {
 
 const TRANSFERS: [i64; 10] = [0, 0, 0, 2, 3, 4, 4, 1, 5, 6];
 
+/// The components by their ids.
+fn by_id(components: &[i64]) -> BTreeMap<i64, &[i64]> {
+    let records = components.chunks_exact(COMPONENT);
+    records.map(|record| (record[0], record)).collect()
+}
+
+/// Rows of kept connections, each with the slope of its step behind it. The
+/// Rust has none, so that its rows are given theirs here.
+///
+/// # Panics
+/// Where an end is no component, which no kept connection has.
+#[must_use]
+pub fn sloped(components: &[i64], kept: &[[i64; 5]]) -> Vec<[i64; 6]> {
+    let by_id = by_id(components);
+    let row = |&[source, out, sink, into, transfer]: &[i64; 5]| {
+        let slope = slope(by_id[&source], by_id[&sink]);
+        [source, out, sink, into, transfer, slope]
+    };
+    kept.iter().map(row).collect()
+}
+
 /// The connections that are kept, in order.
 #[must_use]
 pub fn ports(components: &[i64], connections: &[i64]) -> Vec<[i64; 5]> {
-    let records = components.chunks_exact(COMPONENT);
-    let by_id: BTreeMap<i64, &[i64]> = records.map(|record| (record[0], record)).collect();
+    let by_id = by_id(components);
     let keep = |row: &[i64]| {
         let (source, sink, kind) = (by_id.get(&row[0])?, by_id.get(&row[1])?, row[2]);
         let face = face(source, sink)?;

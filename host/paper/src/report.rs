@@ -6,8 +6,17 @@ use oracle::{Groups, Input, Liveness};
 use scenes::Refusal;
 use scenes::limits::COMPONENT;
 
+use crate::sloped;
+
 const COMPONENT_KEYS: [&str; 6] = ["id", "net", "fragment", "region", "drive", "potential"];
-const CONNECTION_KEYS: [&str; 5] = ["source", "source_port", "sink", "sink_port", "transfer"];
+const CONNECTION_KEYS: [&str; 6] = [
+    "source",
+    "source_port",
+    "sink",
+    "sink_port",
+    "transfer",
+    "slope",
+];
 const REGION_KEYS: [&str; 2] = ["cyclic", "has_drive"];
 const SOURCE_KEYS: [&str; 2] = ["id", "kind"];
 const INPUT_KEYS: [&str; 3] = ["device", "port", "status"];
@@ -69,7 +78,8 @@ pub fn print(components: &[i64], groups: &Groups, kept: &[[i64; 5]], alive: &Liv
     line(&mut text, "answer", 0);
     let rows = component_rows(components, groups, alive);
     block(&mut text, "components", &COMPONENT_KEYS, &rows);
-    block(&mut text, "connections", &CONNECTION_KEYS, kept);
+    let rows = sloped(components, kept);
+    block(&mut text, "connections", &CONNECTION_KEYS, &rows);
     let flags = alive.regions.iter();
     let flags = flags.map(|it| [it.cyclic, it.contains_drive_source].map(i64::from));
     let rows: Vec<[i64; 2]> = flags.collect();
@@ -82,7 +92,7 @@ pub fn print(components: &[i64], groups: &Groups, kept: &[[i64; 5]], alive: &Liv
     text.into_bytes()
 }
 
-/// The report of a scene by the unchanged Rust's answers.
+/// The report of a scene by the unchanged Rust's answers, slopes aside.
 #[must_use]
 pub fn report(components: &[i64], connections: &[i64], frontiers: &[i64]) -> Vec<u8> {
     let groups = oracle::groups(components, connections);

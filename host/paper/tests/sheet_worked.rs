@@ -33,7 +33,7 @@ frontiers=0
 ";
 
 /// As the paper prints it, its lines parted by spaces.
-const ITS_REPORT: &str = "answer=0 components=2 id=1 net=0 fragment=0 region=0 drive=1 potential=1 id=2 net=1 fragment=0 region=1 drive=1 potential=1 connections=1 source=1 source_port=1 sink=2 sink_port=1 transfer=4 regions=2 cyclic=0 has_drive=1 cyclic=0 has_drive=0 sources=1 id=1 kind=0 inputs=1 device=2 port=1 status=0 immediate=1 inferred=";
+const ITS_REPORT: &str = "answer=0 components=2 id=1 net=0 fragment=0 region=0 drive=1 potential=1 id=2 net=1 fragment=0 region=1 drive=1 potential=1 connections=1 source=1 source_port=1 sink=2 sink_port=1 transfer=4 slope=0 regions=2 cyclic=0 has_drive=1 cyclic=0 has_drive=0 sources=1 id=1 kind=0 inputs=1 device=2 port=1 status=0 immediate=1 inferred=";
 
 fn wanted_report() -> Vec<u8> {
     format!("{}\n", ITS_REPORT.replace(' ', "\n")).into_bytes()

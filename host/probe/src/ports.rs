@@ -14,22 +14,13 @@ mod raw {
             place: u64,
         ) -> u64;
 
-        pub safe fn probe_facing_between(
+        pub safe fn probe_step_between(
             x: i64,
             y: i64,
             z: i64,
             to_x: i64,
             to_y: i64,
             to_z: i64,
-        ) -> u64;
-
-        pub fn probe_port_connections(
-            components: *const i64,
-            components_len: usize,
-            connections: *const i64,
-            connections_len: usize,
-            out: *mut i64,
-            out_len: usize,
         ) -> u64;
 
         pub fn probe_fragment_net(
@@ -39,6 +30,16 @@ mod raw {
             fragments_len: usize,
             fragment: u64,
             net: u64,
+        ) -> u64;
+
+        // the product's own entry, linked by the crate `dustroute`
+        pub fn dustroute_ports(
+            components: *const i64,
+            components_len: usize,
+            connections: *const i64,
+            connections_len: usize,
+            ports: *mut i64,
+            ports_len: usize,
         ) -> u64;
     }
 }
@@ -59,13 +60,15 @@ pub fn port([kind, facing, support, conducts]: Block, place: u64) -> u64 {
     raw::probe_port(kind, facing, support, conducts, place)
 }
 
-/// The face of the step from one cell to another, 0 for none.
+/// Face and slope of the step from one cell to another; face 0 for none.
 #[must_use]
-pub fn facing_between([x, y, z]: [i64; 3], [to_x, to_y, to_z]: [i64; 3]) -> u64 {
-    raw::probe_facing_between(x, y, z, to_x, to_y, to_z)
+pub fn step_between([x, y, z]: [i64; 3], [to_x, to_y, to_z]: [i64; 3]) -> [u64; 2] {
+    let step = raw::probe_step_between(x, y, z, to_x, to_y, to_z);
+    [step % 256, step / 256]
 }
 
-/// Writes the kept rows at the front of the slice, and counts them.
+/// Writes the kept rows, six numbers each, at the front of the slice, and
+/// counts them.
 ///
 /// # Errors
 /// The refusal of lists or a slice that are not as they must be.
@@ -77,7 +80,7 @@ pub fn port_connections(
     // SAFETY: each pointer is to a whole slice of the length beside it. The
     // callee only reads the first two, and the borrow keeps the third apart.
     unpack(unsafe {
-        raw::probe_port_connections(
+        raw::dustroute_ports(
             components.as_ptr(),
             components.len(),
             connections.as_ptr(),

@@ -2,8 +2,7 @@
 
 use crate::Scene;
 use crate::limits::{
-    COMPONENT, CONNECTION, INPUT_ROW, INPUTS_EACH, PORT_CONNECTION, SOURCE_ROW, SOURCES_EACH,
-    STACK_PAIR,
+    COMPONENT, CONNECTION, INPUT_ROW, INPUTS_EACH, KEPT_ROW, SOURCE_ROW, SOURCES_EACH, STACK_PAIR,
 };
 
 /// Lengths in numbers, one for each slice that some entry takes.
@@ -26,7 +25,7 @@ impl Lent {
         Self {
             nets: components,
             fragments: components,
-            ports: scene.connections.len() / CONNECTION * PORT_CONNECTION,
+            ports: scene.connections.len() / CONNECTION * KEPT_ROW,
             regions: components,
             sources: components * SOURCES_EACH * SOURCE_ROW,
             inputs: components * INPUTS_EACH * INPUT_ROW,

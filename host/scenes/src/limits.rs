@@ -16,6 +16,8 @@ pub const SOURCE_ROW: usize = 2;
 pub const INPUT_ROW: usize = 3;
 pub const STACK_PAIR: usize = 2;
 pub const DROPPED_ROW: usize = 2;
+/// A port connection, and the slope of its step.
+pub const KEPT_ROW: usize = 6;
 
 /// Words to a set.
 pub const SET_WORDS: usize = 16;

@@ -8,8 +8,9 @@ use std::collections::BTreeSet;
 
 use crate::limits::{
     COMPONENT, COMPONENT_RANGES, COMPONENTS, CONNECTION, CONNECTION_RANGES, CONNECTIONS,
-    DROPPED_ROW, FRONTIER, FRONTIER_RANGES, FRONTIERS, INPUT_ROW, INPUTS_EACH, PORT_CONNECTION,
-    PORT_CONNECTION_RANGES, Range, SET_WORDS, SOURCE_ROW, SOURCES_EACH, STACK_PAIR, SUPPORT,
+    DROPPED_ROW, FRONTIER, FRONTIER_RANGES, FRONTIERS, INPUT_ROW, INPUTS_EACH, KEPT_ROW,
+    PORT_CONNECTION, PORT_CONNECTION_RANGES, Range, SET_WORDS, SOURCE_ROW, SOURCES_EACH,
+    STACK_PAIR, SUPPORT,
 };
 
 /// A refusal: its number, the list it concerns and the item in that list.
@@ -167,7 +168,7 @@ pub fn ports(components: &[i64], connections: &[i64], out_len: usize) -> Option<
     let m = connections.len() / CONNECTION;
     components_not_a_list(components)
         .or_else(|| connections_not_a_list(connections))
-        .or_else(|| too_short(&[(out_len, PORT_CONNECTION, m)]))
+        .or_else(|| too_short(&[(out_len, KEPT_ROW, m)]))
         .or_else(|| components_range(components))
         .or_else(|| connections_range(connections))
         .or_else(|| components_unordered(components))

@@ -138,7 +138,7 @@ fn slices_are_measured_in_whole_places_by_the_worst_case() {
     let lent = Lent::enough(&scene);
     assert_eq!(
         (lent.nets, lent.ports, lent.sources, lent.inputs, lent.stack),
-        (3, 10, 12, 36, 6)
+        (3, 12, 12, 36, 6)
     );
     let refused = |sources, inputs, stack| {
         given(liveness(
@@ -156,8 +156,8 @@ fn slices_are_measured_in_whole_places_by_the_worst_case() {
     assert_eq!(refused(12, 35, 6), Some((2, 3, 0)));
     assert_eq!(refused(13, 37, 5), Some((2, 3, 0)));
     let to_ports = |length| given(ports(&scene.components, &scene.connections, length));
-    assert_eq!(to_ports(10), None);
-    assert_eq!(to_ports(9), Some((2, 3, 0)));
+    assert_eq!(to_ports(12), None);
+    assert_eq!(to_ports(11), Some((2, 3, 0)));
     assert_eq!(
         given(grouping(&scene.components, &[], 3, 2)),
         Some((2, 3, 0))

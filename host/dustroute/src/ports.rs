@@ -1,0 +1,146 @@
+//! The port connections that grouping connections make.
+
+use crate::numbers::{counts, records, rows};
+use crate::{Component, Connection, PortConnection, Refusal, Slope, limits};
+
+mod raw {
+    //! As in `include/dustroute.h`: a slice passes as a pointer and then a count
+    //! of its numbers.
+
+    unsafe extern "C" {
+        pub fn dustroute_ports(
+            components: *const i64,
+            components_len: usize,
+            connections: *const i64,
+            connections_len: usize,
+            ports: *mut i64,
+            ports_len: usize,
+        ) -> u64;
+    }
+}
+
+/// A grouping connection that goes from a port to a port.
+#[derive(Clone, Copy, Debug, Eq, Hash, PartialEq)]
+pub struct KeptConnection {
+    /// As [`liveness`](crate::liveness) takes it.
+    pub connection: PortConnection,
+    /// Whether the step from source to sink climbs: by their positions alone,
+    /// whatever the kind of the connection.
+    pub slope: Slope,
+}
+
+/// The grouping connections that go from port to port, in order, each with the
+/// slope of its step. At either end it is the first port with the face of the
+/// step that also fits. A connection with an end that has no component, face or
+/// port is left out, and so is support.
+///
+/// # Errors
+/// A list that is not as it must be.
+///
+/// ```
+/// use dustroute::{
+///     BlockKind, Component, ComponentId, Connection, ConnectionKind, Position, Slope, liveness,
+///     ports,
+/// };
+///
+/// // Dust up a step and down again.
+/// let wire = |id, x, y| {
+///     let position = Position::new(x, y, 0);
+///     Component::new(ComponentId(id), position, BlockKind::RedstoneWire)
+/// };
+/// let joined = |source, sink, kind| Connection {
+///     source: ComponentId(source),
+///     sink: ComponentId(sink),
+///     kind,
+/// };
+/// let components = [wire(1, 0, 64), wire(2, 1, 65), wire(3, 2, 64)];
+/// let connections = [
+///     joined(1, 2, ConnectionKind::DustRise),
+///     joined(2, 3, ConnectionKind::DustFallThroughConductor),
+///     joined(3, 9, ConnectionKind::Dust),
+/// ];
+///
+/// // The last one leads to a block that is not there.
+/// let kept = ports(&components, &connections)?;
+/// let slopes: Vec<Slope> = kept.iter().map(|it| it.slope).collect();
+/// assert_eq!(slopes, [Slope::Rising, Slope::Falling]);
+///
+/// // Liveness takes them without their slopes.
+/// let fed: Vec<_> = kept.iter().map(|it| it.connection).collect();
+/// assert_eq!(liveness(&components, &fed, &[])?.regions.len(), 3);
+/// # Ok::<(), dustroute::Refusal>(())
+/// ```
+pub fn ports(
+    components: &[Component],
+    connections: &[Connection],
+) -> Result<Vec<KeptConnection>, Refusal> {
+    let component_rows = records(components, limits::COMPONENTS, Component::record);
+    let connection_rows = records(connections, limits::CONNECTIONS, Connection::record);
+    let mut kept = vec![[0; 6]; connections.len().min(limits::CONNECTIONS)];
+    let answer = ask(
+        component_rows.as_flattened(),
+        connection_rows.as_flattened(),
+        kept.as_flattened_mut(),
+    );
+    let [count, 0, 0] = counts(answer)? else {
+        return Err(Refusal::UNREADABLE);
+    };
+    let kept = rows(&kept, count)?.iter();
+    kept.map(|&row| read_kept(row)).collect()
+}
+
+fn read_kept(row: [i64; 6]) -> Result<KeptConnection, Refusal> {
+    let [source, source_port, sink, sink_port, transfer, slope] = row;
+    let read = || {
+        let connection = [source, source_port, sink, sink_port, transfer];
+        Some(KeptConnection {
+            connection: PortConnection::of_record(connection)?,
+            slope: *Slope::ALL.get(usize::try_from(slope).ok()?)?,
+        })
+    };
+    read().ok_or(Refusal::UNREADABLE)
+}
+
+/// The call.
+fn ask(components: &[i64], connections: &[i64], ports: &mut [i64]) -> u64 {
+    // SAFETY: each pointer is to a whole slice of the length beside it. The
+    // callee only reads the first two, and the borrow keeps the third apart.
+    unsafe {
+        raw::dustroute_ports(
+            components.as_ptr(),
+            components.len(),
+            connections.as_ptr(),
+            connections.len(),
+            ports.as_mut_ptr(),
+            ports.len(),
+        )
+    }
+}
+
+#[cfg(test)]
+mod tests {
+    use super::{KeptConnection, read_kept};
+    use crate::{ComponentId, PortConnection, PortRef, Refusal, Slope, TransferKind};
+
+    #[test]
+    fn what_no_contract_allows_is_unreadable() {
+        let connection = PortConnection {
+            source: PortRef::new(ComponentId(u32::MAX), 6),
+            sink: PortRef::new(ComponentId(3), 1),
+            transfer: TransferKind::DustPropagation,
+        };
+        for (code, slope) in (0..).zip(Slope::ALL) {
+            let row = [4_294_967_295, 6, 3, 1, 0, code];
+            assert_eq!(read_kept(row), Ok(KeptConnection { connection, slope }));
+        }
+        for row in [
+            [-1, 6, 3, 1, 0, 0],
+            [1, 256, 3, 1, 0, 0],
+            [1, 6, 3, 1, 7, 0],
+            [1, 6, 3, 1, 0, 3],
+            [1, 6, 3, 1, 0, -1],
+        ] {
+            assert_eq!(read_kept(row), Err(Refusal::UNREADABLE), "{row:?}");
+        }
+    }
+}
