@@ -7,11 +7,7 @@ use scene::connections::port_connections;
 // The port connections that are kept of grouping connections, each with the slope of its step, as rows of six numbers at the front of the
 // lent slice. Their count stands above the sixteen lowest bits.
 #[unsafe(no_mangle)]
-pub extern "C" fn dustroute_ports(
-    components: &[i64],
-    connections: &[i64],
-    ports: &mut [i64],
-) -> u64
+pub extern "C" fn dustroute_ports(components: &[i64], connections: &[i64], ports: &mut [i64]) -> u64
     ensures { PortsByLists components.now connections.now ports.old ports.new result }
 {
     match port_connections(components, connections, ports) {
