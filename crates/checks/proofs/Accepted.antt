@@ -23,8 +23,7 @@ use Rattle.lists.specs.Ranges.{first_out_of_range, component_low, component_high
 use Rattle.lists.specs.Within.{Components, Connections, PortConnections, Frontiers}
 use Rattle.lists.specs.Order.{first_not_ascending, connection_order}
 use Rattle.lists.specs.Ids.{place_below, place_of, first_end_missing}
-use Rattle.checks.specs.Refusals.{refuse, room_for, grouping_lists, liveness_lists}
-use Rattle.checks.specs.Checks.{scene_of}
+use Rattle.checks.specs.Refusals.{refuse, room_for, scene_lists, grouping_lists, liveness_lists}
 use Rattle.checks.proofs.Chain.{both_accept}
 use Rattle.lists.proofs.Fields.{within, first_most}
 use Rattle.lists.proofs.Search.{first_nothing}
@@ -34,26 +33,26 @@ pub room_places : (places n : ℕ) → room_for places 1 n ≡ true → places �
 room_places places n e = omega (arith, leb-true places (n / 1) e)
 
 -- the components and frontiers of an accepted scene
-module _ {cs : List ℤ} {width connections : ℕ} {found : Option ℕ} {fs : List ℤ} {enough : Bool} (s : Scene cs width connections found fs enough) where
+module _ {rules : ℕ} {cs : List ℤ} {width connections : ℕ} {found : Option ℕ} {fs : List ℤ} {enough : Bool} (s : Scene rules cs width connections found fs enough) where
   components_within : Components cs
   components_within = within component_limit component_low component_high cs s.lengths.components_few s.ranges.components
 
   frontiers_within : Frontiers fs
   frontiers_within = within frontier_limit frontier_low frontier_high fs s.lengths.frontiers_few s.ranges.frontiers
 
-pub record GroupingScene (cs ps fs : List ℤ) (enough : Bool) : Type 0 where
-  pub scene : Scene cs connection_width (length ps) (first_out_of_range connection_low connection_high ps) fs enough
+pub record GroupingScene (rules : ℕ) (cs ps fs : List ℤ) (enough : Bool) : Type 0 where
+  pub scene : Scene rules cs connection_width (length ps) (first_out_of_range connection_low connection_high ps) fs enough
   pub components : Components cs
   pub connections : Connections ps
   pub frontiers : Frontiers fs
   pub ascending : first_not_ascending connection_order connection_width ps ≡ None
 
-pub grouping_accept : (cs ps fs : List ℤ) (enough : Bool) → grouping_lists cs ps fs enough ≡ Ok tt → GroupingScene cs ps fs enough
-grouping_accept cs ps fs enough e =
+pub grouping_accept : (rules : ℕ) (cs ps fs : List ℤ) (enough : Bool) → grouping_lists rules cs ps fs enough ≡ Ok tt → GroupingScene rules cs ps fs enough
+grouping_accept rules cs ps fs enough e =
     let parts =
-    both_accept (scene_of cs connection_width (length ps) (first_out_of_range connection_low connection_high ps) fs enough) (refuse Fault.UnsortedConnections (Some Section.Connections) (first_not_ascending connection_order connection_width ps))
-    (grouping_parts cs ps fs enough ∙ e) in
-    let s = scene_accept cs connection_width (length ps) (first_out_of_range connection_low connection_high ps) fs enough parts.0 in
+    both_accept (scene_lists rules cs connection_width (length ps) (first_out_of_range connection_low connection_high ps) fs enough) (refuse Fault.UnsortedConnections (Some Section.Connections) (first_not_ascending connection_order connection_width ps))
+    (grouping_parts rules cs ps fs enough ∙ e) in
+    let s = scene_accept rules cs connection_width (length ps) (first_out_of_range connection_low connection_high ps) fs enough parts.0 in
     record {
       scene = s;
       components = components_within s;
@@ -62,19 +61,19 @@ grouping_accept cs ps fs enough e =
       ascending = refuse_none Fault.UnsortedConnections (Some Section.Connections) _ parts.1;
     }
 
-pub record LivenessScene (cs ps fs : List ℤ) (enough : Bool) : Type 0 where
-  pub scene : Scene cs port_width (length ps) (first_out_of_range port_low port_high ps) fs enough
+pub record LivenessScene (rules : ℕ) (cs ps fs : List ℤ) (enough : Bool) : Type 0 where
+  pub scene : Scene rules cs port_width (length ps) (first_out_of_range port_low port_high ps) fs enough
   pub components : Components cs
   pub connections : PortConnections ps
   pub frontiers : Frontiers fs
   pub ends : first_end_missing cs ps ≡ None
 
-pub liveness_accept : (cs ps fs : List ℤ) (enough : Bool) → liveness_lists cs ps fs enough ≡ Ok tt → LivenessScene cs ps fs enough
-liveness_accept cs ps fs enough e =
+pub liveness_accept : (rules : ℕ) (cs ps fs : List ℤ) (enough : Bool) → liveness_lists rules cs ps fs enough ≡ Ok tt → LivenessScene rules cs ps fs enough
+liveness_accept rules cs ps fs enough e =
     let parts =
-    both_accept (scene_of cs port_width (length ps) (first_out_of_range port_low port_high ps) fs enough) (refuse Fault.MissingEnd (Some Section.Connections) (first_end_missing cs ps))
-    (liveness_parts cs ps fs enough ∙ e) in
-    let s = scene_accept cs port_width (length ps) (first_out_of_range port_low port_high ps) fs enough parts.0 in
+    both_accept (scene_lists rules cs port_width (length ps) (first_out_of_range port_low port_high ps) fs enough) (refuse Fault.MissingEnd (Some Section.Connections) (first_end_missing cs ps))
+    (liveness_parts rules cs ps fs enough ∙ e) in
+    let s = scene_accept rules cs port_width (length ps) (first_out_of_range port_low port_high ps) fs enough parts.0 in
     record {
       scene = s;
       components = components_within s;

@@ -2,9 +2,10 @@
 --     refuse_none                          no fault was found
 --     whole_few, whole_all                 the list is within its limit and of whole records
 --     lengths_accept, ranges_accept        the lists are within their limits and ranges
---     scene_accept                         1 to 5 accept
+--     scene_accept                         11 and 1 to 5 accept
 --     settled                              4 and 5 accept: each id's list place is settled
---     grouping_parts, liveness_parts       the chains of checks, in the parts in which the code makes them
+--     scene_parts                          their chain, in the parts in which the code makes it
+--     grouping_parts, liveness_parts       the chains of the entries
 -- Assumes nothing.
 use Rattle.lists.specs.declared.Fault.{Fault}
 use Rattle.lists.specs.declared.Section.{Section}
@@ -23,8 +24,9 @@ use Rattle.lists.specs.Limits.{component_limit, connection_limit, frontier_limit
 use Rattle.lists.specs.Ranges.{first_out_of_range, component_low, component_high, connection_low, connection_high, port_low, port_high, frontier_low, frontier_high}
 use Rattle.lists.specs.Order.{first_not_ascending, component_order, connection_order}
 use Rattle.lists.specs.Ids.{first_repeated, first_end_missing}
-use Rattle.checks.specs.Refusals.{refuse, ◌or_else◌, not_whole, too_short, grouping_lists, liveness_lists}
-use Rattle.checks.specs.Checks.{lengths_of, ranges_of, order_of, scene_of, Ordered}
+use Rattle.lists.specs.Rules.{known_rules}
+use Rattle.checks.specs.Refusals.{refuse, ◌or_else◌, not_whole, too_short, strange_rules, scene_lists, grouping_lists, liveness_lists}
+use Rattle.checks.specs.Checks.{lengths_of, ranges_of, order_of, Ordered}
 use Rattle.lists.specs.Places.{PlacesOfIds}
 use Rattle.lists.proofs.Places.{settled_places}
 use Rattle.checks.proofs.Chain.{both_accept, or_else_assoc}
@@ -62,8 +64,18 @@ pub short_none : (enough : Bool) → too_short enough ≡ None → enough ≡ tr
 short_none true e = refl
 short_none false e = let z : ◌≡◌ {A = ℕ} 0 1 = cc in absurd (omega arith)
 
--- the lengths of three lists, the second of records of a width
-pub record Lengths (components width connections frontiers : ℕ) (enough : Bool) : Type 0 where
+-- ---- 11
+
+pub known_none : (rules : ℕ) → strange_rules rules ≡ None → known_rules rules ≡ true
+known_none rules e = known (known_rules rules) e
+  where
+    known : (b : Bool) → ◌≡◌ {A = Option ℕ} (cond b None (Some 0)) None → b ≡ true
+    known true e = refl
+    known false e = let z : ◌≡◌ {A = ℕ} 0 1 = cc in absurd (omega arith)
+
+-- the rules, and the lengths of three lists, the second of records of a width
+pub record Lengths (rules : ℕ) (components width connections frontiers : ℕ) (enough : Bool) : Type 0 where
+  pub known : known_rules rules ≡ true
   pub components_few : components / component_width ≤ component_limit
   pub components_whole : components % component_width ≡ 0
   pub connections_few : connections / width ≤ connection_limit
@@ -72,16 +84,18 @@ pub record Lengths (components width connections frontiers : ℕ) (enough : Bool
   pub frontiers_whole : frontiers % frontier_width ≡ 0
   pub room : enough ≡ true
 
-pub lengths_accept : (components width connections frontiers : ℕ) (enough : Bool) → lengths_of components width connections frontiers enough ≡ Ok tt
-    → Lengths components width connections frontiers enough
-lengths_accept components width connections frontiers enough e =
-    let first = both_accept _ _ e in
+pub lengths_accept : (rules : ℕ) (components width connections frontiers : ℕ) (enough : Bool)
+    → lengths_of rules components width connections frontiers enough ≡ Ok tt → Lengths rules components width connections frontiers enough
+lengths_accept rules components width connections frontiers enough e =
+    let ruled = both_accept _ _ e in
+    let first = both_accept _ _ ruled.1 in
     let second = both_accept _ _ first.1 in
     let third = both_accept _ _ second.1 in
     let c = refuse_none Fault.ListLength (Some Section.Components) _ first.0 in
     let p = refuse_none Fault.ListLength (Some Section.Connections) _ second.0 in
     let f = refuse_none Fault.ListLength (Some Section.Frontiers) _ third.0 in
     record {
+      known = known_none rules (refuse_none Fault.UnknownRules None _ ruled.0);
       components_few = whole_few _ _ _ c;
       components_whole = whole_all _ _ _ c;
       connections_few = whole_few _ _ _ p;
@@ -110,41 +124,49 @@ ranges_accept cs found fs e =
     }
 
 -- where both accept, the components are within their limit and ranges
-pub components_pass : (cs : List ℤ) (width connections : ℕ) (found : Option ℕ) (fs : List ℤ) (enough : Bool)
-    → lengths_of (length cs) width connections (length fs) enough ≡ Ok tt → ranges_of cs found fs ≡ Ok tt → Components cs
-components_pass cs width connections found fs enough lengths ranges =
-    within component_limit component_low component_high cs (lengths_accept _ _ _ _ _ lengths).components_few (ranges_accept _ _ _ ranges).components
+pub components_pass : (rules : ℕ) (cs : List ℤ) (width connections : ℕ) (found : Option ℕ) (fs : List ℤ) (enough : Bool)
+    → lengths_of rules (length cs) width connections (length fs) enough ≡ Ok tt → ranges_of cs found fs ≡ Ok tt → Components cs
+components_pass rules cs width connections found fs enough lengths ranges =
+    within component_limit component_low component_high cs (lengths_accept rules (length cs) width connections (length fs) enough lengths).components_few (ranges_accept _ _ _ ranges).components
 
 -- ---- the chains in the parts in which the code makes them
 
-pub grouping_parts : (cs ps fs : List ℤ) (enough : Bool)
-    → scene_of cs connection_width (length ps) (first_out_of_range connection_low connection_high ps) fs enough
+pub scene_parts : (rules : ℕ) (cs : List ℤ) (width connections : ℕ) (found : Option ℕ) (fs : List ℤ) (enough : Bool)
+    → (lengths_of rules (length cs) width connections (length fs) enough or_else ranges_of cs found fs) or_else order_of cs
+    ≡ scene_lists rules cs width connections found fs enough
+unfolding scene_lists
+scene_parts rules cs width connections found fs enough = simp or_else_assoc
+
+pub grouping_parts : (rules : ℕ) (cs ps fs : List ℤ) (enough : Bool)
+    → scene_lists rules cs connection_width (length ps) (first_out_of_range connection_low connection_high ps) fs enough
     or_else refuse Fault.UnsortedConnections (Some Section.Connections) (first_not_ascending connection_order connection_width ps)
-    ≡ grouping_lists cs ps fs enough
+    ≡ grouping_lists rules cs ps fs enough
 unfolding grouping_lists
-grouping_parts cs ps fs enough = simp or_else_assoc
+grouping_parts rules cs ps fs enough = refl
 
-pub liveness_parts : (cs ps fs : List ℤ) (enough : Bool)
-    → scene_of cs port_width (length ps) (first_out_of_range port_low port_high ps) fs enough or_else refuse Fault.MissingEnd (Some Section.Connections) (first_end_missing cs ps)
-    ≡ liveness_lists cs ps fs enough
+pub liveness_parts : (rules : ℕ) (cs ps fs : List ℤ) (enough : Bool)
+    → scene_lists rules cs port_width (length ps) (first_out_of_range port_low port_high ps) fs enough
+    or_else refuse Fault.MissingEnd (Some Section.Connections) (first_end_missing cs ps)
+    ≡ liveness_lists rules cs ps fs enough
 unfolding liveness_lists
-liveness_parts cs ps fs enough = simp or_else_assoc
+liveness_parts rules cs ps fs enough = refl
 
--- 1 to 5 accept: the lists are within their limits and ranges
-pub record Scene (cs : List ℤ) (width connections : ℕ) (found : Option ℕ) (fs : List ℤ) (enough : Bool) : Type 0 where
-  pub lengths : Lengths (length cs) width connections (length fs) enough
+-- 11 and 1 to 5 accept: the rules are known, and the lists are within their limits and ranges
+pub record Scene (rules : ℕ) (cs : List ℤ) (width connections : ℕ) (found : Option ℕ) (fs : List ℤ) (enough : Bool) : Type 0 where
+  pub lengths : Lengths rules (length cs) width connections (length fs) enough
   pub ranges : Ranged cs found fs
   pub ascending : first_not_ascending component_order component_width cs ≡ None
   pub once : first_repeated cs ≡ None
 
-pub scene_accept : (cs : List ℤ) (width connections : ℕ) (found : Option ℕ) (fs : List ℤ) (enough : Bool)
-    → scene_of cs width connections found fs enough ≡ Ok tt → Scene cs width connections found fs enough
-scene_accept cs width connections found fs enough e =
-    let outer = both_accept (lengths_of (length cs) width connections (length fs) enough or_else ranges_of cs found fs) (order_of cs) e in
-    let inner = both_accept (lengths_of (length cs) width connections (length fs) enough) (ranges_of cs found fs) outer.0 in
+pub scene_accept : (rules : ℕ) (cs : List ℤ) (width connections : ℕ) (found : Option ℕ) (fs : List ℤ) (enough : Bool)
+    → scene_lists rules cs width connections found fs enough ≡ Ok tt → Scene rules cs width connections found fs enough
+scene_accept rules cs width connections found fs enough e =
+    let lengths = lengths_of rules (length cs) width connections (length fs) enough in
+    let outer = both_accept (lengths or_else ranges_of cs found fs) (order_of cs) (scene_parts rules cs width connections found fs enough ∙ e) in
+    let inner = both_accept lengths (ranges_of cs found fs) outer.0 in
     let order = both_accept (refuse Fault.UnsortedComponents (Some Section.Components) (first_not_ascending component_order component_width cs)) (refuse Fault.RepeatedId (Some Section.Components) (first_repeated cs)) outer.1 in
     record {
-      lengths = lengths_accept _ _ _ _ _ inner.0;
+      lengths = lengths_accept _ _ _ _ _ _ inner.0;
       ranges = ranges_accept _ _ _ inner.1;
       ascending = refuse_none Fault.UnsortedComponents (Some Section.Components) _ order.0;
       once = refuse_none Fault.RepeatedId (Some Section.Components) _ order.1;

@@ -19,14 +19,15 @@ use lib.ListN.{length}
 use lib.IntN.{ℤ}
 use Rattle.lists.specs.Limits.{component_limit, connection_limit, frontier_limit, component_width, connection_width, port_width, frontier_width}
 use Rattle.lists.specs.Records.{component_count, port_count}
+use Rattle.lists.specs.Rules.{known_rules}
 use Rattle.lists.specs.Ranges.{record_in_range, first_out_of_range, component_low, component_high, connection_low, connection_high, port_low, port_high, frontier_low, frontier_high}
 use Rattle.lists.specs.Order.{record_before, first_not_ascending, component_order, connection_order}
 use Rattle.lists.specs.Ids.{used_earlier, first_repeated, end_missing, first_end_missing}
-use Rattle.checks.specs.Refusals.{refuse, ◌or_else◌, not_whole, too_short, grouping_lists, liveness_lists, Small}
-use Rattle.checks.specs.Checks.{lengths_of, ranges_of, order_of, scene_of}
+use Rattle.checks.specs.Refusals.{refuse, ◌or_else◌, not_whole, too_short, strange_rules, scene_lists, grouping_lists, liveness_lists, Small}
+use Rattle.checks.specs.Checks.{lengths_of, ranges_of, order_of}
 use Rattle.lists.proofs.Search.{found_at}
 use Rattle.checks.proofs.Chain.{both_accept}
-use Rattle.checks.proofs.Accepts.{Lengths, lengths_accept, scene_accept, grouping_parts, liveness_parts}
+use Rattle.checks.proofs.Accepts.{Lengths, lengths_accept, scene_accept, scene_parts, grouping_parts, liveness_parts}
 
 -- ---- a chain of checks
 
@@ -65,6 +66,8 @@ fault_within Fault.MissingEnd = (lit< tt, lit< tt)
 fault_within Fault.NoVerdictRow = (lit< tt, lit< tt)
 fault_within Fault.BadLine = (lit< tt, lit< tt)
 fault_within Fault.NotDriven = (lit< tt, lit< tt)
+fault_within Fault.UnknownRules = (lit< tt, lit< tt)
+fault_within Fault.UnknownForm = (lit< tt, lit< tt)
 
 pub list_few : (list : Option Section) → list_number list < 256
 list_few (Some Section.Components) = lit< tt
@@ -94,6 +97,13 @@ short_item : (enough : Bool) → AtMost 0 (too_short enough)
 short_item true = record { item = λ k e. let z : ◌≡◌ {A = ℕ} 0 1 = cc in absurd (omega arith) }
 short_item false = record { item = λ k e. omega (arith, same_item e) }
 
+rules_item : (rules : ℕ) → AtMost 0 (strange_rules rules)
+rules_item rules = record { item = λ k e. go (known_rules rules) k e }
+  where
+    go : (b : Bool) (k : ℕ) → cond b None (Some 0) ≡ Some k → k ≤ 0
+    go true k e = let z : ◌≡◌ {A = ℕ} 0 1 = cc in absurd (omega arith)
+    go false k e = omega (arith, same_item e)
+
 range_item : (low high list : List ℤ) → AtMost (length list / length low) (first_out_of_range low high list)
 unfolding first_out_of_range
 range_item low high list = record {
@@ -118,15 +128,17 @@ end_item cs ps = record { item = λ k e. omega (arith, (found_at (end_missing cs
 
 -- ---- the checks in their parts
 
-lengths_fit : (components width connections frontiers : ℕ) (enough : Bool) → Fit (lengths_of components width connections frontiers enough)
-lengths_fit components width connections frontiers enough =
+lengths_fit : (rules : ℕ) (components width connections frontiers : ℕ) (enough : Bool)
+    → Fit (lengths_of rules components width connections frontiers enough)
+lengths_fit rules components width connections frontiers enough =
+    then (fit_refuse Fault.UnknownRules None (rules_item rules) (lit≤ tt)) (λ _.
     then (fit_refuse Fault.ListLength (Some Section.Components) (whole_item component_width component_limit components) (lit≤ tt)) (λ _.
     then (fit_refuse Fault.ListLength (Some Section.Connections) (whole_item width connection_limit connections) (lit≤ tt)) (λ _.
     then (fit_refuse Fault.ListLength (Some Section.Frontiers) (whole_item frontier_width frontier_limit frontiers) (lit≤ tt)) (λ _.
-    fit_refuse Fault.ShortSlice None (short_item enough) (lit≤ tt))))
+    fit_refuse Fault.ShortSlice None (short_item enough) (lit≤ tt)))))
 
-module _ (cs : List ℤ) (width connections : ℕ) (found : Option ℕ) (fs : List ℤ) (enough : Bool) (most : AtMost (connections / width) found) where
-  module _ (l : Lengths (length cs) width connections (length fs) enough) where
+module _ (rules : ℕ) (cs : List ℤ) (width connections : ℕ) (found : Option ℕ) (fs : List ℤ) (enough : Bool) (most : AtMost (connections / width) found) where
+  module _ (l : Lengths rules (length cs) width connections (length fs) enough) where
     components_few : component_count cs ≤ connection_limit
     components_few = omega (arith, l.components_few)
 
@@ -141,27 +153,28 @@ module _ (cs : List ℤ) (width connections : ℕ) (found : Option ℕ) (fs : Li
         then (fit_refuse Fault.UnsortedComponents (Some Section.Components) (order_item component_order component_width cs) components_few) (λ _.
         fit_refuse Fault.RepeatedId (Some Section.Components) (repeated_item cs) components_few)
 
-  scene_fit : Fit (scene_of cs width connections found fs enough)
+  scene_fit : Fit (scene_lists rules cs width connections found fs enough)
   scene_fit =
-      let lengths = lengths_of (length cs) width connections (length fs) enough in
-      then (then (lengths_fit (length cs) width connections (length fs) enough) (λ e. ranges_fit (lengths_accept _ _ _ _ _ e)))
-      (λ e. order_fit (lengths_accept _ _ _ _ _ (both_accept lengths (ranges_of cs found fs) e).0))
+      let lengths = lengths_of rules (length cs) width connections (length fs) enough in
+      let all = then (then (lengths_fit rules (length cs) width connections (length fs) enough) (λ e. ranges_fit (lengths_accept _ _ _ _ _ _ e)))
+      (λ e. order_fit (lengths_accept _ _ _ _ _ _ (both_accept lengths (ranges_of cs found fs) e).0)) in
+      rw (scene_parts rules cs width connections found fs enough) at all
 
 -- ---- the checks of the lists
 
-module _ (cs ps fs : List ℤ) (enough : Bool) where
-  pub grouping_small : Small (grouping_lists cs ps fs enough)
+module _ (rules : ℕ) (cs ps fs : List ℤ) (enough : Bool) where
+  pub grouping_small : Small (grouping_lists rules cs ps fs enough)
   grouping_small =
       let found = first_out_of_range connection_low connection_high ps in
-      let all = then (scene_fit cs connection_width (length ps) found fs enough (range_item connection_low connection_high ps)) (λ e.
+      let all = then (scene_fit rules cs connection_width (length ps) found fs enough (range_item connection_low connection_high ps)) (λ e.
       fit_refuse Fault.UnsortedConnections (Some Section.Connections) (order_item connection_order connection_width ps)
-      (scene_accept cs connection_width (length ps) found fs enough e).lengths.connections_few) in
-      rw (grouping_parts cs ps fs enough) at all.small
+      (scene_accept rules cs connection_width (length ps) found fs enough e).lengths.connections_few) in
+      rw (grouping_parts rules cs ps fs enough) at all.small
 
-  pub liveness_small : Small (liveness_lists cs ps fs enough)
+  pub liveness_small : Small (liveness_lists rules cs ps fs enough)
   liveness_small =
       let found = first_out_of_range port_low port_high ps in
-      let all = then (scene_fit cs port_width (length ps) found fs enough (range_item port_low port_high ps)) (λ e.
+      let all = then (scene_fit rules cs port_width (length ps) found fs enough (range_item port_low port_high ps)) (λ e.
       fit_refuse Fault.MissingEnd (Some Section.Connections) (end_item cs ps)
-      (scene_accept cs port_width (length ps) found fs enough e).lengths.connections_few) in
-      rw (liveness_parts cs ps fs enough) at all.small
+      (scene_accept rules cs port_width (length ps) found fs enough e).lengths.connections_few) in
+      rw (liveness_parts rules cs ps fs enough) at all.small

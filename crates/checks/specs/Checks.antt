@@ -14,12 +14,13 @@ use Rattle.lists.specs.Order.{first_not_ascending, component_order}
 use Rattle.lists.specs.Ids.{first_repeated, IdTable}
 use Rattle.lists.specs.Places.{PlacesOfIds}
 use Rattle.lists.specs.Ends.{SettledEnds}
-use Rattle.checks.specs.Refusals.{refuse, ◌or_else◌, not_whole, too_short}
+use Rattle.checks.specs.Refusals.{refuse, ◌or_else◌, not_whole, too_short, strange_rules}
 
--- 1 and 2, by the lengths
-abbrev pub lengths_of : ℕ → ℕ → ℕ → ℕ → Bool → Result ⊤ Refusal
-lengths_of components width connections frontiers enough =
-    refuse Fault.ListLength (Some Section.Components) (not_whole component_width component_limit components)
+-- 11, 1 and 2, by the rules and the lengths
+abbrev pub lengths_of : ℕ → ℕ → ℕ → ℕ → ℕ → Bool → Result ⊤ Refusal
+lengths_of rules components width connections frontiers enough =
+    refuse Fault.UnknownRules None (strange_rules rules)
+    or_else refuse Fault.ListLength (Some Section.Components) (not_whole component_width component_limit components)
     or_else refuse Fault.ListLength (Some Section.Connections) (not_whole width connection_limit connections)
     or_else refuse Fault.ListLength (Some Section.Frontiers) (not_whole frontier_width frontier_limit frontiers)
     or_else refuse Fault.ShortSlice None (too_short enough)
@@ -36,11 +37,6 @@ abbrev pub order_of : List ℤ → Result ⊤ Refusal
 order_of cs =
     refuse Fault.UnsortedComponents (Some Section.Components) (first_not_ascending component_order component_width cs)
     or_else refuse Fault.RepeatedId (Some Section.Components) (first_repeated cs)
-
--- 1 to 5
-abbrev pub scene_of : List ℤ → ℕ → ℕ → Option ℕ → List ℤ → Bool → Result ⊤ Refusal
-scene_of cs width connections found fs enough =
-    (lengths_of (length cs) width connections (length fs) enough or_else ranges_of cs found fs) or_else order_of cs
 
 -- the order and the ids of the components, with their table of ids
 pub record Ordered (cs : List ℤ) (keys : List ℕ) (r : Result ⊤ Refusal) : Type 0 where

@@ -1,9 +1,9 @@
 // The refusal of each entry: the lowest number, then the list, then the item.
 ghost use Rattle.std.specs.Prelude.{◌≡◌, ◌≤◌, ◌<◌, length, take};
 ghost use Rattle.lists.specs.Limits.{component_limit, connection_limit, frontier_limit, component_width, frontier_width};
-ghost use Rattle.checks.specs.Refusals.{refuse, ◌or_else◌, not_whole, room_for, room_for_groups, room_for_rows, too_short};
-ghost use Rattle.checks.specs.Refusals.{grouping_lists, liveness_lists, Small, packed};
-ghost use Rattle.checks.specs.Checks.{lengths_of, ranges_of, scene_of, Ordered, CheckedBy, LivenessChecked};
+ghost use Rattle.checks.specs.Refusals.{refuse, ◌or_else◌, not_whole, room_for, room_for_groups, room_for_rows, too_short, strange_rules};
+ghost use Rattle.checks.specs.Refusals.{scene_lists, grouping_lists, liveness_lists, Small, packed};
+ghost use Rattle.checks.specs.Checks.{lengths_of, ranges_of, Ordered, CheckedBy, LivenessChecked};
 ghost use Rattle.lists.specs.Records.{component_count};
 ghost use Rattle.lists.specs.Ends.{sources_of, sinks_of};
 
@@ -11,6 +11,7 @@ use super::ranges::{COMPONENT_RANGES, CONNECTION_RANGES, FRONTIER_RANGES, PORT_R
 use lists::ends::{Ends, first_end_missing, settle_ends};
 use lists::ids::{first_repeated, id_table};
 use lists::order::{first_component_not_ascending, first_connection_not_ascending};
+use lists::rules::known_rules;
 use lists::views::{ComponentList, PortList};
 use lists::{
     COMPONENT, COMPONENTS, CONNECTION, CONNECTIONS, FRONTIER, FRONTIERS, Fault, PORT, Refusal,
@@ -80,8 +81,17 @@ fn too_short(enough: bool) -> Option<usize>
     if enough { None } else { Some(0) }
 }
 
-// 1 and 2, by the lengths alone: three lists, the second of records of a width, and whether the lent slices are long enough.
+// 11: no rules have the number.
+pub fn strange_rules(rules: u64) -> Option<usize>
+    ensures { result ≡ strange_rules rules }
+{
+    if known_rules(rules) { None } else { Some(0) }
+}
+
+// 11, 1 and 2, by the rules and the lengths alone: three lists, the second of records of a width, and whether the lent slices are long
+// enough.
 fn refuse_lengths(
+    rules: u64,
     components: usize,
     width: usize,
     connections: usize,
@@ -89,8 +99,9 @@ fn refuse_lengths(
     enough: bool,
 ) -> Result<(), Refusal>
     requires { 0 < width }
-    ensures { result ≡ lengths_of components width connections frontiers enough }
+    ensures { result ≡ lengths_of rules components width connections frontiers enough }
 {
+    refuse_at(Fault::UnknownRules, None, strange_rules(rules))?;
     let list_length = Fault::ListLength;
     refuse_at(
         list_length,
@@ -152,8 +163,9 @@ fn refuse_ranges(
     )
 }
 
-// 1 to 5, given what the second list's check of ranges found. Where they accept, `keys` begins with the table of ids.
+// Up to 5, given what the second list's check of ranges found. Where they accept, `keys` begins with the table of ids.
 pub fn refuse_scene(
+    rules: u64,
     components: &[i64],
     width: usize,
     connections: usize,
@@ -163,9 +175,10 @@ pub fn refuse_scene(
     keys: &mut [u64],
 ) -> Result<(), Refusal>
     requires { (0 < width) × (component_limit ≤ length keys.old) }
-    ensures { CheckedBy (scene_of components.now width connections found frontiers.now enough) components.now keys.new result }
+    ensures { CheckedBy (scene_lists rules components.now width connections found frontiers.now enough) components.now keys.new result }
 {
     refuse_lengths(
+        rules,
         components.len(),
         width,
         connections,
@@ -182,6 +195,7 @@ pub fn refuse_scene(
 
 // The checks of the grouping and of the ports entry, and of the lists of a sheet. Where they accept, `keys` begins with the table of ids.
 pub fn grouping_lists(
+    rules: u64,
     components: &[i64],
     connections: &[i64],
     frontiers: &[i64],
@@ -189,10 +203,11 @@ pub fn grouping_lists(
     keys: &mut [u64],
 ) -> Result<(), Refusal>
     requires { component_limit ≤ length keys.old }
-    ensures { CheckedBy (grouping_lists components.now connections.now frontiers.now enough) components.now keys.new result }
+    ensures { CheckedBy (grouping_lists rules components.now connections.now frontiers.now enough) components.now keys.new result }
 {
     let found = CONNECTION_RANGES.first_outside(connections);
     refuse_scene(
+        rules,
         components,
         CONNECTION,
         connections.len(),
@@ -212,6 +227,7 @@ pub fn grouping_lists(
 // The checks of the liveness entry and of the input query. Where they accept, `keys` begins with the table of ids, and the ends of the port
 // connections are settled.
 pub fn liveness_lists(
+    rules: u64,
     components: &[i64],
     ports: &[i64],
     frontiers: &[i64],
@@ -220,11 +236,12 @@ pub fn liveness_lists(
     ends: &mut [Ends],
 ) -> Result<(), Refusal>
     requires { (component_limit ≤ length keys.old) × (connection_limit ≤ length ends.old) }
-    ensures { LivenessChecked (liveness_lists components.now ports.now frontiers.now enough)
+    ensures { LivenessChecked (liveness_lists rules components.now ports.now frontiers.now enough)
         components.now ports.now keys.new (sources_of ends.new) (sinks_of ends.new) result }
 {
     let found = PORT_RANGES.first_outside(ports);
     refuse_scene(
+        rules,
         components,
         PORT,
         ports.len(),

@@ -3,6 +3,7 @@ pub mod Limits
 pub mod Signed
 pub mod First
 pub mod Refusal
+pub mod Rules
 pub mod Records
 pub mod Ranges
 pub mod Within

@@ -12,6 +12,7 @@ pub mod kinds;
 pub mod numbers;
 pub mod order;
 pub mod ranges;
+pub mod rules;
 pub mod views;
 
 ghost use Rattle.std.specs.Prelude.{◌≡◌};
@@ -92,6 +93,10 @@ pub enum Fault {
     BadLine,
     // The verdict row of the port asked for has another status than 0.
     NotDriven,
+    // The rules number is not known.
+    UnknownRules,
+    // A sheet's form number is not known.
+    UnknownForm,
 }
 
 // A refusal: what is wrong, in which list, and at which item, from 0.

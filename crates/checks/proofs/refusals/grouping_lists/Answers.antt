@@ -14,7 +14,7 @@ pub returns-in_err-refuse_scene : goal.returns-in_err-refuse_scene
 returns-in_err-refuse_scene c =
     let a = c.args in
     let back : c.from_residual.result ≡ Err c.in_err-refuse_scene.field-0.0 = search rules in
-    let parts = grouping_parts a.components.now a.connections.now a.frontiers.now a.enough in
+    let parts = grouping_parts a.rules a.components.now a.connections.now a.frontiers.now a.enough in
     stopped _ _ (rw c.first_outside-found.ensures at c.in_err-refuse_scene.ensures) back parts
 
 pub returns : goal.returns
@@ -23,7 +23,7 @@ returns c =
     let first = rw c.first_outside-found.ensures at c.refuse_scene.ensures.answer in
     let last = c.refuse_at.ensures ∙ ap (refuse Fault.UnsortedConnections (Some Section.Connections)) c.first_connection_not_ascending-unsorted.ensures in
     record {
-      answer = goes first c.in_ok-refuse_scene.was last ∙ grouping_parts a.components.now a.connections.now a.frontiers.now a.enough;
+      answer = goes first c.in_ok-refuse_scene.was last ∙ grouping_parts a.rules a.components.now a.connections.now a.frontiers.now a.enough;
       table = λ e. c.refuse_scene.ensures.table c.in_ok-refuse_scene.was;
       places = λ e. c.refuse_scene.ensures.places c.in_ok-refuse_scene.was;
     }

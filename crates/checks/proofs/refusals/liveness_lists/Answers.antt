@@ -13,8 +13,7 @@ use Rattle.lists.specs.Limits.{connection_limit, port_width}
 use Rattle.lists.specs.Records.{component_count}
 use Rattle.lists.specs.Ranges.{first_out_of_range, port_low, port_high}
 use Rattle.lists.specs.Within.{PortConnections}
-use Rattle.checks.specs.Refusals.{refuse}
-use Rattle.checks.specs.Checks.{scene_of}
+use Rattle.checks.specs.Refusals.{refuse, scene_lists}
 use Rattle.checks.proofs.Chain.{stopped, goes, refused_not}
 use Rattle.lists.proofs.Fields.{within}
 use Rattle.checks.proofs.Accepts.{Scene, scene_accept, liveness_parts}
@@ -23,13 +22,13 @@ use Rattle.checks.proofs.refusals.liveness_lists.Goals.{In_ok-refuse_scene}
 
 first : (c : In_ok-refuse_scene)
     → c.refuse_scene.result
-    ≡ scene_of c.args.components.now port_width (length c.args.ports.now) (first_out_of_range port_low port_high c.args.ports.now) c.args.frontiers.now c.args.enough
+    ≡ scene_lists c.args.rules c.args.components.now port_width (length c.args.ports.now) (first_out_of_range port_low port_high c.args.ports.now) c.args.frontiers.now c.args.enough
 first c = rw c.first_outside-found.ensures at c.refuse_scene.ensures.answer
 
 -- where they pass
 passed : (c : In_ok-refuse_scene)
-    → Scene c.args.components.now port_width (length c.args.ports.now) (first_out_of_range port_low port_high c.args.ports.now) c.args.frontiers.now c.args.enough
-passed c = scene_accept _ _ _ _ _ _ (sym (first c) ∙ c.in_ok-refuse_scene.was)
+    → Scene c.args.rules c.args.components.now port_width (length c.args.ports.now) (first_out_of_range port_low port_high c.args.ports.now) c.args.frontiers.now c.args.enough
+passed c = scene_accept _ _ _ _ _ _ _ (sym (first c) ∙ c.in_ok-refuse_scene.was)
 
 -- the keys kept their length
 room : (c : In_ok-refuse_scene) → component_count c.args.components.now ≤ length c.refuse_scene.new.keys
@@ -45,7 +44,7 @@ pub returns-in_err-refuse_scene : goal.returns-in_err-refuse_scene
 returns-in_err-refuse_scene c =
     let a = c.args in
     let back : c.from_residual.result ≡ Err c.in_err-refuse_scene.field-0.0 = search rules in
-    let parts = liveness_parts a.components.now a.ports.now a.frontiers.now a.enough in
+    let parts = liveness_parts a.rules a.components.now a.ports.now a.frontiers.now a.enough in
     record {
       lists = stopped _ _ (rw c.first_outside-found.ensures at c.in_err-refuse_scene.ensures) back parts;
       ends = λ e. absurd (refused_not (sym back ∙ e));
@@ -74,7 +73,7 @@ returns c =
       lists = record {
         answer =
             goes (first (goal.at.returns c).In_ok-refuse_scene) c.in_ok-refuse_scene.was last
-            ∙ liveness_parts a.components.now a.ports.now a.frontiers.now a.enough;
+            ∙ liveness_parts a.rules a.components.now a.ports.now a.frontiers.now a.enough;
         table = λ e. table;
         places = λ e. c.refuse_scene.ensures.places c.in_ok-refuse_scene.was;
       };

@@ -6,13 +6,13 @@ use native.Mathlib.Omega.{arith}
 use lib.Seq.{length-take-le, take_at}
 use Rattle.lists.specs.Within.{Components}
 use Rattle.checks.proofs.Chain.{goes}
-use Rattle.checks.proofs.Accepts.{components_pass, settled}
+use Rattle.checks.proofs.Accepts.{components_pass, scene_parts, settled}
 use Rattle.checks.proofs.refusals.refuse_scene.Goals as goal
 use Rattle.checks.proofs.refusals.refuse_scene.Goals.{In_ok-refuse_ranges}
 
 passed : (c : In_ok-refuse_ranges) → Components c.args.components.now
 passed c =
-    components_pass _ _ _ _ _ _ (sym c.refuse_lengths.ensures ∙ c.in_ok-refuse_lengths.was) (sym c.refuse_ranges.ensures ∙ c.in_ok-refuse_ranges.was)
+    components_pass _ _ _ _ _ _ _ (sym c.refuse_lengths.ensures ∙ c.in_ok-refuse_lengths.was) (sym c.refuse_ranges.ensures ∙ c.in_ok-refuse_ranges.was)
 
 pub slice_bounds-refuse_components-end : goal.slice_bounds-refuse_components-end
 slice_bounds-refuse_components-end c =
@@ -38,7 +38,8 @@ returns c =
     record {
       answer =
           goes (goes c.refuse_lengths.ensures c.in_ok-refuse_lengths.was c.refuse_ranges.ensures) c.in_ok-refuse_ranges.was
-          c.refuse_components.ensures.answer;
+          c.refuse_components.ensures.answer
+          ∙ scene_parts _ _ _ _ _ _ _;
       table = λ e. rw (take_at _ _ _ long) c.refuse_components.ensures.table;
       places = λ e. rw (take_at _ _ _ long) (settled c.refuse_components.ensures e);
     }
