@@ -28,11 +28,16 @@ pub both_accept : (a b : Result ⊤ Refusal) → a or_else b ≡ Ok tt → (a �
 both_accept (Ok tt) b e = (refl, e)
 both_accept (Err r) b e = absurd (refused_not e)
 
--- what the checks say where the first of two refuses
-pub stopped : {x : Result ⊤ Refusal} (y g : Result ⊤ Refusal) {cs : List ℤ} {keys : List ℕ} {e : Refusal} {r : Result ⊤ Refusal}
-    → CheckedBy x cs keys (Err e) → r ≡ Err e → x or_else y ≡ g → CheckedBy g cs keys r
-stopped y g s back parts = record {
-  answer = stops (back ∙ s.answer) back y ∙ parts;
+-- what the checks say where they refuse
+pub refused : {g : Result ⊤ Refusal} {cs : List ℤ} {keys : List ℕ} {e : Refusal} {r : Result ⊤ Refusal}
+    → r ≡ Err e → r ≡ g → CheckedBy g cs keys r
+refused back answer = record {
+  answer = answer;
   table = λ e. absurd (refused_not (sym back ∙ e));
   places = λ e. absurd (refused_not (sym back ∙ e));
 }
+
+-- and where the first of two refuses
+pub stopped : {x : Result ⊤ Refusal} (y g : Result ⊤ Refusal) {cs : List ℤ} {keys : List ℕ} {e : Refusal} {r : Result ⊤ Refusal}
+    → CheckedBy x cs keys (Err e) → r ≡ Err e → x or_else y ≡ g → CheckedBy g cs keys r
+stopped y g s back parts = refused back (stops (back ∙ s.answer) back y ∙ parts)

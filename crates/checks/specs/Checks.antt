@@ -6,7 +6,7 @@ use Rattle.lists.specs.declared.Section.{Section}
 use Rattle.std.specs.Prelude.{Some, None}
 use Rattle.std.specs.Prelude.{⊤, Option, Result, Ok}
 use Rattle.lists.specs.declared.Refusal.{Refusal}
-use Rattle.std.specs.Prelude.{ℕ, ◌≡◌, Bool, List, length, take, ℤ}
+use Rattle.std.specs.Prelude.{ℕ, ◌≡◌, Bool, List, take, ℤ}
 use Rattle.lists.specs.Limits.{component_limit, connection_limit, frontier_limit, component_width, frontier_width}
 use Rattle.lists.specs.Records.{component_count}
 use Rattle.lists.specs.Ranges.{first_out_of_range, component_low, component_high, frontier_low, frontier_high}

@@ -1,18 +1,20 @@
 -- `checks::refusals::refuse_scene` meets its contract: where lengths and ranges pass, the components have their table of ids, and where no id is
 -- repeated each id's list place is settled in it.
 -- Assumes nothing.
-use mathlib.Core.Path.{sym, ◌∙◌}
+use Rattle.std.specs.Prelude.{Err}
+use Rattle.std.proofs.Common.{rules}
+use mathlib.Core.Path.{◌≡◌, sym, ◌∙◌}
 use native.Mathlib.Omega.{arith}
 use lib.Seq.{length-take-le, take_at}
 use Rattle.lists.specs.Within.{Components}
-use Rattle.checks.proofs.Chain.{goes}
+use Rattle.checks.proofs.Chain.{goes, stops, refused}
 use Rattle.checks.proofs.Accepts.{components_pass, scene_parts, settled}
 use Rattle.checks.proofs.refusals.refuse_scene.Goals as goal
 use Rattle.checks.proofs.refusals.refuse_scene.Goals.{In_ok-refuse_ranges}
 
 passed : (c : In_ok-refuse_ranges) → Components c.args.components.now
 passed c =
-    components_pass _ _ _ _ _ _ _ (sym c.refuse_lengths.ensures ∙ c.in_ok-refuse_lengths.was) (sym c.refuse_ranges.ensures ∙ c.in_ok-refuse_ranges.was)
+    components_pass c.args.rules _ c.args.width c.args.connections _ _ c.args.enough (sym c.refuse_lengths.ensures ∙ c.in_ok-refuse_lengths.was) (sym c.refuse_ranges.ensures ∙ c.in_ok-refuse_ranges.was)
 
 pub slice_bounds-refuse_components-end : goal.slice_bounds-refuse_components-end
 slice_bounds-refuse_components-end c =
@@ -30,6 +32,17 @@ pub refuse_components-requires : goal.refuse_components-requires
 refuse_components-requires c =
     let all = passed (goal.at.refuse_components-requires c).In_ok-refuse_ranges in
     length-take-le _ c.args.keys.now (omega (arith, all.few, c.requires.1))
+
+pub returns-in_err-refuse_lengths : goal.returns-in_err-refuse_lengths
+returns-in_err-refuse_lengths c =
+    let back : c.from_residual.result ≡ Err c.in_err-refuse_lengths.field-0.0 = search rules in
+    refused back (stops (stops (back ∙ c.in_err-refuse_lengths.ensures) back _) back _ ∙ scene_parts _ _ _ _ _ _ _)
+
+pub returns-in_err-refuse_ranges : goal.returns-in_err-refuse_ranges
+returns-in_err-refuse_ranges c =
+    let back : c.from_residual-in_err-refuse_ranges.result ≡ Err c.in_err-refuse_ranges.field-0.0 = search rules in
+    let found = goes c.refuse_lengths.ensures c.in_ok-refuse_lengths.was (back ∙ c.in_err-refuse_ranges.ensures) in
+    refused back (stops found back _ ∙ scene_parts _ _ _ _ _ _ _)
 
 pub returns : goal.returns
 returns c =
