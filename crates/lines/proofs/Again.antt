@@ -88,11 +88,11 @@ unfolding read_number
 number_within i text a =
     ⊎_elim (λ l. l) (λ g. absurd (subst (λ (s : List ℕ). Accepted (read_number s)) (drop_of_length-le text g) a)) (below_or i (length text))
 
-negative_accepted : (q : Taken ℕ) → Accepted (negative q) → Accepted q
+pub negative_accepted : (q : Taken ℕ) → Accepted (negative q) → Accepted q
 negative_accepted (taken n r) a = tt
 negative_accepted refused a = a
 
-positive_accepted : (q : Taken ℕ) → Accepted (positive q) → Accepted q
+pub positive_accepted : (q : Taken ℕ) → Accepted (positive q) → Accepted q
 positive_accepted (taken n r) a = tt
 positive_accepted refused a = a
 
