@@ -9,14 +9,21 @@ use lib.ListN.{length, get_or, drop, drop_of_length-le}
 use borrow.Author.Tests.{eq-eqb, ne_eqb}
 use Rattle.std.specs.Prelude.{Some}
 use Rattle.lines.specs.Decimal.{limit}
-use Rattle.lines.specs.Line.{taken, Accepted, taken_in, positive, negative}
+use Rattle.lines.specs.Line.{Taken, taken, refused, Accepted, taken_in, positive, negative}
 use Rattle.lines.proofs.Digits.{below_or, same_or}
 use Rattle.lines.proofs.Reading.{next, digit_low, digit_high}
 use Rattle.lines.proofs.Placed.{taken_is}
-use Rattle.lines.proofs.Again.{negative_accepted, positive_accepted}
 use Rattle.forms.specs.Numbers.{digits_until, zero_until, magnitude_until, number_until, Ends}
 use Rattle.forms.proofs.Until.{is_other, until_end, until_more, until_zero, until_none, until_digit, ends, more, stop, step}
 use Rattle.forms.proofs.Placed.{end_at, minus_at, plain_at, magnitude_small, positive_some, negative_some}
+
+negative_accepted : (q : Taken ℕ) → Accepted (negative q) → Accepted q
+negative_accepted (taken n r) a = tt
+negative_accepted refused a = a
+
+positive_accepted : (q : Taken ℕ) → Accepted (positive q) → Accepted q
+positive_accepted (taken n r) a = tt
+positive_accepted refused a = a
 
 module _ (e : ℕ) where
   pub digits_within : (v i : ℕ) (text : List ℕ) → Accepted (digits_until e v (drop i text)) → i < length text
