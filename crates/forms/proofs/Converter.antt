@@ -105,20 +105,20 @@ unless_text : (c : Result ⊤ Refusal) (s t : List ℕ) → unless c s ≡ Ok t 
 unless_text (Ok tt) s t e = (refl, cc)
 unless_text (Err r) s t e = cc
 
-turned_text : (check : List ℤ → List ℤ → List ℤ → Result ⊤ Refusal) (p : Parsed) (t : List ℕ) → turned check p ≡ Ok t
+turned_text : (check : ℕ → List ℤ → List ℤ → List ℤ → Result ⊤ Refusal) (p : Parsed) (t : List ℕ) → turned check p ≡ Ok t
     → (style : Style) × (rules : ℕ) × (cs : List ℤ) × (ps : List ℤ) × (fs : List ℤ)
-    × (p ≡ Sheet style rules cs ps fs) × (check cs ps fs ≡ Ok tt) × (sheet_text (other style) rules cs ps fs ≡ t)
+    × (p ≡ Sheet style rules cs ps fs) × (check rules cs ps fs ≡ Ok tt) × (sheet_text (other style) rules cs ps fs ≡ t)
 turned_text check (Sheet style rules cs ps fs) t e =
-    let (c, s) = unless_text (check cs ps fs) (sheet_text (other style) rules cs ps fs) t e in
+    let (c, s) = unless_text (check rules cs ps fs) (sheet_text (other style) rules cs ps fs) t e in
     (style, rules, cs, ps, fs, refl, c, s)
 turned_text check (Faulty r) t e = cc
 
-module _ (most components connections frontiers : ℕ) (some : 1 ≤ most) (few : most ≤ largest) (check : List ℤ → List ℤ → List ℤ → Result ⊤ Refusal) where
+module _ (most components connections frontiers : ℕ) (some : 1 ≤ most) (few : most ≤ largest) (check : ℕ → List ℤ → List ℤ → List ℤ → Result ⊤ Refusal) where
   -- what the result says: the same rules and lists, in the other form, which the list checks accepted
   pub record Said (style : Style) (rules : ℕ) (cs ps fs : List ℤ) (s t : List ℕ) : Type 0 where
     pub from : parse most components connections frontiers s ≡ Sheet style rules cs ps fs
     pub to : parse most components connections frontiers t ≡ Sheet (other style) rules cs ps fs
-    pub valid : check cs ps fs ≡ Ok tt
+    pub valid : check rules cs ps fs ≡ Ok tt
     pub text : t ≡ sheet_text (other style) rules cs ps fs
     pub own : plain s ≡ sheet_text style rules cs ps fs
 

@@ -36,7 +36,7 @@ abbrev refusal : Fault → Option Section → ℕ → Parsed
 refusal fault list item = Faulty (record { fault = fault; list = list; item = item })
 
 abbrev turn : List ℕ → Converted
-turn s = convert 2 1024 4096 256 (λ cs ps fs. Ok tt) s
+turn s = convert 2 1024 4096 256 (λ rules cs ps fs. Ok tt) s
 
 abbrev old_plot : List String
 old_plot =

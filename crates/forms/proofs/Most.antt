@@ -30,7 +30,7 @@ digits_most (suc more) n t =
     (λ g. rw (digits_turn more n t g) (let h = digits_most more (n / 10) ((48 + n % 10) ∷ t) in omega arith))
     (below_or n 10)
 
-number_most : (z : ℤ) → length (number z []) ≤ 21
+pub number_most : (z : ℤ) → length (number z []) ≤ 21
 number_most (pos n) = let h = digits_most 19 n [] in omega arith
 number_most (negsuc n) = let h = digits_most 19 (suc n) [] in omega arith
 

@@ -13,6 +13,7 @@ mod refusal;
 pub mod sheet;
 pub mod store;
 pub mod table;
+pub mod text;
 pub mod write;
 
 ghost use Rattle.std.specs.Prelude.{◌≡◌, true};

@@ -27,8 +27,9 @@ use Rattle.lines.proofs.Writing.{line_size}
 use Rattle.blocks.specs.Lines.{refusal_lines}
 use Rattle.blocks.specs.Printed.{Printed}
 use Rattle.blocks.proofs.Printing.{printed_end}
-use Rattle.report.proofs.Scenes.{front_is}
-use Rattle.report.specs.Entry.{answer_by, report_checked, lists_checked, fits}
+use Rattle.sheet.proofs.Fronts.{front_is}
+use Rattle.sheet.specs.Written.{answer_by, fits}
+use Rattle.report.specs.Entry.{report_checked, lists_checked}
 use Rattle.report.proofs.ReadBack.{regions_printed}
 use Rattle.sheet.specs.Entry.{rules_of, components_of, connections_of, frontiers_of, sheet_checked}
 use Rattle.lists.specs.Limits.{component_width, connection_width, frontier_width}

@@ -16,7 +16,8 @@ use Rattle.sheet.specs.Entry.{components_of, connections_of, frontiers_of}
 use Rattle.blocks.specs.Lines.{refusal_lines}
 use Rattle.report.specs.Report.{kept_list, report_of}
 use Rattle.report.specs.Demand.{RegionsPrinted}
-use Rattle.report.specs.Entry.{report_checked, PrintedBy}
+use Rattle.sheet.specs.Written.{PrintedBy}
+use Rattle.report.specs.Entry.{report_checked}
 
 -- ---- the program's limits
 

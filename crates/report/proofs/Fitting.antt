@@ -11,7 +11,7 @@ use lib.ListN.{length, drop}
 use borrow.Author.Tests.{le-leb, lt-leb}
 use Rattle.blocks.specs.Printed.{Printed}
 use Rattle.blocks.proofs.Printing.{sum_fits, sum_past, printed_end}
-use Rattle.report.specs.Entry.{fits, PrintedBy}
+use Rattle.sheet.specs.Written.{fits, PrintedBy}
 
 module _ {text a b out : List ℕ} {m : ℕ} (measured : Printed 0 text a b m) where
   pub printed_none : length out < m

@@ -49,7 +49,8 @@ use Rattle.liveness.specs.Scene.{Scene}
 use Rattle.liveness.proofs.Demands.{region_laid, same_regions}
 use Rattle.report.specs.Report.{all_rows, kept_list, component_row, component_rows, region_row, region_rows, input_block, report_of}
 use Rattle.report.specs.Demand.{read_block, column, RegionsPrinted}
-use Rattle.report.specs.Entry.{fits, lists_checked, report_checked, PrintedBy}
+use Rattle.sheet.specs.Written.{fits, PrintedBy}
+use Rattle.report.specs.Entry.{lists_checked, report_checked}
 use Rattle.report.proofs.RowText.{natural_is}
 use Rattle.report.proofs.RowLines.{rows_read}
 use Rattle.report.proofs.Assembled.{rows_long}

@@ -1,24 +1,21 @@
 -- An accepted sheet: its lists, and its kept connections as a scene of the analysis.
 --     sheet_scene            what the checks have shown
 --     kept_scene             the liveness entry takes the kept connections
---     front_long, front_is     what was laid into a slice is its front
 --     analyzed               what the analysis leaves
 --     sloped_front, kept_cut     what port selection leaves
 --     nets_long, fragments_long, regions_long, regions_few, slopes_few     how long the lists are that were left
 -- Assumes nothing.
 use Rattle.std.specs.Prelude.{Ok}
-use mathlib.Core.Path.{◌≡◌, ap, sym, ◌∙◌}
+use mathlib.Core.Path.{◌≡◌, ap, ◌∙◌}
 use mathlib.Core.Bool.{true}
 use mathlib.Core.List.{List, map}
-use Prim.Native.Nat.{ℕ, ◌+◌, ◌*◌, ◌≤◌}
+use Prim.Native.Nat.{ℕ, ◌*◌, ◌≤◌}
 use native.Mathlib.Omega.{arith}
 use lib.IntN.{ℤ, pos}
-use lib.ListN.{length, take, drop, length-append, length-map}
-use lib.Seq.{take_at}
+use lib.ListN.{length, take, length-map}
 use Rattle.lists.specs.Limits.{connection_limit, kept_width}
 use Rattle.lists.specs.Records.{component_count, connection_count}
 use Rattle.checks.specs.Refusals.{sheet_refusal}
-use Rattle.lists.specs.Slices.{laid}
 use Rattle.checks.proofs.Accepted.{GroupingScene, grouping_accept}
 use Rattle.circuit.specs.Topology.{net_kinds, fragment_kinds, forest_of, nets_of, fragments_of}
 use Rattle.circuit.proofs.Roots.{length_groups}
@@ -36,6 +33,7 @@ use Rattle.liveness.specs.Entry.{AnalyzedBy}
 use Rattle.liveness.specs.declared.Analysis.{Analysis}
 use Rattle.report.specs.Report.{kept_list}
 use Rattle.report.specs.Printing.{SlopedFront, Cut, Gathered, Analyzed}
+use Rattle.sheet.proofs.Fronts.{front_long, front_is}
 use Rattle.report.proofs.CutRows.{five_long}
 
 module _ (rules : ℕ) (cs ps fs : List ℤ) (e : sheet_refusal rules cs ps fs ≡ Ok tt) where
@@ -51,16 +49,7 @@ module _ (rules : ℕ) (cs ps fs : List ℤ) (e : sheet_refusal rules cs ps fs �
     distinct = sheet_scene.scene.once;
   }
 
--- ---- what was laid into a slice
-
-module _ {A : Type 0} (rows old : List A) {new : List A} (e : new ≡ laid rows old) where
-  pub front_long : length rows ≤ length new
-  front_long =
-      let long : length new ≡ length rows + length (drop (length rows) old) = ap length e ∙ length-append rows (drop (length rows) old) in
-      omega arith
-
-  pub front_is : (n : ℕ) → n ≡ length rows → take n new ≡ rows
-  front_is n h = ap (take n) e ∙ take_at rows (drop (length rows) old) n (sym h)
+-- ---- what the analysis leaves
 
 pub analyzed : {cs ps fs : List ℤ} {regions regions' sources sources' inputs inputs' stack stack' : List ℕ} {r : Analysis}
     → AnalyzedBy (Ok tt) cs ps fs regions regions' sources sources' inputs inputs' stack stack' (Ok r)

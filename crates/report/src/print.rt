@@ -4,7 +4,8 @@ ghost use Rattle.std.specs.Prelude.{◌≡◌, List, ◌*◌, ◌≤◌, length,
 ghost use Rattle.lists.specs.Records.{component_count};
 ghost use Rattle.blocks.specs.Printed.{Printed};
 ghost use Rattle.report.specs.Report.{report_of};
-ghost use Rattle.report.specs.Entry.{fits, lists_checked, PrintedBy};
+ghost use Rattle.sheet.specs.Written.{fits, PrintedBy};
+ghost use Rattle.report.specs.Entry.{lists_checked};
 ghost use Rattle.report.specs.Printing.{AskedOf, whole_text, Accepts, Gathered, Analyzed};
 
 use super::fill::{cut_slopes, fill_components, fill_connections, fill_regions};

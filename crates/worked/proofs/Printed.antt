@@ -38,7 +38,8 @@ use Rattle.assessment.specs.Verdicts.{fed_by, status_of, port_rows, verdict_rows
 use Rattle.inputs.specs.Query.{is_immediate, upstream, is_inferred_for}
 use Rattle.blocks.specs.Lines.{field_lines, spaced}
 use Rattle.report.specs.Report.{all_rows, member_id, ids_below, port_lines, verdict_lines, report_of}
-use Rattle.report.specs.Entry.{fits, answer_by, report_checked, Reported}
+use Rattle.sheet.specs.Written.{fits, answer_by}
+use Rattle.report.specs.Entry.{report_checked, Reported}
 use Rattle.worked.specs.Example.{sheet_text, short_text, lever_and_repeater, from_lever, and_support, report_text, program_parse, Example}
 use Rattle.worked.proofs.Forests.{single_places_lem}
 use Rattle.worked.proofs.Dropped.{dropped_uncounted}

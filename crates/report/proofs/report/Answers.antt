@@ -1,7 +1,8 @@
 -- `report::report` meets its contract: the lists that were read are the fronts of the work lists, and these are cleared
 -- once they are printed.
 -- Assumes nothing.
-use Rattle.report.proofs.ReadLists.{fronts, accepted, ruled, reported}
+use Rattle.sheet.proofs.Fronts.{fronts, accepted, ruled}
+use Rattle.report.proofs.ReadLists.{reported}
 use Rattle.report.proofs.report.Goals as goal
 
 pub returns : goal.returns

@@ -5,7 +5,7 @@ use Rattle.lists.specs.declared.Refusal.{Refusal}
 use mathlib.Core.Path.{sym, subst, ◌∙◌}
 use Rattle.sheet.specs.Entry.{components_of, connections_of, frontiers_of}
 use Rattle.report.specs.Report.{report_of}
-use Rattle.report.specs.Entry.{PrintedBy}
+use Rattle.sheet.specs.Written.{PrintedBy}
 use Rattle.plotreport.specs.Program.{parsed_by}
 use Rattle.plotreport.proofs.Spoken.{long_sheet, short_sheet}
 use Rattle.plotreport.proofs.program.report_sheet.Goals as goal

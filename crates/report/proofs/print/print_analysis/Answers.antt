@@ -17,8 +17,9 @@ use Rattle.liveness.specs.Scene.{Scene}
 use Rattle.liveness.specs.declared.Analysis.{Analysis}
 use Rattle.report.specs.Report.{all_rows}
 use Rattle.report.specs.Printing.{component_row_by, region_row_by, Analyzed}
-use Rattle.report.specs.Entry.{fits, PrintedBy}
-use Rattle.report.proofs.Scenes.{front_is, nets_long, fragments_long, regions_long, regions_few, slopes_few}
+use Rattle.sheet.specs.Written.{fits, PrintedBy}
+use Rattle.sheet.proofs.Fronts.{front_is}
+use Rattle.report.proofs.Scenes.{nets_long, fragments_long, regions_long, regions_few, slopes_few}
 use Rattle.report.proofs.Assembled.{component_count_lem, region_pairs, assembled}
 use Rattle.report.proofs.print.print_analysis.Goals as goal
 

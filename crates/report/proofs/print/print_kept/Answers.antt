@@ -14,7 +14,8 @@ use Rattle.liveness.specs.Scene.{Scene}
 use Rattle.liveness.specs.Entry.{AnalyzedBy}
 use Rattle.liveness.specs.declared.Analysis.{Analysis}
 use Rattle.report.specs.Printing.{Accepts, Gathered}
-use Rattle.report.proofs.Scenes.{kept_scene, front_long, analyzed}
+use Rattle.sheet.proofs.Fronts.{front_long}
+use Rattle.report.proofs.Scenes.{kept_scene, analyzed}
 use Rattle.report.proofs.print.print_kept.Goals as goal
 
 scene_of : {cs ps kept fs : List ℤ} {keys nets fragments slopes : List ℕ}
