@@ -1,0 +1,3 @@
+-- What the contracts cite. To be read in this order.
+pub mod Entry
+pub mod Laws
