@@ -3,7 +3,8 @@
 use Rattle.std.specs.Prelude.{Result, Ok, Err}
 use Rattle.std.proofs.Common.{rules}
 use Rattle.lists.specs.declared.Refusal.{Refusal}
-use mathlib.Core.Path.{◌≡◌, sym, ap₂, ◌∙◌}
+use mathlib.Core.Path.{◌≡◌, sym, ap, ap₂, ◌∙◌}
+use mir.Facts.{to_z-of_z}
 use mathlib.Core.Bool.{Bool}
 use mathlib.Core.List.{[], ◌∷◌}
 use Prim.Native.Nat.{ℕ, ◌≤◌}
@@ -11,6 +12,7 @@ use native.Mathlib.Omega.{arith}
 use lib.ListN.{length, take}
 use lib.Seq.{length-take-le}
 use Rattle.lists.specs.Records.{component_count}
+use Rattle.lists.specs.Rules.{rules_of}
 use Rattle.checks.specs.Refusals.{room_for, room_for_groups, grouping_refusal}
 use Rattle.lists.proofs.Search.{both}
 use Rattle.checks.proofs.Accepted.{GroupingScene, grouping_accept, room_places}
@@ -25,10 +27,11 @@ same_counts {r} e f = rw (← e, ← f)
 answer : (c : After-grouping_lists)
     →
     c.grouping_lists.result
-    ≡ grouping_refusal c.args.components.now c.args.connections.now (length c.args.nets.now) (length c.args.fragments.now)
+    ≡ grouping_refusal (rules_of c.args.rules) c.args.components.now c.args.connections.now (length c.args.nets.now) (length c.args.fragments.now)
 answer c =
+    let known = c.rules_of-rules.ensures ∙ ap rules_of (to_z-of_z c.ranges.rules) in
     c.grouping_lists.ensures.answer
-    ∙ rw c.room_for_groups-enough.ensures
+    ∙ rw (known, c.room_for_groups-enough.ensures)
 
 abbrev enough : After-grouping_lists → Bool
 enough c =
@@ -36,12 +39,12 @@ enough c =
 
 -- an accepted scene
 accepted : (c : After-grouping_lists) → c.grouping_lists.result ≡ Ok tt
-    → grouping_refusal c.args.components.now c.args.connections.now (length c.args.nets.now) (length c.args.fragments.now) ≡ Ok tt
+    → grouping_refusal (rules_of c.args.rules) c.args.components.now c.args.connections.now (length c.args.nets.now) (length c.args.fragments.now) ≡ Ok tt
 accepted c e = sym (answer c) ∙ e
 
 scene : (c : After-grouping_lists) → c.grouping_lists.result ≡ Ok tt
-    → GroupingScene c.args.components.now c.args.connections.now [] (enough c)
-scene c e = grouping_accept _ _ _ _ (accepted c e)
+    → GroupingScene (rules_of c.args.rules) c.args.components.now c.args.connections.now [] (enough c)
+scene c e = grouping_accept _ _ _ _ _ (accepted c e)
 
 room : (c : After-grouping_lists) → c.grouping_lists.result ≡ Ok tt
     → (component_count c.args.components.now ≤ length c.args.nets.now)
