@@ -27,16 +27,15 @@ pub struct Counts {
 
 // The number of each component's net and fragment, in list order, at the front of the lent slices. Groups are the same under all rules, whose
 // number is only checked.
-pub fn from_parts(
-    rules: i64,
+pub fn from_lists(
+    rules: u64,
     components: &[i64],
     connections: &[i64],
     nets: &mut [u64],
     fragments: &mut [u64],
 ) -> Result<Counts, Refusal>
-    ensures { Grouped (rules_of rules) components.now connections.now nets.old nets.new fragments.old fragments.new result }
+    ensures { Grouped rules components.now connections.now nets.old nets.new fragments.old fragments.new result }
 {
-    let rules = rules_of(rules);
     let mut keys = [0u64; COMPONENTS];
     let count = components.len() / COMPONENT;
     let enough = room_for_groups(count, nets.len(), fragments.len());
@@ -52,6 +51,19 @@ pub fn from_parts(
         numbers: connections,
     };
     Ok(settle::group(&keys[..count], accepted, nets, fragments))
+}
+
+// The same, where the rules number is any of 64 bits.
+pub fn from_parts(
+    rules: i64,
+    components: &[i64],
+    connections: &[i64],
+    nets: &mut [u64],
+    fragments: &mut [u64],
+) -> Result<Counts, Refusal>
+    ensures { Grouped (rules_of rules) components.now connections.now nets.old nets.new fragments.old fragments.new result }
+{
+    from_lists(rules_of(rules), components, connections, nets, fragments)
 }
 
 // The set with the net put in, where it is a member's and the test says so.

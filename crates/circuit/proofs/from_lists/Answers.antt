@@ -1,10 +1,9 @@
--- `circuit::from_parts` meets its contract: the checks first, and where they accept the groups, by the places of ids that they left.
+-- `circuit::from_lists` meets its contract: the checks first, and where they accept the groups, by the places of ids that they left.
 -- Assumes nothing.
 use Rattle.std.specs.Prelude.{Result, Ok, Err}
 use Rattle.std.proofs.Common.{rules}
 use Rattle.lists.specs.declared.Refusal.{Refusal}
-use mathlib.Core.Path.{◌≡◌, sym, ap, ap₂, ◌∙◌}
-use mir.Facts.{to_z-of_z}
+use mathlib.Core.Path.{◌≡◌, sym, ap₂, ◌∙◌}
 use mathlib.Core.Bool.{Bool}
 use mathlib.Core.List.{[], ◌∷◌}
 use Prim.Native.Nat.{ℕ, ◌≤◌}
@@ -12,13 +11,12 @@ use native.Mathlib.Omega.{arith}
 use lib.ListN.{length, take}
 use lib.Seq.{length-take-le}
 use Rattle.lists.specs.Records.{component_count}
-use Rattle.lists.specs.Rules.{rules_of}
 use Rattle.checks.specs.Refusals.{room_for, room_for_groups, grouping_refusal}
 use Rattle.lists.proofs.Search.{both}
 use Rattle.checks.proofs.Accepted.{GroupingScene, grouping_accept, room_places}
 use Rattle.circuit.specs.declared.Counts.{Counts}
-use Rattle.circuit.proofs.from_parts.Goals as goal
-use Rattle.circuit.proofs.from_parts.Goals.{After-grouping_lists}
+use Rattle.circuit.proofs.from_lists.Goals as goal
+use Rattle.circuit.proofs.from_lists.Goals.{After-grouping_lists}
 
 same_counts : {r : Counts} {nets fragments : ℕ} → r.nets ≡ nets → r.fragments ≡ fragments → ◌≡◌ {A = Result Counts Refusal} (Ok r) (Ok (record { nets = nets; fragments = fragments }))
 same_counts {r} e f = rw (← e, ← f)
@@ -27,11 +25,10 @@ same_counts {r} e f = rw (← e, ← f)
 answer : (c : After-grouping_lists)
     →
     c.grouping_lists.result
-    ≡ grouping_refusal (rules_of c.args.rules) c.args.components.now c.args.connections.now (length c.args.nets.now) (length c.args.fragments.now)
+    ≡ grouping_refusal c.args.rules c.args.components.now c.args.connections.now (length c.args.nets.now) (length c.args.fragments.now)
 answer c =
-    let known = c.rules_of-rules.ensures ∙ ap rules_of (to_z-of_z c.ranges.rules) in
     c.grouping_lists.ensures.answer
-    ∙ rw (known, c.room_for_groups-enough.ensures)
+    ∙ rw c.room_for_groups-enough.ensures
 
 abbrev enough : After-grouping_lists → Bool
 enough c =
@@ -39,11 +36,11 @@ enough c =
 
 -- an accepted scene
 accepted : (c : After-grouping_lists) → c.grouping_lists.result ≡ Ok tt
-    → grouping_refusal (rules_of c.args.rules) c.args.components.now c.args.connections.now (length c.args.nets.now) (length c.args.fragments.now) ≡ Ok tt
+    → grouping_refusal c.args.rules c.args.components.now c.args.connections.now (length c.args.nets.now) (length c.args.fragments.now) ≡ Ok tt
 accepted c e = sym (answer c) ∙ e
 
 scene : (c : After-grouping_lists) → c.grouping_lists.result ≡ Ok tt
-    → GroupingScene (rules_of c.args.rules) c.args.components.now c.args.connections.now [] (enough c)
+    → GroupingScene c.args.rules c.args.components.now c.args.connections.now [] (enough c)
 scene c e = grouping_accept _ _ _ _ _ (accepted c e)
 
 room : (c : After-grouping_lists) → c.grouping_lists.result ≡ Ok tt
