@@ -96,15 +96,16 @@ fn of_plot(
     let mut source_rows = [0u64; 4 * COMPONENTS];
     let mut input_rows = [0u64; 12 * COMPONENTS];
     let mut pairs = [0usize; 2 * COMPONENTS];
+    let n = plot.keys.len();
     let analysis = analyze(
         plot,
-        &mut region_rows,
-        &mut source_rows,
-        &mut input_rows,
-        &mut pairs,
+        &mut region_rows[..n],
+        &mut source_rows[..4 * n],
+        &mut input_rows[..12 * n],
+        &mut pairs[..2 * n],
     );
     let rows = Rows {
-        regions: &region_rows[..plot.keys.len()],
+        regions: &region_rows[..n],
         sources: &source_rows[..analysis.sources * 2],
         inputs: &input_rows[..analysis.inputs * 3],
     };
@@ -143,18 +144,20 @@ fn of_numbers(
     let checked = liveness_lists(
         rules, components, ports, frontiers, enough, &mut keys, &mut ends,
     );
-    if let Err(refusal) = checked {
-        return pack_refusal(refusal);
+    match checked {
+        Err(refusal) => pack_refusal(refusal),
+        Ok(()) => {
+            let plot = Plot {
+                keys: &keys[..count],
+                rules,
+                components,
+                ports,
+                frontiers,
+                ends: &ends,
+            };
+            of_plot(&plot, regions, sources, inputs, sets, stack)
+        }
     }
-    let plot = Plot {
-        keys: &keys[..count],
-        rules,
-        components,
-        ports,
-        frontiers,
-        ends: &ends,
-    };
-    of_plot(&plot, regions, sources, inputs, sets, stack)
 }
 
 // The refusal of a scene for whose sets there is no room.
@@ -212,11 +215,13 @@ pub(crate) fn of_bytes(
     let mut frontier_numbers = [0i64; FRONTIERS * FRONTIER];
     decode(components, &mut component_numbers);
     decode(frontiers, &mut frontier_numbers);
+    let component_count = components.len() / NUMBER;
+    let frontier_count = frontiers.len() / NUMBER;
     let lists = Lists {
         rules,
-        components: &component_numbers[..components.len() / NUMBER],
+        components: &component_numbers[..component_count],
         ports: &[],
-        frontiers: &frontier_numbers[..frontiers.len() / NUMBER],
+        frontiers: &frontier_numbers[..frontier_count],
     };
     if ports.len() / NUMBER <= FEW_PORT_NUMBERS {
         return with_ports::<FEW_PORT_NUMBERS>(

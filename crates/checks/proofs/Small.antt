@@ -2,7 +2,7 @@
 -- where number 1 passed, so that their items are below a limit.
 --     small_or_else                        a chain of two checks
 --     strange_small                        number 11
---     whole_small                          number 1
+--     rules_small, whole_small             numbers 11 and 1
 --     grouping_small, liveness_small       the checks of the lists
 -- Assumes nothing.
 use Rattle.lists.specs.declared.Fault.{Fault}
@@ -107,6 +107,9 @@ rules_item rules = record { item = λ k e. go (known_rules rules) k e }
 
 pub strange_small : (rules : ℕ) → Small (refuse Fault.UnknownRules None (strange_rules rules))
 strange_small rules = (fit_refuse Fault.UnknownRules None (rules_item rules) (lit≤ tt)).small
+
+pub rules_small : (rules : ℕ) → Small (refuse Fault.UnknownRules None (strange_rules rules))
+rules_small rules = (fit_refuse Fault.UnknownRules None (rules_item rules) (lit≤ tt)).small
 
 range_item : (low high list : List ℤ) → AtMost (length list / length low) (first_out_of_range low high list)
 unfolding first_out_of_range
