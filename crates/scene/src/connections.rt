@@ -1,6 +1,7 @@
 // The port connections that are kept of a scene, each with the slope of its step.
 ghost use Rattle.std.specs.Prelude.{◌≡◌, Some, ◌+◌, ◌*◌, ◌≤◌, ◌<◌, map, length, pos};
 ghost use Rattle.lists.specs.Limits.{kept_width};
+ghost use Rattle.lists.specs.Rules.{rules_of};
 ghost use Rattle.lists.specs.Records.{component, connection, component_count, connection_count};
 ghost use Rattle.lists.specs.Ids.{IdTable};
 ghost use Rattle.faces.specs.Codes.{face_code, face_number, slope_code};
@@ -17,6 +18,7 @@ use faces::ports::ports_for;
 use faces::select::{select_port, transfer_of};
 use faces::step::{Slope, Step, step_between};
 use lists::hints::{Hints, SLOTS, hint_ids, place_near};
+use lists::rules::rules_of;
 use lists::views::{ComponentList, ConnectionList};
 use lists::{COMPONENT, COMPONENTS, CONNECTION, KEPT, Refusal};
 
@@ -154,15 +156,18 @@ pub fn keep_all(
 
 // The port connections of a scene with their slopes, in the order of its grouping connections, as rows at the front of `out`.
 pub fn port_connections(
+    rules: i64,
     components: &[i64],
     connections: &[i64],
     out: &mut [i64],
 ) -> Result<usize, Refusal>
-    ensures { Answered components.now connections.now out.old out.new result }
+    ensures { Answered (rules_of rules) components.now connections.now out.old out.new result }
 {
+    let rules = rules_of(rules);
     let enough = room_for(connections.len() / CONNECTION, KEPT, out.len());
     let mut keys = [0u64; COMPONENTS];
     grouping_lists(
+        rules,
         components,
         connections,
         &connections[..0],
