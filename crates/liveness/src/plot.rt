@@ -12,7 +12,8 @@ use regions::{Graph, HINTED};
 use signals::flags::spread;
 use signals::stages::{build_tables, find_regions, place_members};
 
-// The lists that the checks accepted and the rules by which they are marked, the table of the components' ids, and the ends of the port connections as members.
+// The lists that the checks accepted, the rules by which they are marked, the table of the components' ids, and the ends of the port
+// connections as members.
 #[derive(Clone, Copy)]
 pub struct Plot<'a> {
     pub keys: &'a [u64],
