@@ -10,9 +10,7 @@ use lib.ListN.{length, get_or, drop, drop_of_length-le}
 use lib.Seq.{drop-cons}
 use Rattle.lines.specs.Text.{ascii}
 use Rattle.lines.specs.Decimal.{line_of}
-use Rattle.sheet.specs.Keys.{field_key}
-use Rattle.sheet.specs.Writing.{field_lines}
-use Rattle.blocks.specs.Lines.{set_line, input_text}
+use Rattle.blocks.specs.Lines.{field_key, field_lines, set_line, input_text}
 use Rattle.blocks.specs.declared.Block.{Block}
 use Rattle.blocks.specs.Blocks.{block_keys}
 

@@ -1,16 +1,16 @@
 -- The lines of a report (document 01, "The sheet and the program", its worked example): the keys of each block, and texts as functions of
 -- the numbers that they print. Which numbers these are is said in crate `report`.
 --     component_keys, .., input_keys     the keys of the five blocks' rows, in the order in which the blocks are printed
+--     field_key, field_lines           the lines of rows with given keys
 --     block                            a count, and a line for each number of its rows
 --     set_line, input_text               a line of ids; the lines of a verdict row
 --     refusal_lines                     what is printed of a refusal
 -- Assumes nothing: these are definitions.
-use Rattle.std.specs.Prelude.{ℕ, ◌/◌, List, [], ◌∷◌, ◌++◌, map, length, pos}
+use Rattle.std.specs.Prelude.{ℕ, suc, ◌/◌, ◌%◌, List, [], ◌∷◌, ◌++◌, map, length, get_or, ℤ, pos}
 use Rattle.lists.specs.declared.Refusal.{Refusal}
 use Rattle.lists.specs.Refusal.{fault_number, list_number}
 use Rattle.lines.specs.Text.{ascii}
 use Rattle.lines.specs.Decimal.{digits, line_of}
-use Rattle.sheet.specs.Writing.{field_lines}
 
 -- ---- keys
 
@@ -28,6 +28,17 @@ source_keys = ascii "id" ∷ ascii "kind" ∷ []
 
 abbrev pub input_keys : List (List ℕ)
 input_keys = ascii "device" ∷ ascii "port" ∷ ascii "status" ∷ []
+
+-- ---- rows
+
+-- the key of line k, from 0, of rows that have these keys
+abbrev pub field_key : List (List ℕ) → ℕ → List ℕ
+field_key keys k = get_or keys (k % length keys) []
+
+-- a line for each number, the first of which is line k
+unfoldable pub field_lines : List (List ℕ) → ℕ → List ℤ → List ℕ
+field_lines keys k [] = []
+field_lines keys k (z ∷ zs) = line_of (field_key keys k) z ++ field_lines keys (suc k) zs
 
 -- ---- blocks
 

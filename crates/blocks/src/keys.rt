@@ -1,7 +1,7 @@
 // The keys of a report, and the lines that have them.
 ghost use Rattle.std.specs.Prelude.{◌≡◌, [], ◌<◌, length, get_or, map, pos};
 ghost use Rattle.lines.specs.Decimal.{line_of};
-ghost use Rattle.sheet.specs.Keys.{field_key};
+ghost use Rattle.blocks.specs.Lines.{field_key};
 ghost use Rattle.blocks.specs.Blocks.{block_keys, count_name};
 ghost use Rattle.blocks.specs.Printed.{Printed};
 
@@ -53,7 +53,7 @@ pub fn width(block: Block) -> usize
     block_keys(block).len()
 }
 
-// The key of line k of a block's rows. As of a sheet's list: a function of the two lines, over a table of keys, would be longer.
+// The key of line k of a block's rows.
 fn field_key(block: Block, k: usize) -> &'static [u8]
     ensures { result.now ≡ field_key (block_keys block) k }
 {

@@ -5,5 +5,4 @@ pub mod Grammar
 pub mod Placed
 pub mod Counting
 pub mod Writing
-pub mod Again
 mod Examples

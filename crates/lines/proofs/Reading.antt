@@ -169,7 +169,7 @@ key_long [] (b ∷ bs) h = absurd (omega arith)
 key_long (k ∷ ks) [] h = refl
 key_long (k ∷ ks) (b ∷ bs) h = rw (key_long ks bs (omega arith)) (and_false (eqb b k))
 
-eqb_comm : (a b : ℕ) → eqb a b ≡ eqb b a
+pub eqb_comm : (a b : ℕ) → eqb a b ≡ eqb b a
 eqb_comm a b =
     ⊎_elim (λ e. rw (eq-eqb a b e, eq-eqb b a (sym e))) (λ n. rw (ne_eqb a b n, ne_eqb b a (λ e. n (sym e)))) (same_or a b)
 
@@ -184,7 +184,7 @@ key_parts (k ∷ ks) (b ∷ bs) = rw (eqb_comm b k, key_parts ks bs, and_assoc)
 abbrev pub from : List ℕ → ℕ → List ℕ
 from text at = take (length text - at) (drop at text)
 
-from_is : (text : List ℕ) (at : ℕ) → from text at ≡ drop at text
+pub from_is : (text : List ℕ) (at : ℕ) → from text at ≡ drop at text
 from_is text at = rw (← length-drop at text, take-length (drop at text))
 
 module _ (text : List ℕ) (at : ℕ) (key : List ℕ) where

@@ -4,6 +4,5 @@
 // anew at each position.
 #![tactic(auto)]
 
-pub mod known;
 pub mod read;
 pub mod write;

@@ -30,7 +30,7 @@ use Rattle.blocks.proofs.Printing.{printed_end}
 use Rattle.report.proofs.Scenes.{front_is}
 use Rattle.report.specs.Entry.{answer_by, report_checked, lists_checked, fits}
 use Rattle.report.proofs.ReadBack.{regions_printed}
-use Rattle.sheet.specs.Entry.{components_of, connections_of, frontiers_of, sheet_checked}
+use Rattle.sheet.specs.Entry.{rules_of, components_of, connections_of, frontiers_of, sheet_checked}
 use Rattle.lists.specs.Limits.{component_width, connection_width, frontier_width}
 use Rattle.plotreport.specs.Program.{sheet_bytes, report_bytes, too_long_sheet, sheet_report, program_checked, printed_by, printed, ProgramPrinted, RegionsOfSheet, parsed_by, components, connections, frontiers}
 
@@ -117,7 +117,7 @@ printed_demand text out is e =
     let b = connections * connection_width in
     let c = frontiers * frontier_width in
     let read = both_accept (refuse Fault.ListLength None (too_long_sheet text)) (report_checked p a b c report_bytes) e in
-    let lists = both_accept (sheet_checked p a b c) (lists_checked cs ps fs report_bytes) read.1 in
-    let scene = both_accept (sheet_refusal cs ps fs) (fits report report_bytes) lists.1 in
+    let lists = both_accept (sheet_checked p a b c) (lists_checked (rules_of p) cs ps fs report_bytes) read.1 in
+    let scene = both_accept (sheet_refusal (rules_of p) cs ps fs) (fits report report_bytes) lists.1 in
     let same : out ≡ report = is ∙ ap (λ checks. printed_by checks report) e in
-    rw (same, sym (append-nil report)) (regions_printed cs ps fs scene.0 [])
+    rw (same, sym (append-nil report)) (regions_printed (rules_of p) cs ps fs scene.0 [])

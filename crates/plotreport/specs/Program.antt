@@ -10,7 +10,8 @@ use Rattle.lists.specs.declared.Refusal.{Refusal}
 use Rattle.std.specs.Prelude.{ℕ, ◌*◌, ◌≡◌, cond, List, leb, length}
 use Rattle.lists.specs.Limits.{component_width, connection_width, frontier_width}
 use Rattle.checks.specs.Refusals.{refuse, ◌or_else◌}
-use Rattle.sheet.specs.Sheet.{Parsed, parse}
+use Rattle.lists.specs.Rules.{rules_limit}
+use Rattle.forms.specs.Sheet.{Parsed, parse}
 use Rattle.sheet.specs.Entry.{components_of, connections_of, frontiers_of}
 use Rattle.blocks.specs.Lines.{refusal_lines}
 use Rattle.report.specs.Report.{kept_list, report_of}
@@ -40,7 +41,7 @@ abbrev pub too_long_sheet : List ℕ → Option ℕ
 too_long_sheet text = cond (leb (length text) sheet_bytes) None (Some sheet_bytes)
 
 abbrev pub parsed_by : List ℕ → Parsed
-parsed_by text = parse components connections frontiers text
+parsed_by text = parse rules_limit components connections frontiers text
 
 -- its work lists have room for its limits
 abbrev pub program_checked : List ℕ → ℕ → Result ⊤ Refusal

@@ -3,9 +3,9 @@ ghost use Rattle.std.specs.Prelude.{◌≡◌, Ok};
 ghost use Rattle.plotreport.specs.Program.{ProgramPrinted, RegionsOfSheet, program_checked, printed, report_bytes};
 
 use blocks::answer::put_refusal;
+use forms::Counts;
 use lists::{COMPONENT, CONNECTION, FRONTIER, Fault, Refusal};
 use report::report;
-use sheet::Counts;
 
 // The most bytes of a sheet, and of a report.
 pub const BYTES: usize = 65536;

@@ -5,7 +5,7 @@ use Rattle.lists.specs.declared.Refusal.{Refusal}
 use Rattle.lists.specs.Refusal.{fault_number, list_number}
 use Rattle.std.specs.Prelude.{ℕ, ◌+◌, ◌-◌, ◌*◌, ◌^◌, cond, List, leb, ℤ, ◌≡◌}
 use Rattle.report.specs.Entry.{Reported}
-use Rattle.sheet.specs.Sheet.{Parsed}
+use Rattle.forms.specs.Sheet.{Parsed}
 
 -- what has no room in its digits
 abbrev pub no_room : ℕ

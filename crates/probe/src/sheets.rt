@@ -1,12 +1,13 @@
 // The sheet entry for the tests from Rust, its answer as one number.
 ghost use Rattle.std.specs.Prelude.{◌≡◌};
 ghost use Rattle.std.specs.Option.{unwrap_or};
-ghost use Rattle.sheet.specs.Sheet.{parse};
+ghost use Rattle.lists.specs.Rules.{rules_limit};
+ghost use Rattle.forms.specs.Sheet.{parse};
 ghost use Rattle.probe.specs.Sheets.{no_room, packed_refusal, packed_report, ReportedAs};
 
+use forms::Counts;
 use lists::{Refusal, list_number};
 use report::report;
-use sheet::Counts;
 
 const ITEMS: usize = 1 << 48;
 
@@ -53,7 +54,7 @@ pub extern "C" fn probe_report(
     frontiers: &mut [i64],
     out: &mut [u8],
 ) -> u64
-    ensures { ReportedAs (parse component_limit connection_limit frontier_limit text.now)
+    ensures { ReportedAs (parse rules_limit component_limit connection_limit frontier_limit text.now)
         components.old components.new connections.old connections.new frontiers.old frontiers.new out.old out.new result }
 {
     let limits = Counts {

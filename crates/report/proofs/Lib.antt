@@ -8,4 +8,6 @@ pub mod Scenes
 pub mod CutRows
 pub mod Assembled
 pub mod SheetLaws
+pub mod RowLines
 pub mod ReadBack
+mod SameReport

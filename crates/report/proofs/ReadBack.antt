@@ -31,11 +31,11 @@ use Rattle.lines.specs.Line.{taken, read_line}
 use Rattle.lines.proofs.Grammar.{read_write}
 use Rattle.checks.specs.Refusals.{sheet_refusal}
 use Rattle.checks.proofs.Chain.{both_accept}
-use Rattle.sheet.specs.Sheet.{Parsed, got}
-use Rattle.sheet.specs.Entry.{components_of, connections_of, frontiers_of, sheet_checked}
-use Rattle.sheet.specs.Writing.{field_lines, AllInRange}
-use Rattle.sheet.proofs.Grammar.{fields_complete}
-use Rattle.blocks.specs.Lines.{component_keys, connection_keys, region_keys, source_keys, block}
+use Rattle.forms.specs.Form.{got, AllInRange, in_line, field_test, form_test}
+use Rattle.forms.specs.Tables.{keyed}
+use Rattle.forms.specs.Sheet.{Parsed}
+use Rattle.sheet.specs.Entry.{rules_of, components_of, connections_of, frontiers_of, sheet_checked}
+use Rattle.blocks.specs.Lines.{component_keys, connection_keys, region_keys, source_keys, field_lines, block}
 use Rattle.circuit.specs.Topology.{net_kinds, fragment_kinds, forest_of}
 use Rattle.circuit.proofs.Nets.{numbers_below}
 use Rattle.circuit.proofs.Numbering.{roots_most}
@@ -51,6 +51,7 @@ use Rattle.report.specs.Report.{all_rows, kept_list, component_row, component_ro
 use Rattle.report.specs.Demand.{read_block, column, RegionsPrinted}
 use Rattle.report.specs.Entry.{fits, lists_checked, report_checked, PrintedBy}
 use Rattle.report.proofs.RowText.{natural_is}
+use Rattle.report.proofs.RowLines.{rows_read}
 use Rattle.report.proofs.Assembled.{rows_long}
 use Rattle.report.proofs.Scenes.{kept_scene}
 use Rattle.report.proofs.SheetLaws.{report_demand}
@@ -109,12 +110,21 @@ flag_small false = omega arith
 
 -- ---- a block
 
-block_read : (name : List ℕ) (keys : List (List ℕ)) (rows rest : List ℕ) → AllInRange (map pos rows) → length rows / length keys ≤ limit
+component_form : form_test (keyed component_keys) ≡ true
+unfolding form_test field_test in_line
+component_form = refl
+
+connection_form : form_test (keyed connection_keys) ≡ true
+unfolding form_test field_test in_line
+connection_form = refl
+
+block_read : (name : List ℕ) (keys : List (List ℕ)) → form_test (keyed keys) ≡ true → (rows rest : List ℕ) → AllInRange (map pos rows) → length rows / length keys ≤ limit
     → length rows / length keys * length keys ≡ length rows → read_block name keys (block name keys rows ++ rest) ≡ got (map pos rows) rest
-block_read name keys rows rest small few whole =
+block_read name keys good rows rest small few whole =
     let fields = field_lines keys 0 (map pos rows) in
-    rw (append_assoc (line_of name (pos (length rows / length keys))) fields rest, read_write name (pos (length rows / length keys)) (fields ++ rest) few, whole)
-    (rw (length-map rows pos) at (fields_complete keys 0 (map pos rows) rest small))
+    let count = length rows / length keys in
+    rw (append_assoc (line_of name (pos count)) fields rest, read_write name (pos count) (fields ++ rest) few)
+    (rows_read keys good count (map pos rows) rest (length-map rows pos ∙ sym whole) small)
 
 -- ---- a number of each row
 
@@ -136,7 +146,7 @@ rows_at row each (suc n) v f h l =
 six_then : (a b c d e f rest : List ℕ) → (a ++ (b ++ (c ++ (d ++ (e ++ f))))) ++ rest ≡ a ++ (b ++ (c ++ (d ++ (e ++ (f ++ rest)))))
 six_then a b c d e f rest = simp append_assoc
 
-module _ (cs ps fs : List ℤ) (e : sheet_refusal cs ps fs ≡ Ok tt) where
+module _ (rules : ℕ) (cs ps fs : List ℤ) (e : sheet_refusal rules cs ps fs ≡ Ok tt) where
   abbrev n : ℕ
   n = component_count cs
 
@@ -147,7 +157,7 @@ module _ (cs ps fs : List ℤ) (e : sheet_refusal cs ps fs ≡ Ok tt) where
   rows = component_rows cs ps fs n
 
   scene : Scene cs kept
-  scene = kept_scene cs ps fs e
+  scene = kept_scene rules cs ps fs e
 
   rows_count : length rows ≡ 6 * n
   rows_count = rows_long (component_row cs ps fs) 6 n (λ p. refl)
@@ -203,14 +213,14 @@ module _ (cs ps fs : List ℤ) (e : sheet_refusal cs ps fs ≡ Ok tt) where
     components_read =
         let few : length rows / 6 ≤ limit = omega (arith, rows_count, scene.components.few) in
         let whole : length rows / 6 * 6 ≡ length rows = omega (arith, rows_count) in
-        block_read (ascii "components") component_keys rows after_components (rows_in_range (component_row cs ps fs) n row_small) few whole
+        block_read (ascii "components") component_keys component_form rows after_components (rows_in_range (component_row cs ps fs) n row_small) few whole
 
     connections_read : read_block (ascii "connections") connection_keys after_components ≡ got (map pos (sloped_rows cs ps)) after_connections
     connections_read =
         let count = sloped_count cs ps in
         let few : length (sloped_rows cs ps) / 6 ≤ limit = omega (arith, scene.connections.few, length-map (kept_rows cs ps) pos, count) in
         let whole : length (sloped_rows cs ps) / 6 * 6 ≡ length (sloped_rows cs ps) = omega (arith, count) in
-        block_read (ascii "connections") connection_keys (sloped_rows cs ps) after_connections (kept_in_range cs ps scene.connections) few whole
+        block_read (ascii "connections") connection_keys connection_form (sloped_rows cs ps) after_connections (kept_in_range cs ps scene.connections) few whole
 
     -- a region's row has two numbers
     count_read : read_line (ascii "regions") after_connections ≡ taken (pos (region_count cs kept)) after_count
@@ -237,7 +247,7 @@ module _ (cs ps fs : List ℤ) (e : sheet_refusal cs ps fs ≡ Ok tt) where
       count_read = count_read;
       ids_are = λ v h. column_at 0 v h (omega arith);
       connections_are = cut_map pos (sloped_rows cs ps) ∙ ap (map pos) (cut_sloped cs ps);
-      demand = same_regions cs kept (region_count cs kept) (λ v h. region_laid cs kept [] v h ∙ sym (column_at 3 v h (omega arith))) (report_demand cs ps fs e []);
+      demand = same_regions cs kept (region_count cs kept) (λ v h. region_laid cs kept [] v h ∙ sym (column_at 3 v h (omega arith))) (report_demand rules cs ps fs e []);
     }
 
 -- the buffer of an accepted sheet
@@ -250,7 +260,7 @@ demand_printed p components connections frontiers {out} printed e =
     let ps = connections_of p in
     let fs = frontiers_of p in
     let text = report_of cs ps fs in
-    let lists = both_accept (sheet_checked p components connections frontiers) (lists_checked cs ps fs (length out)) e in
-    let scene = both_accept (sheet_refusal cs ps fs) (fits text (length out)) lists.1 in
+    let lists = both_accept (sheet_checked p components connections frontiers) (lists_checked (rules_of p) cs ps fs (length out)) e in
+    let scene = both_accept (sheet_refusal (rules_of p) cs ps fs) (fits text (length out)) lists.1 in
     let left = printed.left ∙ ap (λ (c : Result ⊤ Refusal). left_of c text out) e in
-    rw left (regions_printed cs ps fs scene.0 (drop (length text) out))
+    rw left (regions_printed (rules_of p) cs ps fs scene.0 (drop (length text) out))

@@ -38,9 +38,9 @@ use Rattle.report.specs.Report.{kept_list}
 use Rattle.report.specs.Printing.{SlopedFront, Cut, Gathered, Analyzed}
 use Rattle.report.proofs.CutRows.{five_long}
 
-module _ (cs ps fs : List ℤ) (e : sheet_refusal cs ps fs ≡ Ok tt) where
-  pub sheet_scene : GroupingScene cs ps fs true
-  sheet_scene = grouping_accept cs ps fs true e
+module _ (rules : ℕ) (cs ps fs : List ℤ) (e : sheet_refusal rules cs ps fs ≡ Ok tt) where
+  pub sheet_scene : GroupingScene rules cs ps fs true
+  sheet_scene = grouping_accept rules cs ps fs true e
 
   pub kept_scene : Scene cs (kept_list cs ps)
   kept_scene = record {

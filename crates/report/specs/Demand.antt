@@ -8,14 +8,15 @@ use Rattle.lists.specs.Records.{natural_at, component, component_count}
 use Rattle.lists.specs.First.{tabulate}
 use Rattle.lines.specs.Text.{ascii}
 use Rattle.lines.specs.Line.{Taken, taken, refused, read_line, natural}
-use Rattle.sheet.specs.Sheet.{Fields, got, stop, read_fields}
+use Rattle.forms.specs.Form.{Fields, got, stop, read_records}
+use Rattle.forms.specs.Tables.{keyed}
 use Rattle.blocks.specs.Lines.{component_keys, connection_keys}
 use Rattle.scene.specs.Kept.{without_slopes}
 use Rattle.liveness.specs.Demand.{RegionsOfScene}
 
 -- the numbers of so many rows, each with these keys
 abbrev pub rows_of : List (List ℕ) → Taken ℕ → Fields
-rows_of keys (taken n s) = read_fields keys (n * length keys) 0 s
+rows_of keys (taken n s) = read_records (keyed keys) n 0 s
 rows_of keys refused = stop 0
 
 -- a block at the front of a text: a line for its count, and a line for each number of its rows

@@ -1,7 +1,7 @@
 -- The sheet entry `report` (document 01, "The sheet and the program"): what it answers, and what it leaves in the work lists and in the
 -- buffer. "Then come 2 for the work lists, the list checks, and last 2 for a buffer shorter than this report. A sheet refused by a list check
 -- or by that last 2 leaves its work lists all zero."
---     fits, lists_checked, report_checked     the stages: the last 2; 3 to 6 before it; 9, 1 and the first 2 before these
+--     fits, lists_checked, report_checked     the stages: the last 2; 3 to 6 before it; 9, 1, 11, 12 and the first 2 before these
 --     Reported                              from a parsed text to the answer and every slice
 -- Assumes nothing: these are definitions.
 use Rattle.lists.specs.declared.Fault.{Fault}
@@ -11,8 +11,8 @@ use Rattle.lists.specs.declared.Refusal.{Refusal}
 use Rattle.std.specs.Prelude.{ℕ, ◌≡◌, List, [], ◌∷◌, leb, length, replicate, ℤ, pos}
 use Rattle.checks.specs.Refusals.{refuse, too_short, sheet_refusal, ◌or_else◌, refusal_numbers, numbers_by}
 use Rattle.lists.specs.Slices.{left_of}
-use Rattle.sheet.specs.Sheet.{Parsed}
-use Rattle.sheet.specs.Entry.{components_of, connections_of, frontiers_of, sheet_checked}
+use Rattle.forms.specs.Sheet.{Parsed}
+use Rattle.sheet.specs.Entry.{rules_of, components_of, connections_of, frontiers_of, sheet_checked}
 use Rattle.report.specs.Report.{kept_list, report_of}
 use Rattle.report.specs.Demand.{RegionsPrinted}
 
@@ -22,13 +22,13 @@ use Rattle.report.specs.Demand.{RegionsPrinted}
 abbrev pub fits : List ℕ → ℕ → Result ⊤ Refusal
 fits text room = refuse Fault.ShortSlice None (too_short (leb (length text) room))
 
-abbrev pub lists_checked : List ℤ → List ℤ → List ℤ → ℕ → Result ⊤ Refusal
-lists_checked cs ps fs room = sheet_refusal cs ps fs or_else fits (report_of cs ps fs) room
+abbrev pub lists_checked : ℕ → List ℤ → List ℤ → List ℤ → ℕ → Result ⊤ Refusal
+lists_checked rules cs ps fs room = sheet_refusal rules cs ps fs or_else fits (report_of cs ps fs) room
 
 -- given how many numbers each work list has, and how many bytes the buffer
 abbrev pub report_checked : Parsed → ℕ → ℕ → ℕ → ℕ → Result ⊤ Refusal
 report_checked p components connections frontiers room =
-    sheet_checked p components connections frontiers or_else lists_checked (components_of p) (connections_of p) (frontiers_of p) room
+    sheet_checked p components connections frontiers or_else lists_checked (rules_of p) (components_of p) (connections_of p) (frontiers_of p) room
 
 -- ---- by what they say
 

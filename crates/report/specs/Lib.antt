@@ -2,4 +2,5 @@
 pub mod Report
 pub mod Demand
 pub mod Entry
+pub mod Same
 pub mod Printing

@@ -92,9 +92,10 @@ whole_text cs kept fs components connections regions sources inputs =
 
 -- ---- scenes
 
--- the lists of an accepted sheet, and the table of ids
+-- the rules and the lists of an accepted sheet, and the table of ids
 pub record Accepts (cs ps fs : List ℤ) (keys : List ℕ) : Type 0 where
-  pub accepted : sheet_refusal cs ps fs ≡ Ok tt
+  pub rules : ℕ
+  pub accepted : sheet_refusal rules cs ps fs ≡ Ok tt
   pub table : IdTable cs keys
 
 -- its groups, and its kept connections with their slopes

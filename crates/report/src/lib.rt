@@ -7,12 +7,14 @@ pub mod fill;
 mod print;
 pub mod rows;
 
-ghost use Rattle.sheet.specs.Sheet.{parse};
+ghost use Rattle.lists.specs.Rules.{rules_limit};
+ghost use Rattle.forms.specs.Sheet.{parse};
 ghost use Rattle.report.specs.Entry.{Reported};
 
+use forms::Counts;
 use lists::{COMPONENT, CONNECTION, FRONTIER, Refusal};
 use print::print_lists;
-use sheet::{Counts, read_sheet};
+use sheet::read_sheet;
 
 // The report of a sheet, given the most records of each list, work lists for them, and the buffer.
 pub fn report(
@@ -23,11 +25,13 @@ pub fn report(
     frontiers: &mut [i64],
     out: &mut [u8],
 ) -> Result<usize, Refusal>
-    ensures { Reported (parse limits.components limits.connections limits.frontiers text.now)
+    ensures { Reported (parse rules_limit limits.components limits.connections limits.frontiers text.now)
         components.old components.new connections.old connections.new frontiers.old frontiers.new out.old out.new result }
 {
-    let counts = read_sheet(text, limits, components, connections, frontiers)?;
+    let sheet = read_sheet(text, limits, components, connections, frontiers)?;
+    let counts = sheet.counts;
     let printed = print_lists(
+        sheet.rules,
         &components[..counts.components * COMPONENT],
         &connections[..counts.connections * CONNECTION],
         &frontiers[..counts.frontiers * FRONTIER],

@@ -252,16 +252,17 @@ fn print_scene(
 
 // Checks the three lists of a sheet and prints their report, where it fits.
 pub(crate) fn print_lists(
+    rules: u64,
     components: &[i64],
     connections: &[i64],
     frontiers: &[i64],
     out: &mut [u8],
 ) -> Result<usize, Refusal>
-    ensures { PrintedBy (lists_checked components.now connections.now frontiers.now (length out.old))
+    ensures { PrintedBy (lists_checked rules components.now connections.now frontiers.now (length out.old))
         (report_of components.now connections.now frontiers.now) out.old out.new result }
 {
     let mut keys = [0u64; COMPONENTS];
     let count = components.len() / COMPONENT;
-    grouping_lists(components, connections, frontiers, true, &mut keys)?;
+    grouping_lists(rules, components, connections, frontiers, true, &mut keys)?;
     print_scene(&keys[..count], components, connections, frontiers, out)
 }

@@ -1,6 +1,2 @@
--- What the contracts cite. To be read in this order.
-pub mod Keys
-pub mod Sheet
-pub mod Writing
+-- What the contracts cite.
 pub mod Entry
-pub mod Places

@@ -12,13 +12,15 @@ use Rattle.lists.specs.First.{first_from, all_from, tabulate}
 use Rattle.lists.specs.Ranges.{record_in_range, first_out_of_range}
 use Rattle.lists.specs.Order.{record_before, first_not_ascending}
 use Rattle.lists.specs.Ids.{place_below, first_repeated, smaller_ids}
-use Rattle.checks.specs.Refusals.{not_whole, grouping_lists, sheet_refusal, ◌or_else◌}
+use Rattle.checks.specs.Refusals.{not_whole, scene_lists, grouping_lists, sheet_refusal, ◌or_else◌}
 use Rattle.lists.specs.Slices.{laid, left_of}
 use Rattle.lines.specs.Decimal.{digits_then}
 use Rattle.lines.specs.Line.{read_digits, read_end, read_magnitude, read_number, has_key, read_line}
-use Rattle.sheet.specs.Sheet.{Parsed, Lists, read_fields, read_list, parse}
+use Rattle.forms.specs.declared.Style.TheVariants.{Old, Short}
+use Rattle.forms.specs.Numbers.{digits_until, zero_until, magnitude_until, number_until}
+use Rattle.forms.specs.Form.{times, has_prefix, read_field, read_fields, lines_of}
+use Rattle.forms.specs.Sheet.{Parsed, Sheet, read_head, read_list, parse_lists, parse}
 use Rattle.sheet.specs.Entry.{components_of, connections_of, frontiers_of}
-use Rattle.sheet.specs.Writing.{field_lines}
 use Rattle.circuit.specs.Forest as forest
 use Rattle.circuit.specs.Groups.{roots_below, groups_of}
 use Rattle.circuit.specs.Topology.{net_kinds, fragment_kinds, joins, joins_of, nets_of, fragments_of}
@@ -34,16 +36,20 @@ use Rattle.signals.specs.Regions.{is_cyclic, holds_drive, fed_from_outside, neig
 use Rattle.signals.specs.Drive.{members_where, drive, potential}
 use Rattle.assessment.specs.Verdicts.{fed_by, status_of, port_rows, verdict_rows, sources_at, source_rows_below}
 use Rattle.inputs.specs.Query.{is_immediate, upstream, is_inferred_for}
-use Rattle.blocks.specs.Lines.{spaced}
+use Rattle.blocks.specs.Lines.{field_lines, spaced}
 use Rattle.report.specs.Report.{all_rows, member_id, ids_below, port_lines, verdict_lines, report_of}
 use Rattle.report.specs.Entry.{fits, answer_by, report_checked, Reported}
-use Rattle.worked.specs.Example.{sheet_text, lever_and_repeater, from_lever, and_support, report_text, program_parse, Example}
+use Rattle.worked.specs.Example.{sheet_text, short_text, lever_and_repeater, from_lever, and_support, report_text, program_parse, Example}
 use Rattle.worked.proofs.Forests.{single_places_lem}
 use Rattle.worked.proofs.Dropped.{dropped_uncounted}
 
-example_reads : program_parse sheet_text ≡ Lists lever_and_repeater from_lever []
-unfolding parse read_list read_fields read_line has_key read_number read_magnitude read_digits read_end
+example_reads : program_parse sheet_text ≡ Sheet Old 1 lever_and_repeater from_lever []
+unfolding parse read_head parse_lists read_list times lines_of has_prefix read_field read_fields read_line has_key read_number read_magnitude read_digits read_end digits_until zero_until magnitude_until number_until
 example_reads = refl
+
+short_reads : program_parse short_text ≡ Sheet Short 1 lever_and_repeater from_lever []
+unfolding parse read_head parse_lists read_list times lines_of has_prefix read_field read_fields read_line has_key read_number read_magnitude read_digits read_end digits_until zero_until magnitude_until number_until
+short_reads = refl
 
 -- the forests apart, since a report reads its groups' numbers at each component
 example_nets : nets_of lever_and_repeater from_lever ≡ 0 ∷ 1 ∷ []
@@ -62,15 +68,18 @@ example_prints = simp (example_nets, example_fragments)
 example_drops : report_of lever_and_repeater and_support [] ≡ report_text
 example_drops = dropped_uncounted ∙ example_prints
 
-lists_accepted : sheet_refusal lever_and_repeater from_lever [] ≡ Ok tt
-unfolding first_from all_from record_in_range first_out_of_range record_before first_not_ascending place_below first_repeated not_whole grouping_lists
+lists_accepted : sheet_refusal 1 lever_and_repeater from_lever [] ≡ Ok tt
+unfolding first_from all_from record_in_range first_out_of_range record_before first_not_ascending place_below first_repeated not_whole scene_lists grouping_lists
 lists_accepted = refl
 
-example_accepts : report_checked (Lists lever_and_repeater from_lever []) 2048 3072 768 65536 ≡ Ok tt
+example_accepts : report_checked (Sheet Old 1 lever_and_repeater from_lever []) 2048 3072 768 65536 ≡ Ok tt
 example_accepts = ap₂ (λ (lists : Result ⊤ Refusal) (text : List ℕ). lists or_else fits text 65536) lists_accepted example_prints
 
+short_accepts : report_checked (Sheet Short 1 lever_and_repeater from_lever []) 2048 3072 768 65536 ≡ Ok tt
+short_accepts = ap₂ (λ (lists : Result ⊤ Refusal) (text : List ℕ). lists or_else fits text 65536) lists_accepted example_prints
+
 pub example : Example
-example = record { reads = example_reads; accepts = example_accepts; prints = example_prints; drops = example_drops }
+example = record { reads = example_reads; short_reads = short_reads; accepts = example_accepts; short_accepts = short_accepts; prints = example_prints; drops = example_drops }
 
 -- lent what the program lends, the sheet entry writes exactly these bytes, at the front of the buffer
 pub example_printed : (components components' connections connections' frontiers frontiers' : List ℤ) (out out' : List ℕ) (r : Result ℕ Refusal)

@@ -11,7 +11,6 @@ use Rattle.lists.specs.Order.{record_before, first_not_ascending}
 use Rattle.lists.specs.Ids.{place_below, first_repeated, first_end_missing, smaller_ids}
 use Rattle.checks.specs.Refusals.{not_whole, grouping_lists, liveness_lists}
 use Rattle.lines.specs.Decimal.{digits_then}
-use Rattle.sheet.specs.Writing.{field_lines}
 use Rattle.circuit.specs.Forest as forest
 use Rattle.circuit.specs.Groups.{roots_below, groups_of}
 use Rattle.circuit.specs.Topology.{net_kinds, joins, joins_of, nets_of, net_count}
@@ -26,6 +25,7 @@ use Rattle.signals.specs.Sources.{source_kind, first_at, is_on_frontier}
 use Rattle.signals.specs.Regions.{is_cyclic, holds_drive, fed_from_outside, neighbours, is_inferred}
 use Rattle.signals.specs.Drive.{members_where, drive, potential}
 use Rattle.assessment.specs.Verdicts.{fed_by, status_of, port_rows, verdict_rows, sources_at, source_rows_below}
+use Rattle.blocks.specs.Lines.{field_lines}
 use Rattle.report.specs.Report.{all_rows, verdict_lines, report_of}
 use Rattle.worked.specs.Plots.{dust, Answers, grouping_checks, ids_of, three, expected, Worked, w1, w2, w3, w4, w5, w6, w7, w8, w9, w10, w11, w12}
 use Rattle.worked.proofs.Forests.{single_places_lem}

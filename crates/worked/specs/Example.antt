@@ -1,19 +1,27 @@
 -- The worked sheet of document 01 ("The sheet and the program"): "Lever 1 at 0,0,0 and Repeater 2 at 1,0,0 facing 2, other fields 0, one
 -- connection 1 to 2 kind 5, no frontier", and the report that it gives, both as bytes.
---     sheet_text, report_text     the bytes of the sheet and of the report
---     Example                   the sheet is read as these lists, no check refuses it, and its report is those bytes, also with a connection
---                               more that is dropped
+--     sheet_text, short_text      the bytes of the sheet, in either form
+--     report_text                 the bytes of the report
+--     Example                   both sheets are read as these lists and rules 1, no check refuses them, and their report is those bytes, also
+--                               with a connection more that is dropped
 -- Assumes nothing: these are definitions.
 use Rattle.std.specs.Prelude.{Ok}
 use Rattle.std.specs.Prelude.{ℕ, ◌≡◌, List, [], ◌∷◌, ℤ, pos}
 use Rattle.lines.specs.Text.{ascii}
-use Rattle.sheet.specs.Sheet.{Parsed, Lists, parse}
+use Rattle.lists.specs.Rules.{rules_limit}
+use Rattle.forms.specs.declared.Style.TheVariants.{Old, Short}
+use Rattle.forms.specs.Sheet.{Parsed, Sheet, parse}
 use Rattle.report.specs.Report.{report_of}
 use Rattle.report.specs.Entry.{report_checked}
 
 abbrev pub sheet_text : List ℕ
 sheet_text =
     ascii "components=2\nid=1\nx=0\ny=0\nz=0\nkind=4\nfacing=0\nsupport=0\nconducts=0\nid=2\nx=1\ny=0\nz=0\nkind=1\nfacing=2\nsupport=0\nconducts=0\nconnections=1\nsource=1\nsink=2\nkind=5\nfrontiers=0\n"
+
+-- the same sheet in the short form
+abbrev pub short_text : List ℕ
+short_text =
+    ascii "sheet=2\nrules=1\ncomponents=2\nc=1,0,0,0,4,0,0,0\nc=2,1,0,0,1,2,0,0\nconnections=1\nn=1,2,5\nfrontiers=0\n"
 
 abbrev pub lever_and_repeater : List ℤ
 lever_and_repeater =
@@ -33,11 +41,13 @@ report_text =
 
 -- by the program's limits: 256 components, 1,024 connections, 256 frontiers
 abbrev pub program_parse : List ℕ → Parsed
-program_parse text = parse 256 1024 256 text
+program_parse text = parse rules_limit 256 1024 256 text
 
 -- the program lends work lists for as many, of eight, three and three numbers each, and 65,536 bytes
 pub record Example : Type 0 where
-  pub reads : program_parse sheet_text ≡ Lists lever_and_repeater from_lever []
-  pub accepts : report_checked (Lists lever_and_repeater from_lever []) 2048 3072 768 65536 ≡ Ok tt
+  pub reads : program_parse sheet_text ≡ Sheet Old 1 lever_and_repeater from_lever []
+  pub short_reads : program_parse short_text ≡ Sheet Short 1 lever_and_repeater from_lever []
+  pub accepts : report_checked (Sheet Old 1 lever_and_repeater from_lever []) 2048 3072 768 65536 ≡ Ok tt
+  pub short_accepts : report_checked (Sheet Short 1 lever_and_repeater from_lever []) 2048 3072 768 65536 ≡ Ok tt
   pub prints : report_of lever_and_repeater from_lever [] ≡ report_text
   pub drops : report_of lever_and_repeater and_support [] ≡ report_text

@@ -1,16 +1,17 @@
 -- `report::report` meets its contract: the lists that were read are the fronts of the work lists, and these are cleared
 -- once they are printed.
 -- Assumes nothing.
-use Rattle.report.proofs.ReadLists.{fronts, accepted, reported}
+use Rattle.report.proofs.ReadLists.{fronts, accepted, ruled, reported}
 use Rattle.report.proofs.report.Goals as goal
 
 pub returns : goal.returns
 returns c =
     let n = c.args.limits in
-    let was = c.in_ok-counts.was in
+    let was = c.in_ok-sheet.was in
     let read = fronts n.components n.connections n.frontiers c.args.text.now c.read_sheet.ensures was in
     reported _
     (accepted n.components n.connections n.frontiers c.args.text.now c.read_sheet.ensures was)
+    (ruled n.components n.connections n.frontiers c.args.text.now c.read_sheet.ensures was)
     read.of_components.is
     read.of_connections.is
     read.of_frontiers.is

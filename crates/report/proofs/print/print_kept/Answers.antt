@@ -19,7 +19,7 @@ use Rattle.report.proofs.print.print_kept.Goals as goal
 
 scene_of : {cs ps kept fs : List ℤ} {keys nets fragments slopes : List ℕ}
     → Accepts cs ps fs keys → Gathered cs ps kept nets fragments slopes → Scene cs kept
-scene_of {cs} {ps} {fs = fs} a g = subst (Scene cs) (sym g.kept_are) (kept_scene cs ps fs a.accepted)
+scene_of {cs} {ps} {fs = fs} a g = subst (Scene cs) (sym g.kept_are) (kept_scene a.rules cs ps fs a.accepted)
 
 pub invariant_of-linked : goal.invariant_of-linked
 invariant_of-linked c = record { within = (scene_of c.requires.1.0 c.requires.1.1).connections }

@@ -15,17 +15,17 @@ use Rattle.checks.specs.Refusals.{sheet_refusal}
 use Rattle.checks.proofs.Accepted.{GroupingScene, grouping_accept}
 use Rattle.report.proofs.print.print_lists.Goals as goal
 
-few : (cs ps fs : List ℤ) (keys : List ℕ) → sheet_refusal cs ps fs ≡ Ok tt → length keys ≡ component_limit
+few : (rules : ℕ) (cs ps fs : List ℤ) (keys : List ℕ) → sheet_refusal rules cs ps fs ≡ Ok tt → length keys ≡ component_limit
     → component_count cs ≤ length keys
-few cs ps fs keys accepted long =
-    let scene : GroupingScene cs ps fs true = grouping_accept cs ps fs true accepted in
+few rules cs ps fs keys accepted long =
+    let scene : GroupingScene rules cs ps fs true = grouping_accept rules cs ps fs true accepted in
     omega (arith, scene.components.few, long)
 
 pub slice_bounds-keys-end : goal.slice_bounds-keys-end
 slice_bounds-keys-end c =
     let a = c.args in
     let checks = c.grouping_lists in
-    few a.components.now a.connections.now a.frontiers.now checks.new.keys (sym checks.ensures.answer ∙ c.in_ok-grouping_lists.was) checks.auto.keys
+    few a.rules a.components.now a.connections.now a.frontiers.now checks.new.keys (sym checks.ensures.answer ∙ c.in_ok-grouping_lists.was) checks.auto.keys
 
 pub slice_bounds-print_scene-end : goal.slice_bounds-print_scene-end
 slice_bounds-print_scene-end c =
@@ -33,4 +33,4 @@ slice_bounds-print_scene-end c =
     let checks = c.grouping_lists in
     let accepted = sym checks.ensures.answer ∙ c.in_ok-grouping_lists.was in
     sym (length-take-le _ checks.new.keys
-    (few a.components.now a.connections.now a.frontiers.now checks.new.keys accepted checks.auto.keys))
+    (few a.rules a.components.now a.connections.now a.frontiers.now checks.new.keys accepted checks.auto.keys))

@@ -23,18 +23,18 @@ use Rattle.report.proofs.Scenes.{sheet_scene, sloped_front, kept_cut}
 use Rattle.report.proofs.print.print_scene.Goals as goal
 
 pub invariant_of-listed : goal.invariant_of-listed
-invariant_of-listed c = record { within = (sheet_scene _ _ _ c.requires.accepted).components }
+invariant_of-listed c = record { within = (sheet_scene _ _ _ _ c.requires.accepted).components }
 
 pub invariant_of-connected : goal.invariant_of-connected
-invariant_of-connected c = record { within = (sheet_scene _ _ _ c.requires.accepted).connections }
+invariant_of-connected c = record { within = (sheet_scene _ _ _ _ c.requires.accepted).connections }
 
 -- no id is repeated, and so the table settles each id's list place
 settled : {cs ps fs : List ℤ} {keys : List ℕ} → Accepts cs ps fs keys → PlacesOfIds cs keys
-settled a = settled_places a.table (sheet_scene _ _ _ a.accepted).scene.once
+settled a = settled_places a.table (sheet_scene _ _ _ _ a.accepted).scene.once
 
 pub group-requires : goal.group-requires
 group-requires c =
-    let scene = sheet_scene _ _ _ c.requires.accepted in
+    let scene = sheet_scene _ _ _ _ c.requires.accepted in
     let n = table_long c.requires.table in
     let few = scene.components.few in
     record {
@@ -44,7 +44,7 @@ group-requires c =
 
 pub keep_all-count-requires : goal.keep_all-count-requires
 keep_all-count-requires c =
-    let scene = sheet_scene _ _ _ c.requires.accepted in
+    let scene = sheet_scene _ _ _ _ c.requires.accepted in
     record {
       id_table = c.requires.table;
       kept_width_in_bounds = omega (arith, scene.connections.few);
@@ -54,10 +54,10 @@ keep_all-count-requires c =
 abbrev places : ℕ → ℕ
 places n = length (take n (replicate {A = ℕ} connection_limit 0))
 
-module _ (cs ps fs : List ℤ) {out out' : List ℤ} {n : ℕ} (accepted : sheet_refusal cs ps fs ≡ Ok tt) (k : AllKept cs ps out out' n) where
+module _ (rules : ℕ) (cs ps fs : List ℤ) {out out' : List ℤ} {n : ℕ} (accepted : sheet_refusal rules cs ps fs ≡ Ok tt) (k : AllKept cs ps out out' n) where
   -- no more are kept than there are connections
   inside : n ≤ connection_limit
-  inside = omega (arith, k.count, kept_few cs ps, (sheet_scene cs ps fs accepted).connections.few)
+  inside = omega (arith, k.count, kept_few cs ps, (sheet_scene rules cs ps fs accepted).connections.few)
 
   places_are : places n ≡ n
   places_are = length-take-le n (replicate connection_limit 0) (omega (arith, inside, length-replicate {A = ℕ} connection_limit 0))
@@ -81,39 +81,39 @@ module _ (cs ps fs : List ℤ) {out out' : List ℤ} {n : ℕ} (accepted : sheet
       }
 
 pub slice_bounds-all_slopes-end : goal.slice_bounds-all_slopes-end
-slice_bounds-all_slopes-end c = inside _ _ _ c.requires.accepted c.keep_all-count.ensures
+slice_bounds-all_slopes-end c = inside _ _ _ _ c.requires.accepted c.keep_all-count.ensures
 
 pub slice_bounds-slopes-end : goal.slice_bounds-slopes-end
-slice_bounds-slopes-end c = sym (places_are _ _ _ c.requires.accepted c.keep_all-count.ensures)
+slice_bounds-slopes-end c = sym (places_are _ _ _ _ c.requires.accepted c.keep_all-count.ensures)
 
 pub cut_slopes-requires-clause-front : goal.cut_slopes-requires-clause-front
 cut_slopes-requires-clause-front c =
-    (sloped_rows c.args.scene.now c.args.connections.now, front _ _ _ c.requires.accepted c.keep_all-count.ensures)
+    (sloped_rows c.args.scene.now c.args.connections.now, front _ _ _ _ c.requires.accepted c.keep_all-count.ensures)
 
 pub cut_slopes-requires-clause-rows_in_bounds : goal.cut_slopes-requires-clause-rows_in_bounds
 cut_slopes-requires-clause-rows_in_bounds c =
-    let few = inside _ _ _ c.requires.accepted c.keep_all-count.ensures in
-    subst (λ (m : ℕ). m * 6 ≤ length c.keep_all-count.new.out) (sym (places_are _ _ _ c.requires.accepted c.keep_all-count.ensures))
+    let few = inside _ _ _ _ c.requires.accepted c.keep_all-count.ensures in
+    subst (λ (m : ℕ). m * 6 ≤ length c.keep_all-count.new.out) (sym (places_are _ _ _ _ c.requires.accepted c.keep_all-count.ensures))
     (omega (arith, few, c.keep_all-count.auto.out))
 
 pub overflow_mul-ports : goal.overflow_mul-ports
-overflow_mul-ports c = omega (arith, inside _ _ _ c.requires.accepted c.keep_all-count.ensures)
+overflow_mul-ports c = omega (arith, inside _ _ _ _ c.requires.accepted c.keep_all-count.ensures)
 
 pub slice_bounds-ports-end : goal.slice_bounds-ports-end
 slice_bounds-ports-end c =
-    omega (arith, inside _ _ _ c.requires.accepted c.keep_all-count.ensures, c.cut_slopes.auto.rows, c.keep_all-count.auto.out)
+    omega (arith, inside _ _ _ _ c.requires.accepted c.keep_all-count.ensures, c.cut_slopes.auto.rows, c.keep_all-count.auto.out)
 
 pub slice_bounds-print_kept-end : goal.slice_bounds-print_kept-end
 slice_bounds-print_kept-end c =
-    let few = inside _ _ _ c.requires.accepted c.keep_all-count.ensures in
+    let few = inside _ _ _ _ c.requires.accepted c.keep_all-count.ensures in
     sym (length-take-le _ c.cut_slopes.new.rows (omega (arith, few, c.cut_slopes.auto.rows, c.keep_all-count.auto.out)))
 
 pub print_kept-requires : goal.print_kept-requires
 print_kept-requires c =
     let g = c.group.ensures c.args.scene.now (settled c.requires) in
-    (c.args.connections.now, (c.requires, gathered _ _ _ c.requires.accepted c.keep_all-count.ensures c.cut_slopes.new.rows c.cut_slopes.ensures g))
+    (c.args.connections.now, (c.requires, gathered _ _ _ _ c.requires.accepted c.keep_all-count.ensures c.cut_slopes.new.rows c.cut_slopes.ensures g))
 
 pub returns : goal.returns
 returns c =
     let g = c.group.ensures c.args.scene.now (settled c.requires) in
-    c.print_kept.ensures c.args.connections.now c.requires (gathered _ _ _ c.requires.accepted c.keep_all-count.ensures c.cut_slopes.new.rows c.cut_slopes.ensures g)
+    c.print_kept.ensures c.args.connections.now c.requires (gathered _ _ _ _ c.requires.accepted c.keep_all-count.ensures c.cut_slopes.new.rows c.cut_slopes.ensures g)
