@@ -38,9 +38,9 @@ refused_as (Err y) count x e =
     record { small = λ s. rw item s; packs = λ count. rw (fault, list, item) }
 
 -- what is left where the checks accept are the kept rows, without their slopes too
-module _ (cs ps ports : List ℤ) {ports' : List ℤ} {r : ℕ} (answer : r ≡ ports_number (ports_refusal cs ps (length ports)) (kept_count cs ps))
-    (left : ports' ≡ left_of (ports_refusal cs ps (length ports)) (map pos (sloped_rows cs ps)) ports) where
-  cut_left : ports_refusal cs ps (length ports) ≡ Ok tt → without_slopes (take (r / 65536 * kept_width) ports') ≡ map pos (kept_rows cs ps)
+module _ (rules : ℕ) (cs ps ports : List ℤ) {ports' : List ℤ} {r : ℕ} (answer : r ≡ ports_number (ports_refusal rules cs ps (length ports)) (kept_count cs ps))
+    (left : ports' ≡ left_of (ports_refusal rules cs ps (length ports)) (map pos (sloped_rows cs ps)) ports) where
+  cut_left : ports_refusal rules cs ps (length ports) ≡ Ok tt → without_slopes (take (r / 65536 * kept_width) ports') ≡ map pos (kept_rows cs ps)
   cut_left e =
       let rows = map pos (sloped_rows cs ps) in
       let count : r ≡ 65536 * kept_count cs ps = rw e at answer in
@@ -51,5 +51,5 @@ module _ (cs ps ports : List ℤ) {ports' : List ℤ} {r : ℕ} (answer : r ≡ 
       ∙ cut_map pos (sloped_rows cs ps)
       ∙ ap (map pos) (cut_sloped cs ps)
 
-  pub by_lists : PortsByLists cs ps ports ports' r
+  pub by_lists : PortsByLists rules cs ps ports ports' r
   by_lists = record { answer = answer; left = left; cut = cut_left }

@@ -1,4 +1,5 @@
 -- From the liveness entry on lists of numbers to the entry by bytes.
+--     short_refused                    without room for the sets a scene is refused
 --     regions_there, ..-front          the rows of such a scene stand at the front of their slices
 --     set_words                        the words of a set, by its members
 --     regions_most, few_regions        and there are no more regions than components
@@ -12,7 +13,7 @@ use Rattle.lists.specs.declared.Section.{Section}
 use Rattle.std.specs.Prelude.{Some, None}
 use Rattle.std.specs.Prelude.{⊤, Result, Ok, Err}
 use mathlib.Core.Path.{◌≡◌, refl, sym, ap, ◌∙◌}
-use mathlib.Core.Bool.{Bool}
+use mathlib.Core.Bool.{Bool, false}
 use mathlib.Core.List.{List, ◌++◌}
 use Prim.Native.Nat.{ℕ, ◌+◌, ◌*◌, ◌/◌, ◌^◌, ◌≤◌, ◌<◌}
 use native.Mathlib.Omega.{arith}
@@ -20,6 +21,7 @@ use lib.Dec.{lit≤}
 use lib.ListN.{length, get_or, take, drop, length-append}
 use lib.IntN.{ℤ}
 use Rattle.sets.specs.Members.{word_count, words_of_set}
+use Rattle.sets.proofs.Words.{true_not_false}
 use Rattle.sets.proofs.Unique.{set_unique}
 use Rattle.lists.specs.Limits.{component_limit, connection_limit, frontier_limit, component_width, port_width, frontier_width}
 use Rattle.lists.specs.Records.{component_count}
@@ -45,6 +47,17 @@ use Rattle.encoding.specs.Bytes.{number_bytes, numbers, bytes_of}
 use Rattle.capi.specs.Liveness.{liveness_whole, liveness_bytes_refusal, sets_of, LivenessLaid, LivenessWritten}
 use Rattle.capi.specs.Written.{Written, LivenessByPlaces}
 use Rattle.encoding.proofs.Laid.{laid_front}
+
+-- ---- room
+
+-- a scene whose lent slices are too short is refused
+pub short_refused : (rules : ℕ) (cs ps fs : List ℤ) → (refusal : Refusal) × (liveness_lists rules cs ps fs false ≡ Err refusal)
+short_refused rules cs ps fs = go (liveness_lists rules cs ps fs false) refl
+  where
+    go : (checked : Result ⊤ Refusal) → liveness_lists rules cs ps fs false ≡ checked
+        → (refusal : Refusal) × (liveness_lists rules cs ps fs false ≡ Err refusal)
+    go (Ok tt) e = absurd (true_not_false (sym (liveness_accept rules cs ps fs false e).scene.lengths.room))
+    go (Err refusal) e = (refusal, e)
 
 -- ---- an accepted scene
 

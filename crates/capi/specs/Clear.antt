@@ -25,4 +25,4 @@ pub record ClearByLists (rules : ℕ) (cs ps fs kept kept' : List ℤ) (dropped 
   pub dropped_left : dropped' ≡ left_of (clear_refusal rules cs ps fs (length kept) (length dropped)) (dropped_rows cs ps) dropped
   -- what is promised, of the port connections left at the front and the count answered
   pub promise : clear_refusal rules cs ps fs (length kept) (length dropped) ≡ Ok tt
-      → ClearedScene cs (take (r / 65536 % 65536 * port_width) kept') fs
+      → ClearedScene rules cs (take (r / 65536 % 65536 * port_width) kept') fs
