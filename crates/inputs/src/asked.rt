@@ -54,7 +54,8 @@ pub fn make_ready(
     requires fed_len { length fed.old ≡ port_count plot.now.ports.now }
     requires labels_len { let n = component_count plot.now.components.now in (length labels.old ≡ n) × (2 * n ≤ length stack.old) }
     requires upstream { RowsEmpty upstream.old }
-    ensures { let p = plot.now in Ready p.rules p.components.now p.ports.now p.frontiers.now fed.new labels.new upstream.new × Zeros stack.new }
+    ensures { let p = plot.now in
+        Ready p.rules p.components.now p.ports.now p.frontiers.now fed.new labels.new upstream.new × Zeros stack.new }
 {
     let n = plot.keys.len();
     let m = plot.port_list().count();
