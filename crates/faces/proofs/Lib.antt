@@ -4,6 +4,7 @@ pub mod Table
 pub mod Computed
 pub mod Blocks
 pub mod Runs
+pub mod Unread
 pub mod Steps
 pub mod Places
 pub mod Transfers
