@@ -1,5 +1,7 @@
 -- What a connection's ports say of its ends.
 --     between_none, between_some        the ports of a connection by the face of its step
+--     chosen, picked                    each of the two was selected, so it is a port of its component, at that face, and fits
+--     no_support                        and the kind is not Support
 --     Linked, linked                    both ends are components, their ports are below seven, and the kind is not Support
 -- Assumes nothing.
 use Rattle.std.specs.Prelude.{Option, Some, None}
@@ -47,7 +49,7 @@ both_chosen false (Some a) (Some b) i j e =
     let p : ◌≡◌ {A = ℕ × ℕ} (a, b) (i, j) = cc in
     (ap (λ (q : ℕ × ℕ). Some q.0) p, ap (λ (q : ℕ × ℕ). Some q.1) p)
 
-chosen : (rules : ℕ) (source sink : Component) (kind i j : ℕ) → ports_between rules source sink kind ≡ Some (i, j) → Chosen rules source sink kind i j
+pub chosen : (rules : ℕ) (source sink : Component) (kind i j : ℕ) → ports_between rules source sink kind ≡ Some (i, j) → Chosen rules source sink kind i j
 unfolding ports_between
 chosen rules source sink kind i j e =
     let r = both_chosen (eqb (step_face source sink) NoFace) (select_port (ports_of rules source) (step_face source sink) true kind)
@@ -66,7 +68,7 @@ first_fitting : (ports : List Port) (face : ℕ) (outgoing : Bool) (kind i : ℕ
 unfolding select_port
 first_fitting ports face outgoing kind i e = found_at (λ k. serves (port_at ports k) face outgoing kind) 0 (length ports) i e
 
-picked : (rules : ℕ) (c : Component) (face : ℕ) (outgoing : Bool) (kind i : ℕ) → select_port (ports_of rules c) face outgoing kind ≡ Some i → Picked rules c face outgoing kind i
+pub picked : (rules : ℕ) (c : Component) (face : ℕ) (outgoing : Bool) (kind i : ℕ) → select_port (ports_of rules c) face outgoing kind ≡ Some i → Picked rules c face outgoing kind i
 unfolding serves
 picked rules c face outgoing kind i e =
     let f = first_fitting (ports_of rules c) face outgoing kind i e in
@@ -86,7 +88,7 @@ never_down : (face : ℕ) → face ≡ Down → opposite face ≡ Down → ⊥
 unfolding opposite
 never_down face p q = let e : ◌≡◌ {A = ℕ} 5 6 = rw p at q in omega arith
 
-no_support : (rules : ℕ) (source sink : Component) (kind i j : ℕ) → Chosen rules source sink kind i j → kind ≡ support_kind → ⊥
+pub no_support : (rules : ℕ) (source sink : Component) (kind i j : ℕ) → Chosen rules source sink kind i j → kind ≡ support_kind → ⊥
 no_support rules source sink kind i j h e =
     let out = rw e at h.out in
     let into = rw e at h.into in
