@@ -25,8 +25,8 @@ pub struct Counts {
     pub fragments: usize,
 }
 
-// The number of each component's net and fragment, in list order, at the front of the lent slices. Groups are the same under all rules, whose
-// number is only checked.
+// The number of each component's net and fragment, in list order, at the front of the lent slices. Groups are the same under all
+// rules, whose number is only checked.
 pub fn from_lists(
     rules: u64,
     components: &[i64],
