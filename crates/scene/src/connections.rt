@@ -45,7 +45,8 @@ impl Scene<'_> {
     // The port that component k has for a connection at a face.
     fn port_at(&self, k: usize, face: Face, outgoing: bool, kind: u64) -> Option<usize>
         requires { k < component_count self.now.components.numbers.now }
-        ensures { result ≡ select_port (ports_of self.now.rules (component self.now.components.numbers.now k)) (face_code face) outgoing kind }
+        ensures { let s = self.now in
+            result ≡ select_port (ports_of s.rules (component s.components.numbers.now k)) (face_code face) outgoing kind }
     {
         let list = self.components;
         let ports = ports_for(
@@ -70,7 +71,8 @@ impl Scene<'_> {
     // The link of a connection from component a to component b.
     fn link_between(&self, a: usize, b: usize, kind: u64) -> Option<Link>
         requires { (a < component_count self.now.components.numbers.now) × (b < component_count self.now.components.numbers.now) }
-        ensures ports { let cs = self.now.components.numbers.now in ports_by result ≡ ports_between self.now.rules (component cs a) (component cs b) kind }
+        ensures ports { let cs = self.now.components.numbers.now in
+            ports_by result ≡ ports_between self.now.rules (component cs a) (component cs b) kind }
         ensures slope { let cs = self.now.components.numbers.now in SlopeIs result (step_slope (component cs a) (component cs b)) }
     {
         let step = self.step(a, b);
