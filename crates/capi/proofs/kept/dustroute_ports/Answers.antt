@@ -25,7 +25,7 @@ refusal c = ports_refusal (rules_of c.args.rules) c.args.components.now c.args.c
 
 -- what an answer says of the checks
 when-kept : (c : After-port_connections) (m : ℕ) → c.port_connections.result ≡ Ok m
-    → (refusal c ≡ Ok tt) × (m ≡ kept_count c.args.components.now c.args.connections.now)
+    → (refusal c ≡ Ok tt) × (m ≡ kept_count (rules_of c.args.rules) c.args.components.now c.args.connections.now)
 when-kept c m e = kept_accepted (refusal c) _ m (ap answer_of (sym e) ∙ (rw (to_z-of_z c.ranges.rules) at c.port_connections.ensures).answer)
 
 when-refused : (c : After-port_connections) (x : Refusal) → c.port_connections.result ≡ Err x → RefusedAs (refusal c) x
@@ -37,7 +37,7 @@ few c m e =
     let w = when-kept c m e in
     let cs = c.args.components.now in
     let ps = c.args.connections.now in
-    omega (arith, w.1, kept_few cs ps, (grouping_accept (rules_of c.args.rules) cs ps [] _ w.0).connections.few)
+    omega (arith, w.1, kept_few (rules_of c.args.rules) cs ps, (grouping_accept (rules_of c.args.rules) cs ps [] _ w.0).connections.few)
 
 pub overflow_mul-result : goal.overflow_mul-result
 overflow_mul-result c = omega (arith, few (goal.at.overflow_mul-result c).After-port_connections _ c.in-Ok.is)
