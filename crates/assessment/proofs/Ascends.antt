@@ -1,5 +1,6 @@
 -- The source rows ascend.
---     sources_ascend       by position, id and kind
+--     SmallKind, kind_small      a source kind of a block is 0 or 1
+--     sources_ascend             by position, id and kind
 -- Assumes nothing.
 use Rattle.std.specs.Prelude.{Option, Some, None}
 use mathlib.Core.Path.{◌≡◌, refl, sym, ap, subst, ◌∙◌}
@@ -29,11 +30,11 @@ before_step (x ∷ fields) list a b c e f =
     (record_before fields list a c) (before_step fields list a b c) e f
 
 -- a source kind of a block is 0 or 1
-abbrev SmallKind : Option ℕ → Type 0
+abbrev pub SmallKind : Option ℕ → Type 0
 SmallKind (Some kind) = kind < 2
 SmallKind None = Unit
 
-kind_small : (kind : ℕ) → SmallKind (source_kind kind)
+pub kind_small : (kind : ℕ) → SmallKind (source_kind kind)
 unfolding source_kind
 kind_small zero = tt
 kind_small (suc zero) = tt
@@ -45,7 +46,7 @@ kind_small (suc (suc (suc (suc (suc (suc zero)))))) = omega arith
 kind_small (suc (suc (suc (suc (suc (suc (suc zero))))))) = omega arith
 kind_small (suc (suc (suc (suc (suc (suc (suc (suc kind)))))))) = tt
 
-module _ (cs ps fs : List ℤ) (ascending : first_not_ascending component_order component_width cs ≡ None) where
+module _ (rules : ℕ) (cs ps fs : List ℤ) (ascending : first_not_ascending component_order component_width cs ≡ None) where
   -- rows that may stand behind every row that one of component q and the kind may follow
   Behind : ℕ → ℕ → List ℕ → Type 0
   Behind q kind rows = (last : Option (ℕ × ℕ)) → MayFollow cs last q kind → Rises cs last rows
@@ -75,28 +76,28 @@ module _ (cs ps fs : List ℤ) (ascending : first_not_ascending component_order 
     of_kind (Some kind) small rows rest last f = row q kind h (greater last q (omega arith) f) (rest (Some (q, kind)) (inr (refl, small)))
     of_kind None small rows rest last f = rest last (greater last q (omega arith) f)
 
-    rows_at : (rows : List ℕ) → Behind q 4 rows → Behind q 0 (sources_at cs ps fs q ++ rows)
+    rows_at : (rows : List ℕ) → Behind q 4 rows → Behind q 0 (sources_at rules cs ps fs q ++ rows)
     unfolding sources_at
     rows_at rows rest =
         let id = (component cs q).id in
         let kinds = kind_row id (source_kind (component cs q).kind) in
         let frontier = row_if (is_on_frontier cs fs q) id 2 in
-        let inferred = row_if (is_inferred cs ps fs q) id 3 in
+        let inferred = row_if (is_inferred rules cs ps fs q) id 3 in
         subst (Behind q 0) (sym (append_assoc kinds (frontier ++ inferred) rows ∙ ap (λ (l : List ℕ). kinds ++ l) (append_assoc frontier inferred rows)))
         (of_kind (source_kind (component cs q).kind) (kind_small (component cs q).kind)
-        (frontier ++ (inferred ++ rows)) (optional (is_on_frontier cs fs q) 2 (inferred ++ rows) (optional (is_inferred cs ps fs q) 3 rows rest)))
+        (frontier ++ (inferred ++ rows)) (optional (is_on_frontier cs fs q) 2 (inferred ++ rows) (optional (is_inferred rules cs ps fs q) 3 rows rest)))
 
   -- ---- all rows, from the first on
 
   rows_from : ℕ → ℕ → List ℕ
   rows_from q zero = []
-  rows_from q (suc k) = sources_at cs ps fs q ++ rows_from (suc q) k
+  rows_from q (suc k) = sources_at rules cs ps fs q ++ rows_from (suc q) k
 
-  rows_same : (q k m : ℕ) → q + k ≡ m → source_rows_below cs ps fs q ++ rows_from q k ≡ source_rows_below cs ps fs m
+  rows_same : (q k m : ℕ) → q + k ≡ m → source_rows_below rules cs ps fs q ++ rows_from q k ≡ source_rows_below rules cs ps fs m
   unfolding rows_from source_rows_below
-  rows_same q zero m e = let same : q ≡ m = omega arith in append-nil (source_rows_below cs ps fs q) ∙ ap (source_rows_below cs ps fs) same
+  rows_same q zero m e = let same : q ≡ m = omega arith in append-nil (source_rows_below rules cs ps fs q) ∙ ap (source_rows_below rules cs ps fs) same
   rows_same q (suc k) m e =
-      sym (append_assoc (source_rows_below cs ps fs q) (sources_at cs ps fs q) (rows_from (suc q) k)) ∙ rows_same (suc q) k m (omega arith)
+      sym (append_assoc (source_rows_below rules cs ps fs q) (sources_at rules cs ps fs q) (rows_from (suc q) k)) ∙ rows_same (suc q) k m (omega arith)
 
   from_behind : (q k : ℕ) → q + k ≡ component_count cs → Behind q 0 (rows_from q k)
   unfolding rows_from Behind
@@ -105,9 +106,9 @@ module _ (cs ps fs : List ℤ) (ascending : first_not_ascending component_order 
   from_behind q (suc (suc k)) e last f =
       rows_at q (omega arith) (rows_from (suc q) (suc k)) (λ l g. from_behind (suc q) (suc k) (omega arith) l (onward l q 4 (omega arith) g)) last f
 
-  all_rise : Rises cs None (source_rows cs ps fs)
+  all_rise : Rises cs None (source_rows rules cs ps fs)
   unfolding source_rows_below Behind
   all_rise = subst (Rises cs None) (rows_same 0 (component_count cs) (component_count cs) (omega arith)) (from_behind 0 (component_count cs) (omega arith) None tt)
 
 pub sources_ascend : SourcesAscend
-sources_ascend cs ps fs ascending = all_rise cs ps fs ascending
+sources_ascend rules cs ps fs ascending = all_rise rules cs ps fs ascending

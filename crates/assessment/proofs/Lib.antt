@@ -5,6 +5,7 @@
 --     UpRows                                the rows of what is upstream of each region
 --     Written, Devices, Required, RowLaws   the rows written are those of the document
 --     Ascends                               the source rows ascend
+--     RulesLaws                             what the rules number changes
 pub mod Positions
 pub mod Frontiers
 pub mod UpRows
@@ -17,3 +18,4 @@ pub mod Required
 pub mod RowLaws
 pub mod Reached
 pub mod Ascends
+pub mod RulesLaws

@@ -133,10 +133,10 @@ module _ (cs ps : List ℤ) (few : component_count cs ≤ component_limit) (ends
     unfolding drive holds_drive n holds
     drive_is flags = reached_is (is_drive cs fs) flags long f
 
-    module _ {driven inferred : List Bool} {regions : List ℕ} (numbers : Numbers (component_count cs) (region_of_place cs ps) regions)
-        (regions-driven : Flags component_limit (holds_drive cs ps fs) driven) (inputs : Flags (component_count cs) (is_inferred cs ps fs) inferred)
+    module _ {driven inferred : List Bool} {regions : List ℕ} (rules : ℕ) (numbers : Numbers (component_count cs) (region_of_place cs ps) regions)
+        (regions-driven : Flags component_limit (holds_drive cs ps fs) driven) (inputs : Flags (component_count cs) (is_inferred rules cs ps fs) inferred)
         (joined : Flags component_limit (λ r. marked driven r || some (λ p. marked inferred p && eqb (get_or regions p 0) r) (component_count cs)) marks) where
-      either_at : Flags component_limit (holds (λ p. is_drive cs fs p || is_inferred cs ps fs p)) marks
+      either_at : Flags component_limit (holds (λ p. is_drive cs fs p || is_inferred rules cs ps fs p)) marks
       unfolding n holds holds_drive
       either_at = record {
         long = joined.long;
@@ -144,11 +144,11 @@ module _ (cs ps : List ℤ) (few : component_count cs ≤ component_limit) (ends
             joined.at r h
             ∙ ap (λ t. t || some (λ p. marked inferred p && eqb (get_or regions p 0) r) (component_count cs)) (regions-driven.at r h)
             ∙ ap (λ t. some (λ p. is_drive cs fs p && eqb (region_of_place cs ps p) r) (component_count cs) || t)
-            (ap is_found (first_cong _ (λ p. is_inferred cs ps fs p && eqb (region_of_place cs ps p) r) 0 (component_count cs) (λ p a b.
+            (ap is_found (first_cong _ (λ p. is_inferred rules cs ps fs p && eqb (region_of_place cs ps p) r) 0 (component_count cs) (λ p a b.
             rw (inputs.at p (omega arith), numbers.at p (omega arith)))))
-            ∙ sym (some_or (is_drive cs fs) (is_inferred cs ps fs) (λ p. eqb (region_of_place cs ps p) r) (component_count cs));
+            ∙ sym (some_or (is_drive cs fs) (is_inferred rules cs ps fs) (λ p. eqb (region_of_place cs ps p) r) (component_count cs));
       }
 
-      pub potential_is : out ≡ potential cs ps fs
+      pub potential_is : out ≡ potential rules cs ps fs
       unfolding potential n holds
-      potential_is = reached_is (λ p. is_drive cs fs p || is_inferred cs ps fs p) either_at long f
+      potential_is = reached_is (λ p. is_drive cs fs p || is_inferred rules cs ps fs p) either_at long f

@@ -133,9 +133,9 @@ run_of (suc (suc (suc (suc (suc (suc (suc (suc (suc kind))))))))) facing support
 
 -- ---- the rows of the ports
 
-module _ (cs ps fs : List ℤ) (p : ℕ) where
+module _ (rules : ℕ) (cs ps fs : List ℤ) (p : ℕ) where
   abbrev rows : ℕ → List ℕ
-  rows = port_rows cs ps fs p
+  rows = port_rows rules cs ps fs p
 
   abbrev id : ℕ
   id = (component cs p).id
@@ -146,7 +146,7 @@ module _ (cs ps fs : List ℤ) (p : ℕ) where
   rows_before (suc n) h = rw (h n (omega arith), rows_before n (λ k l. h k (omega arith)))
 
   rows_inside : (first n : ℕ) → rows first ≡ [] → ((j : ℕ) → j < n → is_required (component cs p) (first + j) ≡ true)
-      → rows (first + n) ≡ device_rows id first (status_of cs ps fs p) n
+      → rows (first + n) ≡ device_rows id first (status_of rules cs ps fs p) n
   unfolding port_rows device_rows
   rows_inside first zero e h = rw add-zero e
   rows_inside first (suc n) e h = rw (add-suc first n, h n (omega arith), rows_inside first n e (λ j l. h j (omega arith)))
@@ -156,7 +156,7 @@ module _ (cs ps fs : List ℤ) (p : ℕ) where
   rows_after m zero h = rw add-zero
   rows_after m (suc n) h = rw (add-suc m n, h (m + n) (omega arith) (omega arith), append-nil, rows_after m n (λ k a b. h k a (omega arith)))
 
-  pub port_rows_lem : rows (length (ports_of (component cs p))) ≡ device_rows id (first_required (component cs p).kind) (status_of cs ps fs p) (required_count (component cs p).kind)
+  pub port_rows_lem : rows (length (ports_of (component cs p))) ≡ device_rows id (first_required (component cs p).kind) (status_of rules cs ps fs p) (required_count (component cs p).kind)
   port_rows_lem =
       let c = component cs p in
       let r = run_of c.kind c.facing c.support c.conducts in

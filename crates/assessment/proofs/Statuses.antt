@@ -160,7 +160,7 @@ module _ {cs ps : List ℤ} {sources sinks : List ℕ} (few : component_count cs
         let here : k < port_count ps = omega arith in
         rw (slot_feeds k here, source_at few s t k here) (and_turn true (marked marks (source_member cs ps k)) (feeds_port cs ps p port k))))
 
-    pub status_is : (fs : List ℤ) → LiveMarks cs ps fs drive potential → status_at slots j ≡ status_of cs ps fs p port
+    pub status_is : (rules : ℕ) (fs : List ℤ) → LiveMarks rules cs ps fs drive potential → status_at slots j ≡ status_of rules cs ps fs p port
     unfolding slot_status status_of
-    status_is fs live =
+    status_is rules fs live =
         rw (fed_is, flag_is drive (λ s. s.driven) refl f.driven_flags, flag_is potential (λ s. s.possible) refl f.possible_flags, live.drive_is, live.potential_is)

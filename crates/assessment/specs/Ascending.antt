@@ -24,4 +24,4 @@ pub data Rises (cs : List ℤ) : Option (ℕ × ℕ) → List ℕ → Type 0 whe
       → Rises cs last ((component cs q).id ∷ kind ∷ rows)
 
 abbrev pub SourcesAscend : Type 0
-SourcesAscend = (cs ps fs : List ℤ) → first_not_ascending component_order component_width cs ≡ None → Rises cs None (source_rows cs ps fs)
+SourcesAscend = (rules : ℕ) (cs ps fs : List ℤ) → first_not_ascending component_order component_width cs ≡ None → Rises cs None (source_rows rules cs ps fs)

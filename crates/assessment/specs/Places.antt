@@ -50,9 +50,9 @@ pub record SlotFlags (n : ℕ) (ps : List ℤ) (sources sinks : List ℕ) (drive
   pub possible_flags : GatheredBy n (λ k. slot_number (slot_at ps k (get_or sinks k 0))) (λ k. marked potential (get_or sources k 0)) (map (λ s. s.possible) slots)
 
 -- the marks are those of `Drive`
-pub record LiveMarks (cs ps fs : List ℤ) (driven possible : List Bool) : Type 0 where
+pub record LiveMarks (rules : ℕ) (cs ps fs : List ℤ) (driven possible : List Bool) : Type 0 where
   pub drive_is : driven ≡ drive cs ps fs
-  pub potential_is : possible ≡ potential cs ps fs
+  pub potential_is : possible ≡ potential rules cs ps fs
 
 -- the status of a slot
 unfoldable pub slot_status : Slot → ℕ

@@ -28,11 +28,11 @@ fed_by cs ps p port flags = some (λ k. feeds_port cs ps p port k && marked flag
 
 -- 2 Disconnected: no edge sinks there. Else 0 DrivenByKnownSource: an immediate source is in `drive`. Else 1 AwaitingExternalInput: one is in
 -- `potential`. Else 3 NoKnownSource.
-unfoldable pub status_of : List ℤ → List ℤ → List ℤ → ℕ → ℕ → ℕ
-status_of cs ps fs p port =
+unfoldable pub status_of : ℕ → List ℤ → List ℤ → List ℤ → ℕ → ℕ → ℕ
+status_of rules cs ps fs p port =
     cond (not (some (feeds_port cs ps p port) (port_count ps))) 2
     (cond (fed_by cs ps p port (drive cs ps fs)) 0
-    (cond (fed_by cs ps p port (potential cs ps fs)) 1 3))
+    (cond (fed_by cs ps p port (potential rules cs ps fs)) 1 3))
 
 -- ---- verdict rows
 
@@ -50,19 +50,19 @@ is_required c k =
     && (eqb (port_at (ports_of c) k).role Input || (eqb c.kind torch && eqb (port_at (ports_of c) k).role Control))
 
 -- the rows of the first m ports of the component at p
-unfoldable pub port_rows : List ℤ → List ℤ → List ℤ → ℕ → ℕ → List ℕ
-port_rows cs ps fs p zero = []
-port_rows cs ps fs p (suc k) =
-    port_rows cs ps fs p k
-    ++ cond (is_required (component cs p) k) ((component cs p).id ∷ k ∷ status_of cs ps fs p k ∷ []) []
+unfoldable pub port_rows : ℕ → List ℤ → List ℤ → List ℤ → ℕ → ℕ → List ℕ
+port_rows rules cs ps fs p zero = []
+port_rows rules cs ps fs p (suc k) =
+    port_rows rules cs ps fs p k
+    ++ cond (is_required (component cs p) k) ((component cs p).id ∷ k ∷ status_of rules cs ps fs p k ∷ []) []
 
 -- the rows of the first n components
-unfoldable pub verdict_rows : List ℤ → List ℤ → List ℤ → ℕ → List ℕ
-verdict_rows cs ps fs zero = []
-verdict_rows cs ps fs (suc p) = verdict_rows cs ps fs p ++ port_rows cs ps fs p (length (ports_of (component cs p)))
+unfoldable pub verdict_rows : ℕ → List ℤ → List ℤ → List ℤ → ℕ → List ℕ
+verdict_rows rules cs ps fs zero = []
+verdict_rows rules cs ps fs (suc p) = verdict_rows rules cs ps fs p ++ port_rows rules cs ps fs p (length (ports_of (component cs p)))
 
-abbrev pub input_rows : List ℤ → List ℤ → List ℤ → List ℕ
-input_rows cs ps fs = verdict_rows cs ps fs (component_count cs)
+abbrev pub input_rows : ℕ → List ℤ → List ℤ → List ℤ → List ℕ
+input_rows rules cs ps fs = verdict_rows rules cs ps fs (component_count cs)
 
 -- ---- source rows
 
@@ -75,15 +75,15 @@ kind_row id (Some kind) = id ∷ kind ∷ []
 kind_row id None = []
 
 -- at most two: 0 or 1, then 2; 3 stands alone
-unfoldable pub sources_at : List ℤ → List ℤ → List ℤ → ℕ → List ℕ
-sources_at cs ps fs p =
+unfoldable pub sources_at : ℕ → List ℤ → List ℤ → List ℤ → ℕ → List ℕ
+sources_at rules cs ps fs p =
     kind_row (component cs p).id (source_kind (component cs p).kind)
     ++ (row_if (is_on_frontier cs fs p) (component cs p).id 2
-    ++ row_if (is_inferred cs ps fs p) (component cs p).id 3)
+    ++ row_if (is_inferred rules cs ps fs p) (component cs p).id 3)
 
-unfoldable pub source_rows_below : List ℤ → List ℤ → List ℤ → ℕ → List ℕ
-source_rows_below cs ps fs zero = []
-source_rows_below cs ps fs (suc p) = source_rows_below cs ps fs p ++ sources_at cs ps fs p
+unfoldable pub source_rows_below : ℕ → List ℤ → List ℤ → List ℤ → ℕ → List ℕ
+source_rows_below rules cs ps fs zero = []
+source_rows_below rules cs ps fs (suc p) = source_rows_below rules cs ps fs p ++ sources_at rules cs ps fs p
 
-abbrev pub source_rows : List ℤ → List ℤ → List ℤ → List ℕ
-source_rows cs ps fs = source_rows_below cs ps fs (component_count cs)
+abbrev pub source_rows : ℕ → List ℤ → List ℤ → List ℤ → List ℕ
+source_rows rules cs ps fs = source_rows_below rules cs ps fs (component_count cs)

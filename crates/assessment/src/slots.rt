@@ -202,8 +202,8 @@ pub fn write_verdicts(
     requires ports_in_bounds { port_count ports.numbers.now ≤ length ends.now }
     requires numbers { Numbers (component_count components.numbers.now) (member_of components.numbers.now) members.now
         × (12 * component_count components.numbers.now ≤ length out.old) }
-    ensures { (fs : List ℤ) → LiveMarks components.entry.numbers.now ports.entry.numbers.now fs drive.now potential.now →
-        Scanned (input_rows components.entry.numbers.now ports.entry.numbers.now fs) 3 out.old out.new result }
+    ensures { (rules : ℕ) (fs : List ℤ) → LiveMarks rules components.entry.numbers.now ports.entry.numbers.now fs drive.now potential.now →
+        Scanned (input_rows rules components.entry.numbers.now ports.entry.numbers.now fs) 3 out.old out.new result }
 {
     // A plot of wires alone needs no flags.
     if !any_required(components) {

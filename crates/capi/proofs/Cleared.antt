@@ -19,9 +19,9 @@ use Rattle.clearing.specs.declared.Cleared.{Cleared}
 use Rattle.clearing.proofs.Promises.{taken_few}
 use Rattle.capi.specs.Clear.{ClearByLists}
 
-module _ {cs ps fs kept kept' : List ℤ} {dropped dropped' : List ℕ} where
-  pub refused_clear : {refusal : Refusal} {r : ℕ} → Clears cs ps fs kept kept' dropped dropped' (Err refusal) → r ≡ packed (Err refusal)
-      → ClearByLists cs ps fs kept kept' dropped dropped' r
+module _ {rules : ℕ} {cs ps fs kept kept' : List ℤ} {dropped dropped' : List ℕ} where
+  pub refused_clear : {refusal : Refusal} {r : ℕ} → Clears rules cs ps fs kept kept' dropped dropped' (Err refusal) → r ≡ packed (Err refusal)
+      → ClearByLists rules cs ps fs kept kept' dropped dropped' r
   refused_clear call e =
       record {
         answer = rw (sym call.by.answer) e;
@@ -30,10 +30,10 @@ module _ {cs ps fs kept kept' : List ℤ} {dropped dropped' : List ℕ} where
         promise = λ taken. absurd (refused_not (call.by.answer ∙ taken));
       }
 
-  module _ {c : Cleared} (call : Clears cs ps fs kept kept' dropped dropped' (Ok c)) where
+  module _ {c : Cleared} (call : Clears rules cs ps fs kept kept' dropped dropped' (Ok c)) where
     pub few_parted : (c.kept ≤ connection_limit) × (c.dropped ≤ connection_limit)
     few_parted =
-        let few = taken_few cs ps fs (length kept) (length dropped) (sym call.by.answer) in
+        let few = taken_few rules cs ps fs (length kept) (length dropped) (sym call.by.answer) in
         (omega (arith, few.0, call.by.counts.kept_count), omega (arith, few.1, call.by.counts.dropped_count))
 
     module _ {r : ℕ} (e : r ≡ 65536 * c.kept + 4294967296 * c.dropped) where
@@ -41,7 +41,7 @@ module _ {cs ps fs kept kept' : List ℤ} {dropped dropped' : List ℕ} where
       kept_told : r / 65536 % 65536 ≡ c.kept
       kept_told = omega (arith, e, few_parted.0, few_parted.1)
 
-      pub accepted_clear : ClearByLists cs ps fs kept kept' dropped dropped' r
+      pub accepted_clear : ClearByLists rules cs ps fs kept kept' dropped dropped' r
       accepted_clear =
           record {
             answer = rw (sym call.by.answer) (e ∙ ap₂ (λ (k d : ℕ). 65536 * k + 4294967296 * d) call.by.counts.kept_count call.by.counts.dropped_count);

@@ -38,8 +38,8 @@ words_written ns rest k h small =
 count_told : (regions sources inputs : ℕ) → regions ≤ component_limit → liveness_number (Ok tt) regions sources inputs / 65536 % 65536 ≡ regions
 count_told regions sources inputs h = omega arith
 
-module _ (components ports frontiers regions regions' sources sources' inputs inputs' sets sets' stack stack' : List ℕ) (r : ℕ)
-    (w : LivenessWritten components ports frontiers regions regions' sources sources' inputs inputs' sets sets' stack stack' r) where
+module _ (rules : ℕ) (components ports frontiers regions regions' sources sources' inputs inputs' sets sets' stack stack' : List ℕ) (r : ℕ)
+    (w : LivenessWritten rules components ports frontiers regions regions' sources sources' inputs inputs' sets sets' stack stack' r) where
   abbrev cs : List ℤ
   cs = numbers components
 
@@ -54,23 +54,23 @@ module _ (components ports frontiers regions regions' sources sources' inputs in
       room_for set_count word_count (length sets / number_bytes)
       && liveness_room cs (length regions / number_bytes) (length sources / number_bytes) (length inputs / number_bytes) (length stack / number_bytes)
 
-  module _ (e : liveness_bytes_refusal components ports frontiers (length regions) (length sources) (length inputs) (length sets) (length stack) ≡ Ok tt) where
-    lists : liveness_lists cs ps fs enough ≡ Ok tt
-    lists = (both_accept (liveness_whole components ports frontiers) (liveness_lists cs ps fs enough) e).1
+  module _ (e : liveness_bytes_refusal rules components ports frontiers (length regions) (length sources) (length inputs) (length sets) (length stack) ≡ Ok tt) where
+    lists : liveness_lists rules cs ps fs enough ≡ Ok tt
+    lists = (both_accept (liveness_whole rules components ports frontiers) (liveness_lists rules cs ps fs enough) e).1
 
     few : region_count cs ps ≤ component_limit
-    few = few_regions cs ps fs enough lists
+    few = few_regions rules cs ps fs enough lists
 
     of_list : RegionsOfScene cs ps (regions_of cs ps ++ []) (region_count cs ps)
-    of_list = demand_3 cs ps (scene_of_lem (liveness_accept cs ps fs enough lists)) []
+    of_list = demand_3 cs ps (scene_of_lem (liveness_accept rules cs ps fs enough lists)) []
 
     written : regions' ≡ bytes_of (regions_of cs ps) ++ drop (length (bytes_of (regions_of cs ps))) regions
     written = w.regions_left ∙ ap (λ (c : Result ⊤ Refusal). left_of c (bytes_of (regions_of cs ps)) regions) e
 
     counted : r / 65536 % 65536 ≡ region_count cs ps
     counted =
-        let sources = length (source_rows cs ps fs) / 2 in
-        let inputs = length (input_rows cs ps fs) / 3 in
+        let sources = length (source_rows rules cs ps fs) / 2 in
+        let inputs = length (input_rows rules cs ps fs) / 3 in
         let n = w.answer ∙ ap (λ (c : Result ⊤ Refusal). liveness_number c (region_count cs ps) sources inputs) e in
         ap (λ (m : ℕ). m / 65536 % 65536) n ∙ count_told (region_count cs ps) sources inputs few
 
@@ -81,5 +81,5 @@ module _ (components ports frontiers regions regions' sources sources' inputs in
         let below = rw nil at (of_list.below v h) in
         rw (nil, written) (sym (words_written (regions_of cs ps) _ v (omega (arith, long)) (omega (arith, below, few))))
 
-  pub by_bytes : LivenessByBytes components ports frontiers regions regions' sources sources' inputs inputs' sets sets' stack stack' r
+  pub by_bytes : LivenessByBytes rules components ports frontiers regions regions' sources sources' inputs inputs' sets sets' stack stack' r
   by_bytes = record { by = w; demand = λ e. rw (counted e) (same_regions cs ps (region_count cs ps) (region_read e) (of_list e)) }

@@ -38,18 +38,18 @@ refused_as (Err y) count x e =
     record { small = λ s. rw item s; packs = λ count. rw (fault, list, item) }
 
 -- what is left where the checks accept are the kept rows, without their slopes too
-module _ (cs ps ports : List ℤ) {ports' : List ℤ} {r : ℕ} (answer : r ≡ ports_number (ports_refusal cs ps (length ports)) (kept_count cs ps))
-    (left : ports' ≡ left_of (ports_refusal cs ps (length ports)) (map pos (sloped_rows cs ps)) ports) where
-  cut_left : ports_refusal cs ps (length ports) ≡ Ok tt → without_slopes (take (r / 65536 * kept_width) ports') ≡ map pos (kept_rows cs ps)
+module _ (rules : ℕ) (cs ps ports : List ℤ) {ports' : List ℤ} {r : ℕ} (answer : r ≡ ports_number (ports_refusal rules cs ps (length ports)) (kept_count rules cs ps))
+    (left : ports' ≡ left_of (ports_refusal rules cs ps (length ports)) (map pos (sloped_rows rules cs ps)) ports) where
+  cut_left : ports_refusal rules cs ps (length ports) ≡ Ok tt → without_slopes (take (r / 65536 * kept_width) ports') ≡ map pos (kept_rows rules cs ps)
   cut_left e =
-      let rows = map pos (sloped_rows cs ps) in
-      let count : r ≡ 65536 * kept_count cs ps = rw e at answer in
+      let rows = map pos (sloped_rows rules cs ps) in
+      let count : r ≡ 65536 * kept_count rules cs ps = rw e at answer in
       let laid : ports' ≡ rows ++ drop (length rows) ports = rw e at left in
-      let long : length rows ≡ r / 65536 * kept_width = omega (arith, count, length-map (sloped_rows cs ps) pos, sloped_count cs ps) in
+      let long : length rows ≡ r / 65536 * kept_width = omega (arith, count, length-map (sloped_rows rules cs ps) pos, sloped_count rules cs ps) in
       ap (λ (l : List ℤ). without_slopes (take (r / 65536 * kept_width) l)) laid
       ∙ ap without_slopes (take_at rows (drop (length rows) ports) (r / 65536 * kept_width) long)
-      ∙ cut_map pos (sloped_rows cs ps)
-      ∙ ap (map pos) (cut_sloped cs ps)
+      ∙ cut_map pos (sloped_rows rules cs ps)
+      ∙ ap (map pos) (cut_sloped rules cs ps)
 
-  pub by_lists : PortsByLists cs ps ports ports' r
+  pub by_lists : PortsByLists rules cs ps ports ports' r
   by_lists = record { answer = answer; left = left; cut = cut_left }

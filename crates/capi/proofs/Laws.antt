@@ -92,10 +92,10 @@ told : (checked : Result ⊤ Refusal) (nets fragments : ℕ) → (groups_number 
 told (Ok tt) nets fragments = (λ _. refl, λ _. omega arith)
 told (Err r) nets fragments = (λ e. absurd (refused_odd r e), λ e. cc)
 
-pub told_apart : (components connections nets nets' fragments fragments' : List ℕ) (r : ℕ) → GroupsByBytes components connections nets nets' fragments fragments' r
-    → (r % 65536 ≡ 0) ↔ (groups_refusal components connections (length nets) (length fragments) ≡ Ok tt)
-told_apart components connections nets nets' fragments fragments' r laid_so =
-    rw laid_so.answer (told (groups_refusal components connections (length nets) (length fragments)) _ _)
+pub told_apart : (rules : ℕ) (components connections nets nets' fragments fragments' : List ℕ) (r : ℕ) → GroupsByBytes rules components connections nets nets' fragments fragments' r
+    → (r % 65536 ≡ 0) ↔ (groups_refusal rules components connections (length nets) (length fragments) ≡ Ok tt)
+told_apart rules components connections nets nets' fragments fragments' r laid_so =
+    rw laid_so.answer (told (groups_refusal rules components connections (length nets) (length fragments)) _ _)
 
 -- ---- the liveness entry
 
@@ -104,9 +104,9 @@ liveness_told : (checked : Result ⊤ Refusal) (regions sources inputs : ℕ)
 liveness_told (Ok tt) regions sources inputs = (λ _. refl, λ _. omega arith)
 liveness_told (Err r) regions sources inputs = (λ e. absurd (refused_odd r e), λ e. cc)
 
-pub liveness_told_apart : (components ports frontiers regions regions' sources sources' inputs inputs' sets sets' stack stack' : List ℕ) (r : ℕ)
-    → LivenessByBytes components ports frontiers regions regions' sources sources' inputs inputs' sets sets' stack stack' r
-    → (r % 65536 ≡ 0) ↔ (liveness_bytes_refusal components ports frontiers (length regions) (length sources) (length inputs) (length sets) (length stack) ≡ Ok tt)
-liveness_told_apart components ports frontiers regions regions' sources sources' inputs inputs' sets sets' stack stack' r laid_so =
+pub liveness_told_apart : (rules : ℕ) (components ports frontiers regions regions' sources sources' inputs inputs' sets sets' stack stack' : List ℕ) (r : ℕ)
+    → LivenessByBytes rules components ports frontiers regions regions' sources sources' inputs inputs' sets sets' stack stack' r
+    → (r % 65536 ≡ 0) ↔ (liveness_bytes_refusal rules components ports frontiers (length regions) (length sources) (length inputs) (length sets) (length stack) ≡ Ok tt)
+liveness_told_apart rules components ports frontiers regions regions' sources sources' inputs inputs' sets sets' stack stack' r laid_so =
     rw laid_so.by.answer
-    (liveness_told (liveness_bytes_refusal components ports frontiers (length regions) (length sources) (length inputs) (length sets) (length stack)) _ _ _)
+    (liveness_told (liveness_bytes_refusal rules components ports frontiers (length regions) (length sources) (length inputs) (length sets) (length stack)) _ _ _)

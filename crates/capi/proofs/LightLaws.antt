@@ -24,36 +24,36 @@ use Rattle.lighting.specs.declared.Lit.{Lit}
 use Rattle.capi.specs.Light.{light_lists_refusal, LightByLists}
 use Rattle.capi.proofs.LivenessLaws.{WordsOfSet, set_words, short_refused, few_regions}
 
-module _ (cs ps fs : List ℤ) (regions lit driven stack : List ℕ) where
+module _ (rules : ℕ) (cs ps fs : List ℤ) (regions lit driven stack : List ℕ) where
   abbrev refusal : Result ⊤ Refusal
-  refusal = light_lists_refusal cs ps fs (length regions) (length lit) (length driven) (length stack)
+  refusal = light_lists_refusal rules cs ps fs (length regions) (length lit) (length driven) (length stack)
 
   pub roomy : (room_for 1 word_count (length lit) && room_for 1 word_count (length driven)) ≡ true
-      → refusal ≡ light_refusal cs ps fs (length regions) (length stack)
+      → refusal ≡ light_refusal rules cs ps fs (length regions) (length stack)
   roomy e = rw e
 
   pub refused_light : (refused : Refusal) (r : ℕ) → refusal ≡ Err refused → r ≡ packed (Err refused)
-      → LightByLists cs ps fs regions regions lit lit driven driven stack stack r
+      → LightByLists rules cs ps fs regions regions lit lit driven driven stack stack r
   refused_light refused r e f = record {
     by = rw e record { answer = f; regions_left = refl; lit_left = refl; driven_left = refl; stack_left = refl };
     demand = λ q. absurd (refused_not (sym e ∙ q));
     laws = λ q. absurd (refused_not (sym e ∙ q));
   }
 
-  without : (t rest : Bool) → t ≡ false → liveness_lists cs ps fs (t && rest) ≡ liveness_lists cs ps fs false
+  without : (t rest : Bool) → t ≡ false → liveness_lists rules cs ps fs (t && rest) ≡ liveness_lists rules cs ps fs false
   without t rest e = rw e
 
   pub short_light : (r : ℕ) → (room_for 1 word_count (length lit) && room_for 1 word_count (length driven)) ≡ false
-      → r ≡ packed (liveness_lists cs ps fs false) → LightByLists cs ps fs regions regions lit lit driven driven stack stack r
+      → r ≡ packed (liveness_lists rules cs ps fs false) → LightByLists rules cs ps fs regions regions lit lit driven driven stack stack r
   short_light r none f =
-      let (refused, e) = short_refused cs ps fs in
+      let (refused, e) = short_refused rules cs ps fs in
       refused_light refused r (without _ _ none ∙ e) (f ∙ ap packed e)
 
-  pub count_few : light_refusal cs ps fs (length regions) (length stack) ≡ Ok tt → region_count cs ps ≤ component_limit
-  count_few e = few_regions cs ps fs (light_room cs (length regions) (length stack)) e
+  pub count_few : light_refusal rules cs ps fs (length regions) (length stack) ≡ Ok tt → region_count cs ps ≤ component_limit
+  count_few e = few_regions rules cs ps fs (light_room cs (length regions) (length stack)) e
 
-  module _ (regions' stack' : List ℕ) (answer : Lit) (lighted : Lighted cs ps fs regions regions' stack stack' (Ok answer)) where
-    accepted : light_refusal cs ps fs (length regions) (length stack) ≡ Ok tt
+  module _ (regions' stack' : List ℕ) (answer : Lit) (lighted : Lighted rules cs ps fs regions regions' stack stack' (Ok answer)) where
+    accepted : light_refusal rules cs ps fs (length regions) (length stack) ≡ Ok tt
     accepted = sym lighted.by.answer
 
     -- sixteen bits of the answer
@@ -63,7 +63,7 @@ module _ (cs ps fs : List ℤ) (regions lit driven stack : List ℕ) where
     pub accepted_light : (lit' driven' : List ℕ) (r : ℕ) → (room_for 1 word_count (length lit) && room_for 1 word_count (length driven)) ≡ true
         → WordsOfSet answer.lit.words → WordsOfSet answer.driven.words
         → lit' ≡ laid answer.lit.words lit → driven' ≡ laid answer.driven.words driven → r ≡ 65536 * answer.count
-        → LightByLists cs ps fs regions regions' lit lit' driven driven' stack stack' r
+        → LightByLists rules cs ps fs regions regions' lit lit' driven driven' stack stack' r
     accepted_light lit' driven' r room u v first second count =
         let left = rw accepted at lighted.by in
         record {

@@ -24,29 +24,29 @@ use Rattle.capi.proofs.LivenessLaws.{WordsOfSet, set_words, short_refused}
 ends_there : {a : Result ⊤ Refusal} {refusal : Refusal} (b : Result ⊤ Refusal) → a ≡ Err refusal → a or_else b ≡ Err refusal
 ends_there b e = rw e
 
-module _ (cs ps fs : List ℤ) (id port : ℕ) (met stack : List ℕ) where
+module _ (rules : ℕ) (cs ps fs : List ℤ) (id port : ℕ) (met stack : List ℕ) where
   pub roomy : room_for 1 word_count (length met) ≡ true
-      → driven_refusal cs ps fs id port (length met) (length stack) ≡ input_refusal cs ps fs id port (length stack)
+      → driven_refusal rules cs ps fs id port (length met) (length stack) ≡ input_refusal rules cs ps fs id port (length stack)
   roomy e = rw e
 
-  pub refused_driven : (refusal : Refusal) (r : ℕ) → driven_refusal cs ps fs id port (length met) (length stack) ≡ Err refusal
-      → r ≡ packed (Err refusal) → DrivenByLists cs ps fs id port met met stack stack r
+  pub refused_driven : (refusal : Refusal) (r : ℕ) → driven_refusal rules cs ps fs id port (length met) (length stack) ≡ Err refusal
+      → r ≡ packed (Err refusal) → DrivenByLists rules cs ps fs id port met met stack stack r
   refused_driven refusal r e f = record { answer = rw e f; met_left = rw e; stack_left = rw e }
 
-  without : (t rest : Bool) → t ≡ false → liveness_lists cs ps fs (t && rest) ≡ liveness_lists cs ps fs false
+  without : (t rest : Bool) → t ≡ false → liveness_lists rules cs ps fs (t && rest) ≡ liveness_lists rules cs ps fs false
   without t rest e = rw e
 
-  pub short_driven : (r : ℕ) → room_for 1 word_count (length met) ≡ false → r ≡ packed (liveness_lists cs ps fs false)
-      → DrivenByLists cs ps fs id port met met stack stack r
+  pub short_driven : (r : ℕ) → room_for 1 word_count (length met) ≡ false → r ≡ packed (liveness_lists rules cs ps fs false)
+      → DrivenByLists rules cs ps fs id port met met stack stack r
   short_driven r none f =
-      let (refusal, e) = short_refused cs ps fs in
+      let (refusal, e) = short_refused rules cs ps fs in
       refused_driven refusal r (ends_there _ (without _ _ none ∙ e)) (f ∙ ap packed e)
 
   pub accepted_driven : (met' stack' : List ℕ) (r : ℕ) (answer : DrivenInput)
-      → driven_refusal cs ps fs id port (length met) (length stack) ≡ Ok tt
+      → driven_refusal rules cs ps fs id port (length met) (length stack) ≡ Ok tt
       → WordsOfSet answer.met.words → PortDriven cs ps fs (row_place cs id port) port answer
       → met' ≡ laid answer.met.words met → stack' ≡ cleared stack → r ≡ 65536 * as_nat answer.driven
-      → DrivenByLists cs ps fs id port met met' stack stack' r
+      → DrivenByLists rules cs ps fs id port met met' stack stack' r
   accepted_driven met' stack' r answer e w d set zero count =
       record {
         answer = rw e (count ∙ ap (λ (b : Bool). 65536 * as_nat b) d.driven_is);

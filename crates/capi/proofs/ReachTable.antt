@@ -16,9 +16,9 @@ use Rattle.reach_table.specs.Entry.{Tabled}
 use Rattle.reach_table.proofs.Entries.{count_few}
 use Rattle.capi.specs.ReachTable.{TabledByLists}
 
-module _ {cs ps fs : List ℤ} (square regions stack : List ℕ) {square' regions' stack' : List ℕ} where
-  pub refused_table : {refusal : Refusal} (r : ℕ) → Tabled cs ps fs square square' regions regions' stack stack' (Err refusal) → r ≡ packed (Err refusal)
-      → TabledByLists cs ps fs square square' regions regions' stack stack' r
+module _ {rules : ℕ} {cs ps fs : List ℤ} (square regions stack : List ℕ) {square' regions' stack' : List ℕ} where
+  pub refused_table : {refusal : Refusal} (r : ℕ) → Tabled rules cs ps fs square square' regions regions' stack stack' (Err refusal) → r ≡ packed (Err refusal)
+      → TabledByLists rules cs ps fs square square' regions regions' stack stack' r
   refused_table r t e =
       let refused = sym t.by.answer in
       record {
@@ -30,8 +30,8 @@ module _ {cs ps fs : List ℤ} (square regions stack : List ℕ) {square' region
         demand = λ f. absurd (refused_not (sym refused ∙ f));
       }
 
-  pub accepted_table : {count : ℕ} (r : ℕ) → Tabled cs ps fs square square' regions regions' stack stack' (Ok count) → r ≡ 65536 * count
-      → TabledByLists cs ps fs square square' regions regions' stack stack' r
+  pub accepted_table : {count : ℕ} (r : ℕ) → Tabled rules cs ps fs square square' regions regions' stack stack' (Ok count) → r ≡ 65536 * count
+      → TabledByLists rules cs ps fs square square' regions regions' stack stack' r
   accepted_table {count} r t e =
       let accepted = sym t.by.answer in
       let few = count_few square regions stack t in

@@ -17,12 +17,12 @@ abbrev pub clear_number : Result ⊤ Refusal → ℕ → ℕ → ℕ
 clear_number (Ok tt) kept dropped = 65536 * kept + 4294967296 * dropped
 clear_number (Err refusal) kept dropped = packed (Err refusal)
 
--- from components, port connections, frontiers and two lent lists
-pub record ClearByLists (cs ps fs kept kept' : List ℤ) (dropped dropped' : List ℕ) (r : ℕ) : Type 0 where
+-- from a rules number, components, port connections, frontiers and two lent lists
+pub record ClearByLists (rules : ℕ) (cs ps fs kept kept' : List ℤ) (dropped dropped' : List ℕ) (r : ℕ) : Type 0 where
   pub answer : r
-      ≡ clear_number (clear_refusal cs ps fs (length kept) (length dropped)) (length (kept_items cs ps)) (length (dropped_items cs ps))
-  pub kept_left : kept' ≡ left_of (clear_refusal cs ps fs (length kept) (length dropped)) (kept_rows cs ps) kept
-  pub dropped_left : dropped' ≡ left_of (clear_refusal cs ps fs (length kept) (length dropped)) (dropped_rows cs ps) dropped
+      ≡ clear_number (clear_refusal rules cs ps fs (length kept) (length dropped)) (length (kept_items cs ps)) (length (dropped_items cs ps))
+  pub kept_left : kept' ≡ left_of (clear_refusal rules cs ps fs (length kept) (length dropped)) (kept_rows cs ps) kept
+  pub dropped_left : dropped' ≡ left_of (clear_refusal rules cs ps fs (length kept) (length dropped)) (dropped_rows cs ps) dropped
   -- what is promised, of the port connections left at the front and the count answered
-  pub promise : clear_refusal cs ps fs (length kept) (length dropped) ≡ Ok tt
-      → ClearedScene cs (take (r / 65536 % 65536 * port_width) kept') fs
+  pub promise : clear_refusal rules cs ps fs (length kept) (length dropped) ≡ Ok tt
+      → ClearedScene rules cs (take (r / 65536 % 65536 * port_width) kept') fs

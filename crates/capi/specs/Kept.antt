@@ -16,9 +16,9 @@ abbrev pub ports_number : Result ⊤ Refusal → ℕ → ℕ
 ports_number (Ok tt) kept = 65536 * kept
 ports_number (Err refusal) kept = packed (Err refusal)
 
--- from components, grouping connections and a lent list
-pub record PortsByLists (cs ps ports ports' : List ℤ) (r : ℕ) : Type 0 where
-  pub answer : r ≡ ports_number (ports_refusal cs ps (length ports)) (kept_count cs ps)
-  pub left : ports' ≡ left_of (ports_refusal cs ps (length ports)) (map pos (sloped_rows cs ps)) ports
+-- from a rules number, components, grouping connections and a lent list
+pub record PortsByLists (rules : ℕ) (cs ps ports ports' : List ℤ) (r : ℕ) : Type 0 where
+  pub answer : r ≡ ports_number (ports_refusal rules cs ps (length ports)) (kept_count rules cs ps)
+  pub left : ports' ≡ left_of (ports_refusal rules cs ps (length ports)) (map pos (sloped_rows rules cs ps)) ports
   -- the rows left at the front, as many as answered, are without their slopes the list that liveness takes
-  pub cut : ports_refusal cs ps (length ports) ≡ Ok tt → without_slopes (take (r / 65536 * kept_width) ports') ≡ map pos (kept_rows cs ps)
+  pub cut : ports_refusal rules cs ps (length ports) ≡ Ok tt → without_slopes (take (r / 65536 * kept_width) ports') ≡ map pos (kept_rows rules cs ps)

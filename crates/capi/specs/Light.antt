@@ -20,9 +20,9 @@ use Rattle.lighting.specs.Laws.{LightLaws}
 use Rattle.lighting.specs.Entry.{light_room}
 
 -- the refusal of the lists, given how many numbers each lent slice has
-abbrev pub light_lists_refusal : List ℤ → List ℤ → List ℤ → ℕ → ℕ → ℕ → ℕ → Result ⊤ Refusal
-light_lists_refusal cs ps fs regions lit driven stack =
-    liveness_lists cs ps fs ((room_for 1 word_count lit && room_for 1 word_count driven) && light_room cs regions stack)
+abbrev pub light_lists_refusal : ℕ → List ℤ → List ℤ → List ℤ → ℕ → ℕ → ℕ → ℕ → Result ⊤ Refusal
+light_lists_refusal rules cs ps fs regions lit driven stack =
+    liveness_lists rules cs ps fs ((room_for 1 word_count lit && room_for 1 word_count driven) && light_room cs regions stack)
 
 -- a refusal's number, list and item, or 0 in the sixteen lowest bits and then the count of regions
 abbrev pub light_number : Result ⊤ Refusal → ℕ → ℕ
@@ -45,12 +45,12 @@ pub record LightLaid (refusal : Result ⊤ Refusal) (cs ps fs : List ℤ)
   pub driven_left : driven' ≡ left_of refusal (driven_words cs ps fs) driven
   pub stack_left : stack' ≡ work_of refusal stack
 
--- from the lists and four lent slices
-pub record LightByLists (cs ps fs : List ℤ) (regions regions' lit lit' driven driven' stack stack' : List ℕ) (r : ℕ) : Type 0 where
-  pub by : LightLaid (light_lists_refusal cs ps fs (length regions) (length lit) (length driven) (length stack))
+-- from a rules number, the lists and four lent slices
+pub record LightByLists (rules : ℕ) (cs ps fs : List ℤ) (regions regions' lit lit' driven driven' stack stack' : List ℕ) (r : ℕ) : Type 0 where
+  pub by : LightLaid (light_lists_refusal rules cs ps fs (length regions) (length lit) (length driven) (length stack))
       cs ps fs regions regions' lit lit' driven driven' stack stack' r
   -- demand 3, on the regions written and the count answered
-  pub demand : light_lists_refusal cs ps fs (length regions) (length lit) (length driven) (length stack) ≡ Ok tt
+  pub demand : light_lists_refusal rules cs ps fs (length regions) (length lit) (length driven) (length stack) ≡ Ok tt
       → RegionsOfScene cs ps regions' (r / 65536 % 65536)
   -- request R-11
-  pub laws : light_lists_refusal cs ps fs (length regions) (length lit) (length driven) (length stack) ≡ Ok tt → LightLaws cs ps fs
+  pub laws : light_lists_refusal rules cs ps fs (length regions) (length lit) (length driven) (length stack) ≡ Ok tt → LightLaws cs ps fs

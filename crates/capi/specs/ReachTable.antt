@@ -16,13 +16,13 @@ abbrev pub table_number : Result ⊤ Refusal → ℕ → ℕ
 table_number (Ok tt) regions = 65536 * regions
 table_number (Err refusal) regions = packed (Err refusal)
 
--- from the lists and three lent slices
-pub record TabledByLists (cs ps fs : List ℤ) (square square' regions regions' stack stack' : List ℕ) (r : ℕ) : Type 0 where
-  pub answer : r ≡ table_number (table_refusal cs ps fs (length square) (length regions) (length stack)) (region_count cs ps)
-  pub square_left : square' ≡ left_of (table_refusal cs ps fs (length square) (length regions) (length stack)) (reach_table cs ps) square
-  pub regions_left : regions' ≡ left_of (table_refusal cs ps fs (length square) (length regions) (length stack)) (regions_of cs ps) regions
-  pub stack_left : stack' ≡ work_of (table_refusal cs ps fs (length square) (length regions) (length stack)) stack
+-- from a rules number, the lists and three lent slices
+pub record TabledByLists (rules : ℕ) (cs ps fs : List ℤ) (square square' regions regions' stack stack' : List ℕ) (r : ℕ) : Type 0 where
+  pub answer : r ≡ table_number (table_refusal rules cs ps fs (length square) (length regions) (length stack)) (region_count cs ps)
+  pub square_left : square' ≡ left_of (table_refusal rules cs ps fs (length square) (length regions) (length stack)) (reach_table cs ps) square
+  pub regions_left : regions' ≡ left_of (table_refusal rules cs ps fs (length square) (length regions) (length stack)) (regions_of cs ps) regions
+  pub stack_left : stack' ≡ work_of (table_refusal rules cs ps fs (length square) (length regions) (length stack)) stack
   -- who reaches whom, and equal rows, on the square that is left
-  pub table : table_refusal cs ps fs (length square) (length regions) (length stack) ≡ Ok tt → SquareOfScene cs ps square' regions'
+  pub table : table_refusal rules cs ps fs (length square) (length regions) (length stack) ≡ Ok tt → SquareOfScene cs ps square' regions'
   -- and demand 3, on the numbers that are left and the count answered
-  pub demand : table_refusal cs ps fs (length square) (length regions) (length stack) ≡ Ok tt → RegionsOfScene cs ps regions' (r / 65536 % 65536)
+  pub demand : table_refusal rules cs ps fs (length square) (length regions) (length stack) ≡ Ok tt → RegionsOfScene cs ps regions' (r / 65536 % 65536)

@@ -19,14 +19,14 @@ abbrev pub check_number : Result Bool Refusal → ℕ
 check_number (Ok is_trail) = 65536 * as_nat is_trail
 check_number (Err refusal) = packed (Err refusal)
 
--- from the lists, an id, a port and the lent list
-pub record TrailByLists (cs ps fs : List ℤ) (id port : ℕ) (trail trail' : List ℕ) (r : ℕ) : Type 0 where
+-- from a rules number, the lists, an id, a port and the lent list
+pub record TrailByLists (rules : ℕ) (cs ps fs : List ℤ) (id port : ℕ) (trail trail' : List ℕ) (r : ℕ) : Type 0 where
   pub found : Result ℕ Refusal
-  pub finding : Finding cs ps fs id port trail trail' found
+  pub finding : Finding rules cs ps fs id port trail trail' found
   pub answer : r ≡ trail_number found
 
--- from the lists, an id, a port and a list of ids
-pub record CheckByLists (cs ps fs : List ℤ) (id port : ℕ) (trail : List ℕ) (r : ℕ) : Type 0 where
+-- from a rules number, the lists, an id, a port and a list of ids
+pub record CheckByLists (rules : ℕ) (cs ps fs : List ℤ) (id port : ℕ) (trail : List ℕ) (r : ℕ) : Type 0 where
   pub found : Result Bool Refusal
-  pub checking : Checking cs ps fs id port trail found
+  pub checking : Checking rules cs ps fs id port trail found
   pub answer : r ≡ check_number found

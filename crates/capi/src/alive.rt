@@ -1,20 +1,22 @@
 // Regions, sources, verdicts and sets of a scene that is lent as bytes.
 ghost use Rattle.std.specs.Prelude.{Ok};
-ghost use Rattle.std.specs.Prelude.{◌≡◌, true, false, ◌++◌, ◌+◌, ◌*◌, ◌/◌, ◌≤◌, length};
+ghost use Rattle.std.specs.Prelude.{◌≡◌, false, ◌++◌, ◌+◌, ◌*◌, ◌/◌, ◌≤◌, length};
 ghost use Rattle.sets.specs.Members.{word_count};
 ghost use Rattle.lists.specs.Limits.{component_limit, connection_limit, port_width};
 ghost use Rattle.lists.specs.Records.{component_count};
-ghost use Rattle.checks.specs.Refusals.{room_for, liveness_lists, liveness_refusal, packed};
+ghost use Rattle.checks.specs.Refusals.{liveness_lists, packed};
 ghost use Rattle.lists.specs.Slices.{laid};
 ghost use Rattle.encoding.specs.Bytes.{number_bytes, numbers, bytes_of};
 ghost use Rattle.capi.specs.Liveness.{set_count, liveness_whole, LivenessLaid, LivenessWritten};
-ghost use Rattle.capi.specs.Written.{Written, WrittenRoom, RowRoom, LivenessByPlaces};
+ghost use Rattle.capi.specs.Written.{Written, WrittenRoom, SlotsRoom, LivenessByPlaces};
 
-use checks::refusals::{liveness_lists, pack, pack_refusal, room_for};
-use encoding::bytes::{NUMBER, decode, encode, encode_at, places, wipe};
+use checks::refusals::{liveness_lists, pack, pack_refusal, room_for, room_for_rows};
+use encoding::bytes::{NUMBER, decode, encode, encode_at, wipe};
 use lists::ends::Ends;
 use lists::{COMPONENT, COMPONENTS, CONNECTIONS, FRONTIER, FRONTIERS, PORT};
-use liveness::{Analysis, Rows, analyze_signal_liveness};
+use liveness::plot::Plot;
+use liveness::steps::analyze;
+use liveness::{Analysis, Rows};
 use sets::WORDS;
 
 // The sets of an answer.
@@ -25,13 +27,13 @@ const PORT_NUMBERS: usize = CONNECTIONS * PORT;
 
 const FEW_PORT_NUMBERS: usize = PORT_NUMBERS / 4;
 
-// The lists of a scene, with no more components than the limit.
+// A rules number and the lists of a scene.
 #[derive(Clone, Copy)]
 struct Lists<'a> {
+    rules: u64,
     components: &'a [i64],
     ports: &'a [i64],
     frontiers: &'a [i64],
-    ghost few: { component_count components.now ≤ component_limit },
 }
 
 // The counts of an accepted scene as one number.
@@ -77,91 +79,37 @@ fn write_answer(
     pack_counts(analysis.regions, analysis.sources, analysis.inputs)
 }
 
-// The liveness of a scene as bytes, by way of the rows of numbers.
-// Ten parameters: the lent slices would stand in a struct only with a ghost name for what each is left as.
-fn by_rows(
-    lists: &Lists,
-    region_rows: &mut [u64],
-    source_rows: &mut [u64],
-    input_rows: &mut [u64],
-    pairs: &mut [usize],
+// The liveness of an accepted scene as bytes, by way of the rows of numbers.
+fn of_plot(
+    plot: &Plot,
     regions: &mut [u8],
     sources: &mut [u8],
     inputs: &mut [u8],
     sets: &mut [u8],
     stack: &mut [u8],
 ) -> u64
-    requires { RowRoom region_rows.old source_rows.old input_rows.old regions.old sources.old inputs.old sets.old }
-    ensures { let cs = lists.now.components.now in let ps = lists.now.ports.now in let fs = lists.now.frontiers.now in
-        LivenessLaid (liveness_refusal cs ps fs (length region_rows.old)
-        (length source_rows.old) (length input_rows.old) (length pairs.old))
-        cs ps fs regions.old regions.new sources.old sources.new inputs.old inputs.new sets.old sets.new stack.old stack.new result }
-{
-    let analyzed = analyze_signal_liveness(
-        lists.components,
-        lists.ports,
-        lists.frontiers,
-        region_rows,
-        source_rows,
-        input_rows,
-        pairs,
-    );
-    match analyzed {
-        Err(refusal) => pack_refusal(refusal),
-        Ok(analysis) => {
-            let count = lists.components.len() / COMPONENT;
-            let rows = Rows {
-                regions: &region_rows[..count],
-                sources: &source_rows[..analysis.sources * 2],
-                inputs: &input_rows[..analysis.inputs * 3],
-            };
-            write_answer(analysis, &rows, regions, sources, inputs, sets, stack)
-        }
-    }
-}
-
-// The liveness of a scene as bytes. There are no more rows than a scene's components can have, so longer slices give no further places.
-fn by_places(
-    lists: &Lists,
-    regions: &mut [u8],
-    sources: &mut [u8],
-    inputs: &mut [u8],
-    sets: &mut [u8],
-    stack: &mut [u8],
-) -> u64
-    requires { room_for set_count word_count (length sets.old / number_bytes) ≡ true }
-    ensures { LivenessByPlaces lists.now.components.now lists.now.ports.now lists.now.frontiers.now
+    requires { SlotsRoom (component_count plot.now.components.now) regions.old sources.old inputs.old sets.old }
+    ensures { let p = plot.now in LivenessLaid (Ok tt) p.rules p.components.now p.ports.now p.frontiers.now
         regions.old regions.new sources.old sources.new inputs.old inputs.new sets.old sets.new stack.old stack.new result }
 {
     let mut region_rows = [0u64; COMPONENTS];
     let mut source_rows = [0u64; 4 * COMPONENTS];
     let mut input_rows = [0u64; 12 * COMPONENTS];
     let mut pairs = [0usize; 2 * COMPONENTS];
-    let region_places = places(regions.len(), COMPONENTS);
-    let source_places = places(sources.len(), 4 * COMPONENTS);
-    let input_places = places(inputs.len(), 12 * COMPONENTS);
-    let pair_places = places(stack.len(), 2 * COMPONENTS);
-    by_rows(
-        lists,
-        &mut region_rows[..region_places],
-        &mut source_rows[..source_places],
-        &mut input_rows[..input_places],
-        &mut pairs[..pair_places],
-        regions,
-        sources,
-        inputs,
-        sets,
-        stack,
-    )
-}
-
-// The refusal of a scene for whose sets there is no room.
-pub(crate) fn refuse_short(components: &[i64], ports: &[i64], frontiers: &[i64]) -> u64
-    ensures { result ≡ packed (liveness_lists components.now ports.now frontiers.now false) }
-{
-    let mut keys = [0u64; COMPONENTS];
-    let mut ends = [Ends { source: 0, sink: 0 }; CONNECTIONS];
-    pack(liveness_lists(components, ports, frontiers, false, &mut keys, &mut ends))
+    let n = plot.keys.len();
+    let analysis = analyze(
+        plot,
+        &mut region_rows[..n],
+        &mut source_rows[..4 * n],
+        &mut input_rows[..12 * n],
+        &mut pairs[..2 * n],
+    );
+    let rows = Rows {
+        regions: &region_rows[..n],
+        sources: &source_rows[..analysis.sources * 2],
+        inputs: &input_rows[..analysis.inputs * 3],
+    };
+    write_answer(analysis, &rows, regions, sources, inputs, sets, stack)
 }
 
 // The liveness of a scene as bytes.
@@ -173,44 +121,83 @@ fn of_numbers(
     sets: &mut [u8],
     stack: &mut [u8],
 ) -> u64
-    ensures { LivenessByPlaces lists.now.components.now lists.now.ports.now lists.now.frontiers.now
+    ensures { let l = lists.now in LivenessByPlaces l.rules l.components.now l.ports.now l.frontiers.now
         regions.old regions.new sources.old sources.new inputs.old inputs.new sets.old sets.new stack.old stack.new result }
 {
-    if room_for(SETS, WORDS, sets.len() / NUMBER) {
-        return by_places(lists, regions, sources, inputs, sets, stack);
+    let mut keys = [0u64; COMPONENTS];
+    let mut ends = [Ends { source: 0, sink: 0 }; CONNECTIONS];
+    let Lists {
+        rules,
+        components,
+        ports,
+        frontiers,
+    } = *lists;
+    let count = components.len() / COMPONENT;
+    let enough = room_for(SETS, WORDS, sets.len() / NUMBER)
+        & room_for_rows(
+            count,
+            regions.len() / NUMBER,
+            sources.len() / NUMBER,
+            inputs.len() / NUMBER,
+            stack.len() / NUMBER,
+        );
+    let checked = liveness_lists(
+        rules, components, ports, frontiers, enough, &mut keys, &mut ends,
+    );
+    match checked {
+        Err(refusal) => pack_refusal(refusal),
+        Ok(()) => {
+            let plot = Plot {
+                keys: &keys[..count],
+                rules,
+                components,
+                ports,
+                frontiers,
+                ends: &ends,
+            };
+            of_plot(&plot, regions, sources, inputs, sets, stack)
+        }
     }
-    refuse_short(lists.components, lists.ports, lists.frontiers)
+}
+
+// The refusal of a scene for whose sets there is no room.
+pub(crate) fn refuse_short(rules: u64, components: &[i64], ports: &[i64], frontiers: &[i64]) -> u64
+    ensures { result ≡ packed (liveness_lists rules components.now ports.now frontiers.now false) }
+{
+    let mut keys = [0u64; COMPONENTS];
+    let mut ends = [Ends { source: 0, sink: 0 }; CONNECTIONS];
+    pack(liveness_lists(
+        rules, components, ports, frontiers, false, &mut keys, &mut ends,
+    ))
 }
 
 // The liveness of a scene whose port connections are lent as bytes, of at most N numbers: so many are cleared, not as many as there can be.
 fn with_ports<const N: usize>(
-    components: &[i64],
+    lists: &Lists,
     ports: &[u8],
-    frontiers: &[i64],
     regions: &mut [u8],
     sources: &mut [u8],
     inputs: &mut [u8],
     sets: &mut [u8],
     stack: &mut [u8],
 ) -> u64
-    requires components_bound { component_count components.now ≤ component_limit }
-    requires ports_fit { (length ports.now / number_bytes ≤ N) × (N ≤ connection_limit * port_width) }
-    ensures { LivenessByPlaces components.now (numbers ports.now) frontiers.now
+    requires { (length ports.now / number_bytes ≤ N) × (N ≤ connection_limit * port_width) }
+    ensures { let l = lists.now in LivenessByPlaces l.rules l.components.now (numbers ports.now) l.frontiers.now
         regions.old regions.new sources.old sources.new inputs.old inputs.new sets.old sets.new stack.old stack.new result }
 {
     let mut port_numbers = [0i64; N];
     decode(ports, &mut port_numbers);
     let port_count = ports.len() / NUMBER;
     let lists = Lists {
-        components,
         ports: &port_numbers[..port_count],
-        frontiers,
+        ..*lists
     };
     of_numbers(&lists, regions, sources, inputs, sets, stack)
 }
 
 // The liveness of a scene whose lists are whole records within their limits.
 pub(crate) fn of_bytes(
+    rules: u64,
     components: &[u8],
     ports: &[u8],
     frontiers: &[u8],
@@ -220,8 +207,8 @@ pub(crate) fn of_bytes(
     sets: &mut [u8],
     stack: &mut [u8],
 ) -> u64
-    requires { liveness_whole components.now ports.now frontiers.now ≡ (Ok tt) }
-    ensures { LivenessWritten components.now ports.now frontiers.now
+    requires { liveness_whole rules components.now ports.now frontiers.now ≡ (Ok tt) }
+    ensures { LivenessWritten rules components.now ports.now frontiers.now
         regions.old regions.new sources.old sources.new inputs.old inputs.new sets.old sets.new stack.old stack.new result }
 {
     let mut component_numbers = [0i64; COMPONENTS * COMPONENT];
@@ -230,28 +217,16 @@ pub(crate) fn of_bytes(
     decode(frontiers, &mut frontier_numbers);
     let component_count = components.len() / NUMBER;
     let frontier_count = frontiers.len() / NUMBER;
-    let component_list = &component_numbers[..component_count];
-    let frontier_list = &frontier_numbers[..frontier_count];
+    let lists = Lists {
+        rules,
+        components: &component_numbers[..component_count],
+        ports: &[],
+        frontiers: &frontier_numbers[..frontier_count],
+    };
     if ports.len() / NUMBER <= FEW_PORT_NUMBERS {
         return with_ports::<FEW_PORT_NUMBERS>(
-            component_list,
-            ports,
-            frontier_list,
-            regions,
-            sources,
-            inputs,
-            sets,
-            stack,
+            &lists, ports, regions, sources, inputs, sets, stack,
         );
     }
-    with_ports::<PORT_NUMBERS>(
-        component_list,
-        ports,
-        frontier_list,
-        regions,
-        sources,
-        inputs,
-        sets,
-        stack,
-    )
+    with_ports::<PORT_NUMBERS>(&lists, ports, regions, sources, inputs, sets, stack)
 }

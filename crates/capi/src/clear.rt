@@ -1,6 +1,7 @@
 // Clearing up a plot after digging. The lists are lent as numbers and read where they stand.
 ghost use Rattle.std.specs.Prelude.{◌≡◌, ◌+◌, ◌*◌, ◌≤◌};
 ghost use Rattle.lists.specs.Limits.{connection_limit};
+ghost use Rattle.lists.specs.Rules.{rules_of};
 ghost use Rattle.capi.specs.Clear.{ClearByLists};
 
 use checks::refusals::pack_refusal;
@@ -18,15 +19,16 @@ fn pack_counts(cleared: Cleared) -> u64
 // slices.
 #[unsafe(no_mangle)]
 pub extern "C" fn dustroute_clear(
+    rules: i64,
     components: &[i64],
     ports: &[i64],
     frontiers: &[i64],
     kept: &mut [i64],
     dropped: &mut [u64],
 ) -> u64
-    ensures { ClearByLists components.now ports.now frontiers.now kept.old kept.new dropped.old dropped.new result }
+    ensures { ClearByLists (rules_of rules) components.now ports.now frontiers.now kept.old kept.new dropped.old dropped.new result }
 {
-    match clear_missing(components, ports, frontiers, kept, dropped) {
+    match clear_missing(rules, components, ports, frontiers, kept, dropped) {
         Err(refusal) => pack_refusal(refusal),
         Ok(cleared) => pack_counts(cleared),
     }

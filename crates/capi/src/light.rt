@@ -3,10 +3,12 @@ ghost use Rattle.std.specs.Prelude.{◌≡◌, ◌*◌, ◌≤◌, length};
 ghost use Rattle.sets.specs.Members.{word_count};
 ghost use Rattle.lists.specs.Limits.{component_limit};
 ghost use Rattle.lists.specs.Slices.{laid};
+ghost use Rattle.lists.specs.Rules.{rules_of};
 ghost use Rattle.capi.specs.Light.{LightByLists};
 
 use super::alive::refuse_short;
 use checks::refusals::{pack_refusal, room_for};
+use lists::rules::rules_of;
 use lighting::{Lit, light_regions};
 use sets::WORDS;
 
@@ -27,6 +29,7 @@ fn put_lit(answer: Lit, lit: &mut [u64], driven: &mut [u64]) -> u64
 // lent slices. Without room for the sets the lists alone decide on the refusal: 2 comes before 3 to 7.
 #[unsafe(no_mangle)]
 pub extern "C" fn dustroute_light(
+    rules: i64,
     components: &[i64],
     ports: &[i64],
     frontiers: &[i64],
@@ -35,14 +38,14 @@ pub extern "C" fn dustroute_light(
     driven: &mut [u64],
     stack: &mut [usize],
 ) -> u64
-    ensures { LightByLists components.now ports.now frontiers.now
+    ensures { LightByLists (rules_of rules) components.now ports.now frontiers.now
         regions.old regions.new lit.old lit.new driven.old driven.new stack.old stack.new result }
 {
     let room = room_for(1, WORDS, lit.len()) & room_for(1, WORDS, driven.len());
     if !room {
-        return refuse_short(components, ports, frontiers);
+        return refuse_short(rules_of(rules), components, ports, frontiers);
     }
-    match light_regions(components, ports, frontiers, regions, stack) {
+    match light_regions(rules, components, ports, frontiers, regions, stack) {
         Err(refusal) => pack_refusal(refusal),
         Ok(answer) => put_lit(answer, lit, driven),
     }

@@ -2,10 +2,12 @@
 ghost use Rattle.std.specs.Prelude.{◌≡◌, ◌*◌, ◌≤◌, length};
 ghost use Rattle.sets.specs.Members.{word_count, as_nat};
 ghost use Rattle.lists.specs.Slices.{laid};
+ghost use Rattle.lists.specs.Rules.{rules_of};
 ghost use Rattle.capi.specs.OneInput.{DrivenByLists};
 
 use super::alive::refuse_short;
 use checks::refusals::{pack_refusal, room_for};
+use lists::rules::rules_of;
 use driven::{DrivenInput, is_driven};
 use sets::WORDS;
 
@@ -23,6 +25,7 @@ fn put_driven(answer: DrivenInput, met: &mut [u64]) -> u64
 // Without room for the set the lists alone decide on the refusal: 2 comes before 8, and before 3 to 7.
 #[unsafe(no_mangle)]
 pub extern "C" fn dustroute_driven(
+    rules: i64,
     components: &[i64],
     ports: &[i64],
     frontiers: &[i64],
@@ -31,12 +34,12 @@ pub extern "C" fn dustroute_driven(
     met: &mut [u64],
     stack: &mut [usize],
 ) -> u64
-    ensures { DrivenByLists components.now ports.now frontiers.now id port met.old met.new stack.old stack.new result }
+    ensures { DrivenByLists (rules_of rules) components.now ports.now frontiers.now id port met.old met.new stack.old stack.new result }
 {
     if !room_for(1, WORDS, met.len()) {
-        return refuse_short(components, ports, frontiers);
+        return refuse_short(rules_of(rules), components, ports, frontiers);
     }
-    match is_driven(components, ports, frontiers, id, port, stack) {
+    match is_driven(rules, components, ports, frontiers, id, port, stack) {
         Err(refusal) => pack_refusal(refusal),
         Ok(answer) => put_driven(answer, met),
     }

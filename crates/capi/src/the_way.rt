@@ -1,4 +1,5 @@
 // The way from a drive source to one input, and the check of a way. The lists are lent as numbers and read where they stand.
+ghost use Rattle.lists.specs.Rules.{rules_of};
 ghost use Rattle.capi.specs.TheWay.{TrailByLists, CheckByLists};
 
 use checks::refusals::pack_refusal;
@@ -7,6 +8,7 @@ use trail::{check_trail, find_trail};
 // The ids of the best trail of a port of the component with the id, at the front of the lent slice; answers how many.
 #[unsafe(no_mangle)]
 pub extern "C" fn dustroute_trail(
+    rules: i64,
     components: &[i64],
     ports: &[i64],
     frontiers: &[i64],
@@ -14,9 +16,9 @@ pub extern "C" fn dustroute_trail(
     port: u64,
     trail: &mut [u64],
 ) -> u64
-    ensures { TrailByLists components.now ports.now frontiers.now id port trail.old trail.new result }
+    ensures { TrailByLists (rules_of rules) components.now ports.now frontiers.now id port trail.old trail.new result }
 {
-    match find_trail(components, ports, frontiers, id, port, trail) {
+    match find_trail(rules, components, ports, frontiers, id, port, trail) {
         Err(refusal) => pack_refusal(refusal),
         Ok(count) => 65536 * count as u64,
     }
@@ -25,6 +27,7 @@ pub extern "C" fn dustroute_trail(
 // Whether a list of ids is a trail of the port: 1 for yes, 0 for no.
 #[unsafe(no_mangle)]
 pub extern "C" fn dustroute_check_trail(
+    rules: i64,
     components: &[i64],
     ports: &[i64],
     frontiers: &[i64],
@@ -32,9 +35,9 @@ pub extern "C" fn dustroute_check_trail(
     port: u64,
     trail: &[u64],
 ) -> u64
-    ensures { CheckByLists components.now ports.now frontiers.now id port trail.now result }
+    ensures { CheckByLists (rules_of rules) components.now ports.now frontiers.now id port trail.now result }
 {
-    match check_trail(components, ports, frontiers, id, port, trail) {
+    match check_trail(rules, components, ports, frontiers, id, port, trail) {
         Err(refusal) => pack_refusal(refusal),
         Ok(yes) => 65536 * u64::from(yes),
     }

@@ -1,7 +1,8 @@
 -- What the checks answer fits one number (`Small`): the item of a refusal is at most its list's limit. Numbers 3 to 7 are reached only
 -- where number 1 passed, so that their items are below a limit.
 --     small_or_else                        a chain of two checks
---     whole_small                          number 1
+--     strange_small                        number 11
+--     rules_small, whole_small             numbers 11 and 1
 --     grouping_small, liveness_small       the checks of the lists
 -- Assumes nothing.
 use Rattle.lists.specs.declared.Fault.{Fault}
@@ -103,6 +104,12 @@ rules_item rules = record { item = λ k e. go (known_rules rules) k e }
     go : (b : Bool) (k : ℕ) → cond b None (Some 0) ≡ Some k → k ≤ 0
     go true k e = let z : ◌≡◌ {A = ℕ} 0 1 = cc in absurd (omega arith)
     go false k e = omega (arith, same_item e)
+
+pub strange_small : (rules : ℕ) → Small (refuse Fault.UnknownRules None (strange_rules rules))
+strange_small rules = (fit_refuse Fault.UnknownRules None (rules_item rules) (lit≤ tt)).small
+
+pub rules_small : (rules : ℕ) → Small (refuse Fault.UnknownRules None (strange_rules rules))
+rules_small rules = (fit_refuse Fault.UnknownRules None (rules_item rules) (lit≤ tt)).small
 
 range_item : (low high list : List ℤ) → AtMost (length list / length low) (first_out_of_range low high list)
 unfolding first_out_of_range

@@ -115,10 +115,14 @@ numbers_by (Err r) counts = refusal_numbers r
 
 -- ---- an answer as one number
 
+-- the forty-eight bits above the number and the list
+abbrev pub item_limit : ℕ
+item_limit = 281474976710655
+
 -- the item of a refusal has room in its digits
 abbrev pub Small : Result ⊤ Refusal → Type 0
 Small (Ok tt) = Unit
-Small (Err r) = r.item ≤ connection_limit
+Small (Err r) = r.item ≤ item_limit
 
 -- 0 where the checks accept, else the number, the list and the item, from the lowest digits on
 abbrev pub packed : Result ⊤ Refusal → ℕ

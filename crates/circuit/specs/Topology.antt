@@ -76,12 +76,12 @@ pub record GroupedBy (cs ps : List ℤ) (nets nets' fragments fragments' : List 
   pub net_count_lem : r.nets ≡ net_count cs ps
   pub fragment_count_lem : r.fragments ≡ fragment_count cs ps
 
--- from components cs, grouping connections ps and two lent slices
-pub record Grouped (cs ps : List ℤ) (nets nets' fragments fragments' : List ℕ) (r : Result Counts Refusal) : Type 0 where
-  pub answer : r ≡ answer_of (grouping_refusal cs ps (length nets) (length fragments)) (net_count cs ps) (fragment_count cs ps)
-  pub numbers : numbers_of r ≡ numbers_by (grouping_refusal cs ps (length nets) (length fragments)) (net_count cs ps ∷ fragment_count cs ps ∷ [])
-  pub nets_left : nets' ≡ left_of (grouping_refusal cs ps (length nets) (length fragments)) (nets_of cs ps) nets
-  pub fragments_left : fragments' ≡ left_of (grouping_refusal cs ps (length nets) (length fragments)) (fragments_of cs ps) fragments
+-- from a rules number, components cs, grouping connections ps and two lent slices
+pub record Grouped (rules : ℕ) (cs ps : List ℤ) (nets nets' fragments fragments' : List ℕ) (r : Result Counts Refusal) : Type 0 where
+  pub answer : r ≡ answer_of (grouping_refusal rules cs ps (length nets) (length fragments)) (net_count cs ps) (fragment_count cs ps)
+  pub numbers : numbers_of r ≡ numbers_by (grouping_refusal rules cs ps (length nets) (length fragments)) (net_count cs ps ∷ fragment_count cs ps ∷ [])
+  pub nets_left : nets' ≡ left_of (grouping_refusal rules cs ps (length nets) (length fragments)) (nets_of cs ps) nets
+  pub fragments_left : fragments' ≡ left_of (grouping_refusal rules cs ps (length nets) (length fragments)) (fragments_of cs ps) fragments
 
 -- ---- a fragment's nets
 

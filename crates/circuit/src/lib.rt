@@ -9,9 +9,11 @@ pub mod settle;
 ghost use Rattle.std.specs.Prelude.{◌≡◌, ◌&&◌, ◌||◌, ℕ, ◌<◌, eqb};
 ghost use Rattle.sets.specs.Members.{member_of};
 ghost use Rattle.lists.specs.Limits.{component_limit};
+ghost use Rattle.lists.specs.Rules.{rules_of};
 ghost use Rattle.circuit.specs.Topology.{Grouped, shares_member};
 
 use checks::refusals::{grouping_lists, room_for_groups};
+use lists::rules::rules_of;
 use lists::views::ConnectionList;
 use lists::{COMPONENT, COMPONENTS, Refusal};
 use sets::ComponentSet;
@@ -23,19 +25,22 @@ pub struct Counts {
     pub fragments: usize,
 }
 
-// The number of each component's net and fragment, in list order, at the front of the lent slices.
-pub fn from_parts(
+// The number of each component's net and fragment, in list order, at the front of the lent slices. Groups are the same under all
+// rules, whose number is only checked.
+pub fn from_lists(
+    rules: u64,
     components: &[i64],
     connections: &[i64],
     nets: &mut [u64],
     fragments: &mut [u64],
 ) -> Result<Counts, Refusal>
-    ensures { Grouped components.now connections.now nets.old nets.new fragments.old fragments.new result }
+    ensures { Grouped rules components.now connections.now nets.old nets.new fragments.old fragments.new result }
 {
     let mut keys = [0u64; COMPONENTS];
     let count = components.len() / COMPONENT;
     let enough = room_for_groups(count, nets.len(), fragments.len());
     grouping_lists(
+        rules,
         components,
         connections,
         &connections[..0],
@@ -46,6 +51,19 @@ pub fn from_parts(
         numbers: connections,
     };
     Ok(settle::group(&keys[..count], accepted, nets, fragments))
+}
+
+// The same, where the rules number is any of 64 bits.
+pub fn from_parts(
+    rules: i64,
+    components: &[i64],
+    connections: &[i64],
+    nets: &mut [u64],
+    fragments: &mut [u64],
+) -> Result<Counts, Refusal>
+    ensures { Grouped (rules_of rules) components.now connections.now nets.old nets.new fragments.old fragments.new result }
+{
+    from_lists(rules_of(rules), components, connections, nets, fragments)
 }
 
 // The set with the net put in, where it is a member's and the test says so.

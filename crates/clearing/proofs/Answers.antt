@@ -39,14 +39,14 @@ use Rattle.clearing.proofs.Promises.{none_dropped, whole_back, cleared_scene, fr
 
 -- ---- where the liveness entry refuses with 7
 
-module _ (cs ps fs : List ℤ) (enough : Bool) (r : Refusal) (e : liveness_lists cs ps fs enough ≡ Err r) (seven : fault_number r.fault ≡ 7) where
-  pub seven_cleared : liveness_lists cs (kept_rows cs ps) fs enough ≡ Ok tt
+module _ (rules : ℕ) (cs ps fs : List ℤ) (enough : Bool) (r : Refusal) (e : liveness_lists rules cs ps fs enough ≡ Err r) (seven : fault_number r.fault ≡ 7) where
+  pub seven_cleared : liveness_lists rules cs (kept_rows cs ps) fs enough ≡ Ok tt
   seven_cleared =
-      let s = scene_accept cs port_width (length ps) (first_out_of_range port_low port_high ps) fs enough (seven_means cs ps fs enough r e seven).0 in
-      (cleared_scene cs ps fs enough s).accepted enough ∙ ap (λ (t : Bool). refuse Fault.ShortSlice None (too_short t)) s.lengths.room
+      let s = scene_accept rules cs port_width (length ps) (first_out_of_range port_low port_high ps) fs enough (seven_means rules cs ps fs enough r e seven).0 in
+      (cleared_scene rules cs ps fs enough s).accepted enough ∙ ap (λ (t : Bool). refuse Fault.ShortSlice None (too_short t)) s.lengths.room
 
   pub seven_first : (rest : List ℕ) × (dropped_items cs ps ≡ r.item ∷ rest)
-  seven_first = first_dropped cs ps r.item (seven_means cs ps fs enough r e seven).1
+  seven_first = first_dropped cs ps r.item (seven_means rules cs ps fs enough r e seven).1
 
 -- ---- what an accepted call left
 
@@ -59,7 +59,7 @@ accepts : {A : Type 0} (r : Result A Refusal) → checked r ≡ Ok tt → (a : A
 accepts (Ok a) e = (a, refl)
 accepts (Err r) e = absurd (refused_not e)
 
-module _ {cs ps fs kept kept' : List ℤ} {dropped dropped' : List ℕ} {c : Cleared} (call : Clears cs ps fs kept kept' dropped dropped' (Ok c)) where
+module _ {rules : ℕ} {cs ps fs kept kept' : List ℤ} {dropped dropped' : List ℕ} {c : Cleared} (call : Clears rules cs ps fs kept kept' dropped dropped' (Ok c)) where
   -- the parts of the answer, of a scene that is taken
   taken : ClearsBy (Ok tt) cs ps kept kept' dropped dropped' (Ok c)
   taken = rw (sym call.by.answer) at call.by
@@ -72,7 +72,7 @@ module _ {cs ps fs kept kept' : List ℤ} {dropped dropped' : List ℕ} {c : Cle
 
   -- the liveness entry takes these rows, given room
   module _ {regions regions' sources sources' inputs inputs' stack stack' : List ℕ} {r : Result Analysis Refusal}
-      (a : Analyzed cs (kept_front c kept') fs regions regions' sources sources' inputs inputs' stack stack' r)
+      (a : Analyzed rules cs (kept_front c kept') fs regions regions' sources sources' inputs inputs' stack stack' r)
       (room : liveness_room cs (length regions) (length sources) (length inputs) (length stack) ≡ true) where
     pub liveness_accepts : checked r ≡ Ok tt
     liveness_accepts = a.by.answer ∙ (call.promise.accepted _ ∙ ap (λ (t : Bool). refuse Fault.ShortSlice None (too_short t)) room)
@@ -84,17 +84,17 @@ module _ {cs ps fs kept kept' : List ℤ} {dropped dropped' : List ℕ} {c : Cle
 
   -- and where it refuses the given list with 7, the first number of the dropped list is its item
   pub first_item : {regions regions' sources sources' inputs inputs' stack stack' : List ℕ} {r : Refusal}
-      → Analyzed cs ps fs regions regions' sources sources' inputs inputs' stack stack' (Err r) → fault_number r.fault ≡ 7
+      → Analyzed rules cs ps fs regions regions' sources sources' inputs inputs' stack stack' (Err r) → fault_number r.fault ≡ 7
       → get_or dropped' 0 0 ≡ r.item
   first_item {r = r} a seven =
-      let (rest, e) = seven_first cs ps fs _ r (sym a.by.answer) seven in
+      let (rest, e) = seven_first rules cs ps fs _ r (sym a.by.answer) seven in
       ap (λ (l : List ℕ). get_or l 0 0) (taken.dropped_left ∙ ap (λ (items : List ℕ). laid (flat_map (dropped_row cs ps) items) dropped) e)
 
   -- a scene with no fault
-  pub no_fault_back : liveness_lists cs ps fs (clearing_room ps (length kept) (length dropped)) ≡ Ok tt
+  pub no_fault_back : liveness_lists rules cs ps fs (clearing_room ps (length kept) (length dropped)) ≡ Ok tt
       → (kept_front c kept' ≡ ps) × (c.dropped ≡ 0) × (dropped' ≡ dropped)
   no_fault_back e =
-      let s = liveness_accept cs ps fs _ e in
+      let s = liveness_accept rules cs ps fs _ e in
       let none = none_dropped cs ps s.ends in (
         kept_are ∙ whole_back cs ps s.ends s.scene.lengths.connections_whole,
         taken.counts.dropped_count ∙ ap length none,
@@ -112,16 +112,16 @@ pub record Again (kept' : List ℤ) (c : Cleared) (kept₂' : List ℤ) (dropped
   pub rows_same : kept_front counts kept₂' ≡ kept_front c kept'
   pub dropped_same : dropped₂' ≡ dropped₂
 
-module _ {cs ps fs kept kept' : List ℤ} {dropped dropped' : List ℕ} {c : Cleared} (call : Clears cs ps fs kept kept' dropped dropped' (Ok c))
-    {kept₂ kept₂' : List ℤ} {dropped₂ dropped₂' : List ℕ} {r₂ : Result Cleared Refusal} (call₂ : Clears cs (kept_front c kept') fs kept₂ kept₂' dropped₂ dropped₂' r₂)
+module _ {rules : ℕ} {cs ps fs kept kept' : List ℤ} {dropped dropped' : List ℕ} {c : Cleared} (call : Clears rules cs ps fs kept kept' dropped dropped' (Ok c))
+    {kept₂ kept₂' : List ℤ} {dropped₂ dropped₂' : List ℕ} {r₂ : Result Cleared Refusal} (call₂ : Clears rules cs (kept_front c kept') fs kept₂ kept₂' dropped₂ dropped₂' r₂)
     (room : clearing_room (kept_front c kept') (length kept₂) (length dropped₂) ≡ true) where
-  again_accepts : liveness_lists cs (kept_front c kept') fs (clearing_room (kept_front c kept') (length kept₂) (length dropped₂)) ≡ Ok tt
+  again_accepts : liveness_lists rules cs (kept_front c kept') fs (clearing_room (kept_front c kept') (length kept₂) (length dropped₂)) ≡ Ok tt
   again_accepts = call.promise.accepted _ ∙ ap (λ (t : Bool). refuse Fault.ShortSlice None (too_short t)) room
 
   pub again : Again kept' c kept₂' dropped₂ dropped₂' r₂
   again =
       let (counts, e) = accepts r₂ (call₂.by.answer ∙ ap except_missing again_accepts) in
-      let second : Clears cs (kept_front c kept') fs kept₂ kept₂' dropped₂ dropped₂' (Ok counts) = rw e at call₂ in
+      let second : Clears rules cs (kept_front c kept') fs kept₂ kept₂' dropped₂ dropped₂' (Ok counts) = rw e at call₂ in
       let (rows, none, same) = no_fault_back second again_accepts in
       record {
         counts = counts;

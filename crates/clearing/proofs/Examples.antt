@@ -14,7 +14,7 @@ use Rattle.lists.specs.First.{first_from, all_from, tabulate}
 use Rattle.lists.specs.Ranges.{record_in_range, first_out_of_range}
 use Rattle.lists.specs.Order.{record_before, first_not_ascending}
 use Rattle.lists.specs.Ids.{place_below, first_repeated, first_end_missing, smaller_ids}
-use Rattle.checks.specs.Refusals.{refuse, not_whole, liveness_lists}
+use Rattle.checks.specs.Refusals.{refuse, not_whole, scene_lists, liveness_lists}
 use Rattle.regions.specs.Graph as graph
 use Rattle.regions.specs.Kosaraju as walk
 use Rattle.signals.specs.Signals.{signals}
@@ -39,13 +39,13 @@ saved = feed 0 1 0 ++ feed 1 2 0 ++ feed 9 0 0
 abbrev straight : List ℤ
 straight = feed 0 1 0 ++ feed 1 2 0
 
-saved_refused : liveness_lists plot saved [] true ≡ refuse Fault.MissingEnd (Some Section.Connections) (Some 2)
-unfolding first_from all_from record_in_range first_out_of_range record_before first_not_ascending place_below first_repeated first_end_missing not_whole liveness_lists
+saved_refused : liveness_lists 1 plot saved [] true ≡ refuse Fault.MissingEnd (Some Section.Connections) (Some 2)
+unfolding first_from all_from record_in_range first_out_of_range record_before first_not_ascending place_below first_repeated first_end_missing not_whole scene_lists liveness_lists
 saved_refused = refl
 
 -- fifteen and six numbers are lent
-saved_taken : clear_refusal plot saved [] 15 6 ≡ Ok tt
-unfolding first_from all_from record_in_range first_out_of_range record_before first_not_ascending place_below first_repeated first_end_missing not_whole liveness_lists
+saved_taken : clear_refusal 1 plot saved [] 15 6 ≡ Ok tt
+unfolding first_from all_from record_in_range first_out_of_range record_before first_not_ascending place_below first_repeated first_end_missing not_whole scene_lists liveness_lists
 saved_taken = refl
 
 saved_kept : kept_rows plot saved ≡ straight
@@ -57,8 +57,8 @@ saved_dropped : dropped_rows plot saved ≡ 2 ∷ 0 ∷ []
 unfolding first_from place_below
 saved_dropped = refl
 
-straight_accepted : liveness_lists plot straight [] true ≡ Ok tt
-unfolding first_from all_from record_in_range first_out_of_range record_before first_not_ascending place_below first_repeated first_end_missing not_whole liveness_lists
+straight_accepted : liveness_lists 1 plot straight [] true ≡ Ok tt
+unfolding first_from all_from record_in_range first_out_of_range record_before first_not_ascending place_below first_repeated first_end_missing not_whole scene_lists liveness_lists
 straight_accepted = refl
 
 three_regions : region_count plot straight ≡ 3
@@ -70,13 +70,18 @@ unfolding count_below first_from tabulate place_below smaller_ids graph.range gr
 none_cyclic = refl
 
 -- one place short of either list: number 2, before all that is asked of the records
-short_kept : clear_refusal plot saved [] 14 6 ≡ refuse Fault.ShortSlice None (Some 0)
-unfolding not_whole liveness_lists
+short_kept : clear_refusal 1 plot saved [] 14 6 ≡ refuse Fault.ShortSlice None (Some 0)
+unfolding not_whole scene_lists liveness_lists
 short_kept = refl
 
-short_dropped : clear_refusal plot saved [] 15 5 ≡ refuse Fault.ShortSlice None (Some 0)
-unfolding not_whole liveness_lists
+short_dropped : clear_refusal 1 plot saved [] 15 5 ≡ refuse Fault.ShortSlice None (Some 0)
+unfolding not_whole scene_lists liveness_lists
 short_dropped = refl
+
+-- and rules that there are not: number 11, before that
+strange_rules_first : clear_refusal 0 plot saved [] 14 5 ≡ refuse Fault.UnknownRules None (Some 0)
+unfolding scene_lists liveness_lists
+strange_rules_first = refl
 
 -- a row of each kind: a sink, both ends and both ends of one id are missing; a support connection with missing ends stays
 abbrev mixed : List ℤ

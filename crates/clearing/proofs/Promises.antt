@@ -29,7 +29,7 @@ use Rattle.lists.specs.Ranges.{first_out_of_range, port_low, port_high}
 use Rattle.lists.specs.Ids.{support_transfer, end_missing, first_end_missing}
 use Rattle.lists.specs.Slices.{laid}
 use Rattle.lists.proofs.Search.{none_found, found_at}
-use Rattle.checks.specs.Refusals.{refuse, not_whole, too_short, liveness_lists}
+use Rattle.checks.specs.Refusals.{refuse, not_whole, too_short, scene_lists, liveness_lists}
 use Rattle.checks.proofs.Accepts.{Scene, scene_accept}
 use Rattle.clearing.specs.Parts.{port_row, kept_items, dropped_items, kept_rows}
 use Rattle.clearing.specs.Promises.{ClearedScene, times, Partition}
@@ -69,12 +69,13 @@ whole : (width limit n : ℕ) → n / width ≤ limit → n % width ≡ 0 → no
 unfolding not_whole
 whole width limit n h e = rw (le-ltb limit (n / width) h, eq-eqb (n % width) 0 e)
 
-only_short : (enough : Bool) → (cs ps fs : List ℤ)
-    → Scene cs port_width (length ps) (first_out_of_range port_low port_high ps) fs true → first_end_missing cs ps ≡ None
-    → liveness_lists cs ps fs enough ≡ refuse Fault.ShortSlice None (too_short enough)
-unfolding liveness_lists
-only_short true cs ps fs s e =
+only_short : (enough : Bool) → (rules : ℕ) (cs ps fs : List ℤ)
+    → Scene rules cs port_width (length ps) (first_out_of_range port_low port_high ps) fs true → first_end_missing cs ps ≡ None
+    → liveness_lists rules cs ps fs enough ≡ refuse Fault.ShortSlice None (too_short enough)
+unfolding liveness_lists scene_lists
+only_short true rules cs ps fs s e =
     rw (
+      s.lengths.known,
       whole component_width component_limit (length cs) s.lengths.components_few s.lengths.components_whole,
       whole port_width connection_limit (length ps) s.lengths.connections_few s.lengths.connections_whole,
       whole frontier_width frontier_limit (length fs) s.lengths.frontiers_few s.lengths.frontiers_whole,
@@ -85,17 +86,19 @@ only_short true cs ps fs s e =
       s.once,
       e,
     )
-only_short false cs ps fs s e =
+only_short false rules cs ps fs s e =
     rw (
+      s.lengths.known,
       whole component_width component_limit (length cs) s.lengths.components_few s.lengths.components_whole,
       whole port_width connection_limit (length ps) s.lengths.connections_few s.lengths.connections_whole,
       whole frontier_width frontier_limit (length fs) s.lengths.frontiers_few s.lengths.frontiers_whole,
     )
 
-module _ (cs ps fs : List ℤ) (enough : Bool) (s : Scene cs port_width (length ps) (first_out_of_range port_low port_high ps) fs enough) where
-  kept_scene : Scene cs port_width (length (kept_rows cs ps)) (first_out_of_range port_low port_high (kept_rows cs ps)) fs true
+module _ (rules : ℕ) (cs ps fs : List ℤ) (enough : Bool) (s : Scene rules cs port_width (length ps) (first_out_of_range port_low port_high ps) fs enough) where
+  kept_scene : Scene rules cs port_width (length (kept_rows cs ps)) (first_out_of_range port_low port_high (kept_rows cs ps)) fs true
   kept_scene = record {
     lengths = record {
+      known = s.lengths.known;
       components_few = s.lengths.components_few;
       components_whole = s.lengths.components_whole;
       connections_few = omega (arith, kept_few cs ps, s.lengths.connections_few);
@@ -113,9 +116,9 @@ module _ (cs ps fs : List ℤ) (enough : Bool) (s : Scene cs port_width (length 
     once = s.once;
   }
 
-  pub cleared_scene : ClearedScene cs (kept_rows cs ps) fs
+  pub cleared_scene : ClearedScene rules cs (kept_rows cs ps) fs
   cleared_scene = record {
-    accepted = λ t. only_short t cs (kept_rows cs ps) fs kept_scene (kept_no_missing cs ps);
+    accepted = λ t. only_short t rules cs (kept_rows cs ps) fs kept_scene (kept_no_missing cs ps);
     again_dropped = none_dropped cs (kept_rows cs ps) (kept_no_missing cs ps);
     again_kept = whole_back cs (kept_rows cs ps) (kept_no_missing cs ps) (kept_whole cs ps);
   }
@@ -162,11 +165,11 @@ counts_sum cs ps =
     )
 
 -- of a scene that is taken neither is more than a list may have
-pub taken_few : (cs ps fs : List ℤ) (kept dropped : ℕ) → clear_refusal cs ps fs kept dropped ≡ Ok tt
+pub taken_few : (rules : ℕ) (cs ps fs : List ℤ) (kept dropped : ℕ) → clear_refusal rules cs ps fs kept dropped ≡ Ok tt
     → (length (kept_items cs ps) ≤ connection_limit) × (length (dropped_items cs ps) ≤ connection_limit)
-taken_few cs ps fs kept dropped e =
+taken_few rules cs ps fs kept dropped e =
     let found = first_out_of_range port_low port_high ps in
-    let s = scene_accept cs port_width (length ps) found fs (clearing_room ps kept dropped) (sym (scene_only cs ps fs _) ∙ e) in
+    let s = scene_accept rules cs port_width (length ps) found fs (clearing_room ps kept dropped) (sym (scene_only rules cs ps fs _) ∙ e) in
     (omega (arith, counts_sum cs ps, s.lengths.connections_few), omega (arith, counts_sum cs ps, s.lengths.connections_few))
 
 -- ---- the first dropped item

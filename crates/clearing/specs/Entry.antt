@@ -22,9 +22,9 @@ except_missing (Err r) = cond (eqb (fault_number r.fault) 7) (Ok tt) (Err r)
 abbrev pub clearing_room : List ℤ → ℕ → ℕ → Bool
 clearing_room ps kept dropped = room_for (port_count ps) port_width kept && room_for (port_count ps) dropped_width dropped
 
--- given how many numbers each lent list has: the faults of the liveness entry, with number 2 for these two lists in its turn
-abbrev pub clear_refusal : List ℤ → List ℤ → List ℤ → ℕ → ℕ → Result ⊤ Refusal
-clear_refusal cs ps fs kept dropped = except_missing (liveness_lists cs ps fs (clearing_room ps kept dropped))
+-- given a rules number and how many numbers each lent list has: the faults of the liveness entry, with number 2 for these two lists in its turn
+abbrev pub clear_refusal : ℕ → List ℤ → List ℤ → List ℤ → ℕ → ℕ → Result ⊤ Refusal
+clear_refusal rules cs ps fs kept dropped = except_missing (liveness_lists rules cs ps fs (clearing_room ps kept dropped))
 
 -- how many are kept, and how many dropped
 pub record CountsOf (cs ps : List ℤ) (c : Cleared) : Type 0 where
@@ -39,8 +39,8 @@ pub record ClearsBy (checks : Result ⊤ Refusal) (cs ps kept kept' : List ℤ) 
   pub kept_left : kept' ≡ left_of checks (kept_rows cs ps) kept
   pub dropped_left : dropped' ≡ left_of checks (dropped_rows cs ps) dropped
 
--- from components, port connections, frontiers and two lent lists
-pub record Clears (cs ps fs kept kept' : List ℤ) (dropped dropped' : List ℕ) (r : Result Cleared Refusal) : Type 0 where
-  pub by : ClearsBy (clear_refusal cs ps fs (length kept) (length dropped)) cs ps kept kept' dropped dropped' r
+-- from a rules number, components, port connections, frontiers and two lent lists
+pub record Clears (rules : ℕ) (cs ps fs kept kept' : List ℤ) (dropped dropped' : List ℕ) (r : Result Cleared Refusal) : Type 0 where
+  pub by : ClearsBy (clear_refusal rules cs ps fs (length kept) (length dropped)) cs ps kept kept' dropped dropped' r
   -- what is promised, of the port connections that were left at the front of the kept list
-  pub promise : IfOk r (λ c. ClearedScene cs (take (c.kept * port_width) kept') fs)
+  pub promise : IfOk r (λ c. ClearedScene rules cs (take (c.kept * port_width) kept') fs)

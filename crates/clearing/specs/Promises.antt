@@ -12,9 +12,9 @@ use Rattle.lists.specs.Ids.{support_transfer, end_missing}
 use Rattle.checks.specs.Refusals.{refuse, too_short, liveness_lists}
 use Rattle.clearing.specs.Parts.{kept_items, dropped_items, kept_rows}
 
-pub record ClearedScene (cs ps fs : List ℤ) : Type 0 where
+pub record ClearedScene (rules : ℕ) (cs ps fs : List ℤ) : Type 0 where
   -- "the cleared scene is accepted": of the liveness entry's numbers only 2 is left, for slices that are lent to it too short
-  pub accepted : (enough : Bool) → liveness_lists cs ps fs enough ≡ refuse Fault.ShortSlice None (too_short enough)
+  pub accepted : (enough : Bool) → liveness_lists rules cs ps fs enough ≡ refuse Fault.ShortSlice None (too_short enough)
   -- "the tool run again drops nothing", and gives the same list
   pub again_dropped : dropped_items cs ps ≡ []
   pub again_kept : kept_rows cs ps ≡ ps

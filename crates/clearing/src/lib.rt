@@ -5,6 +5,7 @@ ghost use Rattle.std.specs.Prelude.{◌≡◌, ◌*◌, ◌≤◌, ◌<◌, leng
 ghost use Rattle.lists.specs.Limits.{port_width, id_limit};
 ghost use Rattle.lists.specs.Records.{port_count};
 ghost use Rattle.lists.specs.Ids.{has_component, IdTable};
+ghost use Rattle.lists.specs.Rules.{rules_of};
 ghost use Rattle.clearing.specs.Parts.{missing_number, dropped_width};
 ghost use Rattle.clearing.specs.Entry.{Clears};
 ghost use Rattle.clearing.specs.Written.{fate_of, PartedFor};
@@ -14,6 +15,7 @@ use checks::ranges::PORT_RANGES;
 use checks::refusals::{refuse_scene, room_for};
 use lists::hints::{Hints, SLOTS, hint_ids, place_near};
 use lists::ids::SUPPORT;
+use lists::rules::rules_of;
 use lists::views::PortList;
 use lists::{COMPONENT, COMPONENTS, PORT, Refusal};
 
@@ -99,21 +101,25 @@ fn part(keys: &[u64], ports: PortList, kept: &mut [i64], dropped: &mut [u64]) ->
     }
 }
 
-// The port connections that name no missing block, at the front of `kept`, and the items of those that do, at the front of `dropped`.
+// The port connections that name no missing block, at the front of `kept`, and the items of those that do, at the front of
+// `dropped`. Which these are is the same under all rules, whose number is only checked.
 pub fn clear_missing(
+    rules: i64,
     components: &[i64],
     ports: &[i64],
     frontiers: &[i64],
     kept: &mut [i64],
     dropped: &mut [u64],
 ) -> Result<Cleared, Refusal>
-    ensures { Clears components.now ports.now frontiers.now kept.old kept.new dropped.old dropped.new result }
+    ensures { Clears (rules_of rules) components.now ports.now frontiers.now kept.old kept.new dropped.old dropped.new result }
 {
+    let rules = rules_of(rules);
     let mut keys = [0u64; COMPONENTS];
     let places = ports.len() / PORT;
     let enough = room_for(places, PORT, kept.len()) & room_for(places, DROPPED, dropped.len());
     let found = PORT_RANGES.first_outside(ports);
     refuse_scene(
+        rules,
         components,
         PORT,
         ports.len(),

@@ -96,7 +96,10 @@ module _ (cs ps fs : List ℤ) (scene : Scene cs ps) (p port : ℕ) where
   pub driven_laws : DrivenLaws cs ps fs p port
   unfolding upstream_from upstream
   driven_laws = record {
-    status = (λ e. fed_zero cs ps fs p port (driving_fed (laws.stops.0 e)), λ e. laws.stops.1 (fed_driving (zero_fed cs ps fs p port e)));
+    status = λ rules. (
+      λ e. fed_zero cs ps fs p port rules (driving_fed (laws.stops.0 e)),
+      λ e. laws.stops.1 (fed_driving (zero_fed cs ps fs p port rules e)),
+    );
     met_upstream = laws.met_reached;
     one_drive = laws.one_goal;
     all_met = laws.all_met;
@@ -115,15 +118,15 @@ in-set {n} l long s k =
     (λ (here : k < n). rw (lt-ltb k n here))
     (order? n k)
 
-module _ {cs ps fs : List ℤ} {id port : ℕ} {stack stack' : List ℕ} {r : DrivenInput} (a : Asked cs ps fs id port stack stack' (Ok r)) where
-  checks : input_refusal cs ps fs id port (length stack) ≡ Ok tt
+module _ {rules : ℕ} {cs ps fs : List ℤ} {id port : ℕ} {stack stack' : List ℕ} {r : DrivenInput} (a : Asked rules cs ps fs id port stack stack' (Ok r)) where
+  checks : input_refusal rules cs ps fs id port (length stack) ≡ Ok tt
   checks = sym a.by.answer
 
-  parts : (query_refusal cs ps fs (length stack) ≡ Ok tt) × (refuse Fault.NoVerdictRow None (too_short (is_found (row_place cs id port))) ≡ Ok tt)
-  parts = both_accept (query_refusal cs ps fs (length stack)) (refuse Fault.NoVerdictRow None (too_short (is_found (row_place cs id port)))) checks
+  parts : (query_refusal rules cs ps fs (length stack) ≡ Ok tt) × (refuse Fault.NoVerdictRow None (too_short (is_found (row_place cs id port))) ≡ Ok tt)
+  parts = both_accept (query_refusal rules cs ps fs (length stack)) (refuse Fault.NoVerdictRow None (too_short (is_found (row_place cs id port)))) checks
 
   scene : Scene cs ps
-  scene = scene_of_lem (liveness_accept cs ps fs (room_for (component_count cs) 2 (length stack)) parts.0)
+  scene = scene_of_lem (liveness_accept rules cs ps fs (room_for (component_count cs) 2 (length stack)) parts.0)
 
   answered : (p : ℕ) → row_place cs id port ≡ Some p → AnswerLaws cs ps fs id port r
   answered p e =
@@ -134,10 +137,10 @@ module _ {cs ps fs : List ℤ} {id port : ℕ} {stack stack' : List ℕ} {r : Dr
       record {
         place = p;
         row = e;
-        status = (λ h. laws.status.0 (sym yes ∙ h), λ h. yes ∙ laws.status.1 h);
-        reported = (
-          λ h. subst (λ (s : ℕ). HasRow id port s (input_rows cs ps fs)) (laws.status.0 (sym yes ∙ h)) (row_there cs ps fs id port p e),
-          λ h. yes ∙ laws.status.1 (row_status cs ps fs id port p e scene.distinct 0 h),
+        status = λ by. (λ h. (laws.status by).0 (sym yes ∙ h), λ h. yes ∙ (laws.status by).1 h);
+        reported = λ by. (
+          λ h. subst (λ (s : ℕ). HasRow id port s (input_rows by cs ps fs)) ((laws.status by).0 (sym yes ∙ h)) (row_there by cs ps fs id port p e),
+          λ h. yes ∙ (laws.status by).1 (row_status by cs ps fs id port p e scene.distinct 0 h),
         );
         met_upstream = λ k h. laws.met_upstream k (sym (met k) ∙ h);
         one_drive = λ h. let o = laws.one_drive (sym yes ∙ h) in (o.0, met o.0 ∙ o.1, o.2, λ k m d. o.3 k (sym (met k) ∙ m) d);

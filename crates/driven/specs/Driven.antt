@@ -39,5 +39,5 @@ pub record AskedBy (checks : Result ⊤ Refusal) (cs ps fs : List ℤ) (place : 
   pub stack_left : stack' ≡ work_of checks stack
 
 -- from the lists, an id, a port and the lent stack, with the refusals of the input query
-pub record Asked (cs ps fs : List ℤ) (id port : ℕ) (stack stack' : List ℕ) (r : Result DrivenInput Refusal) : Type 0 where
-  pub by : AskedBy (input_refusal cs ps fs id port (length stack)) cs ps fs (row_place cs id port) port stack stack' r
+pub record Asked (rules : ℕ) (cs ps fs : List ℤ) (id port : ℕ) (stack stack' : List ℕ) (r : Result DrivenInput Refusal) : Type 0 where
+  pub by : AskedBy (input_refusal rules cs ps fs id port (length stack)) cs ps fs (row_place cs id port) port stack stack' r

@@ -21,8 +21,8 @@ use Rattle.driven.specs.Driven.{upstream_from}
 use Rattle.driven.specs.declared.DrivenInput.{DrivenInput}
 
 pub record DrivenLaws (cs ps fs : List ℤ) (p port : ℕ) : Type 0 where
-  -- yes exactly if the status is 0
-  pub status : ((upstream_from cs ps fs p port).stopped ≡ true) ↔ (status_of cs ps fs p port ≡ 0)
+  -- yes exactly if the status is 0, by whatever rules
+  pub status : (rules : ℕ) → ((upstream_from cs ps fs p port).stopped ≡ true) ↔ (status_of rules cs ps fs p port ≡ 0)
   pub met_upstream : (a : ℕ) → marked (upstream_from cs ps fs p port).met a ≡ true → marked (upstream cs ps p port) a ≡ true
   pub one_drive : (upstream_from cs ps fs p port).stopped ≡ true → OneGoal (drive_sources cs fs) (upstream_from cs ps fs p port).met
   pub all_met : (upstream_from cs ps fs p port).stopped ≡ false → (upstream_from cs ps fs p port).met ≡ upstream cs ps p port
@@ -37,10 +37,10 @@ pub record AnswerLaws (cs ps fs : List ℤ) (id port : ℕ) (r : DrivenInput) : 
   -- the port has a verdict row, of the component at this place
   pub place : ℕ
   pub row : row_place cs id port ≡ Some place
-  -- yes exactly if the status of that row is 0
-  pub status : (r.driven ≡ true) ↔ (status_of cs ps fs place port ≡ 0)
+  -- yes exactly if the status of that row is 0, by whatever rules: the search knows of none
+  pub status : (rules : ℕ) → (r.driven ≡ true) ↔ (status_of rules cs ps fs place port ≡ 0)
   -- and so exactly if the whole analysis has a verdict row of the id and the port with status 0
-  pub reported : (r.driven ≡ true) ↔ HasRow id port 0 (input_rows cs ps fs)
+  pub reported : (rules : ℕ) → (r.driven ≡ true) ↔ HasRow id port 0 (input_rows rules cs ps fs)
   -- each member met is an immediate source or upstream of one
   pub met_upstream : (a : ℕ) → member_of r.met.words a ≡ true → marked (upstream cs ps place port) a ≡ true
   -- at a yes exactly one is a drive source

@@ -4,10 +4,12 @@
 mod plot;
 pub mod seek;
 
+ghost use Rattle.lists.specs.Rules.{rules_of};
 ghost use Rattle.driven.specs.Driven.{Asked};
 
 use checks::refusals::{liveness_lists, room_for};
 use lists::ends::Ends;
+use lists::rules::rules_of;
 use lists::{COMPONENT, COMPONENTS, CONNECTIONS, Refusal};
 use liveness::plot::Plot;
 use plot::driven_plot;
@@ -23,6 +25,7 @@ pub struct DrivenInput {
 // The refusal of the checks, or whether a port that has a verdict row, by the id of its component, has status 0, and the components met on
 // the way: all upstream of the port, or those up to the first drive source. Any id and port may be asked for.
 pub fn is_driven(
+    rules: i64,
     components: &[i64],
     ports: &[i64],
     frontiers: &[i64],
@@ -30,18 +33,22 @@ pub fn is_driven(
     port: u64,
     stack: &mut [usize],
 ) -> Result<DrivenInput, Refusal>
-    ensures { Asked components.now ports.now frontiers.now id port stack.old stack.new result }
+    ensures { Asked (rules_of rules) components.now ports.now frontiers.now id port stack.old stack.new result }
 {
+    let rules = rules_of(rules);
     let mut keys = [0u64; COMPONENTS];
     let mut ends = [Ends { source: 0, sink: 0 }; CONNECTIONS];
     let count = components.len() / COMPONENT;
     let enough = room_for(count, 2, stack.len());
-    liveness_lists(components, ports, frontiers, enough, &mut keys, &mut ends)?;
+    liveness_lists(
+        rules, components, ports, frontiers, enough, &mut keys, &mut ends,
+    )?;
     let plot = Plot {
         keys: &keys[..count],
         components,
         ports,
         frontiers,
+        rules,
         ends: &ends,
     };
     driven_plot(&plot, id, port, stack)

@@ -3,12 +3,12 @@
 --     accepted_room                 an accepted scene has places in its slices, and no more components than the limit
 --     rows_front, numbers_front     the rows of an accepted scene, and the numbers that were read, stand at the front of their slice
 --     refused_laid, accepted_laid   the answer and what is left, from the lists of numbers
---     whole_lists, whole_fits       lists of bytes that pass number 1, and its refusal as one number
+--     whole_lists, whole_fits       lists of bytes that pass numbers 11 and 1, and their refusal as one number
 --     part_laid, decoded_laid       the answer and what is left, from the lists of bytes
 -- Assumes nothing.
 use Rattle.lists.specs.declared.Fault.{Fault}
 use Rattle.lists.specs.declared.Section.{Section}
-use Rattle.std.specs.Prelude.{Some}
+use Rattle.std.specs.Prelude.{Some, None}
 use Rattle.std.specs.Prelude.{⊤, Result, Ok, Err}
 use mathlib.Core.Path.{◌≡◌, refl, ap, ◌∙◌}
 use mathlib.Core.Bool.{◌&&◌}
@@ -20,13 +20,13 @@ use lib.ListN.{length, take}
 use lib.IntN.{ℤ}
 use Rattle.lists.specs.Limits.{component_limit, connection_limit, component_width, connection_width}
 use Rattle.lists.specs.Records.{component_count}
-use Rattle.checks.specs.Refusals.{refuse, not_whole, room_for, grouping_refusal, Small, packed}
+use Rattle.checks.specs.Refusals.{refuse, not_whole, room_for, strange_rules, grouping_refusal, Small, packed}
 use Rattle.lists.specs.Slices.{laid}
 use Rattle.lists.specs.declared.Refusal.{Refusal}
 use Rattle.lists.proofs.Search.{both}
 use Rattle.checks.proofs.Chain.{both_accept}
 use Rattle.checks.proofs.Accepts.{refuse_none, whole_few, whole_all}
-use Rattle.checks.proofs.Small.{small_or_else, whole_small}
+use Rattle.checks.proofs.Small.{small_or_else, strange_small, whole_small}
 use Rattle.checks.proofs.Accepted.{grouping_accept, room_places}
 use Rattle.lists.specs.Slices.{left_of}
 use Rattle.circuit.specs.Topology.{answer_of, nets_of, fragments_of, net_count, fragment_count}
@@ -59,10 +59,10 @@ pub record Room (cs : List ℤ) (nets fragments : ℕ) : Type 0 where
   pub net_places : component_count cs ≤ nets
   pub fragment_places : component_count cs ≤ fragments
 
-pub accepted_room : (cs ps : List ℤ) (nets fragments : ℕ) → grouping_refusal cs ps nets fragments ≡ Ok tt → Room cs nets fragments
-accepted_room cs ps nets fragments e =
+pub accepted_room : (rules : ℕ) (cs ps : List ℤ) (nets fragments : ℕ) → grouping_refusal rules cs ps nets fragments ≡ Ok tt → Room cs nets fragments
+accepted_room rules cs ps nets fragments e =
     let n = component_count cs in
-    let scene = grouping_accept cs ps [] (room_for n 1 nets && room_for n 1 fragments) e in
+    let scene = grouping_accept rules cs ps [] (room_for n 1 nets && room_for n 1 fragments) e in
     let tests = both (room_for n 1 nets) (room_for n 1 fragments) scene.scene.lengths.room in
     record {
       few = scene.components.few;
@@ -91,14 +91,15 @@ module _ (checked : Result ⊤ Refusal) (cs ps : List ℤ) (nets fragments : Lis
 
 -- ---- the bytes of both lists
 
-module _ (components connections : List ℕ) where
+module _ (rules : ℕ) (components connections : List ℕ) where
   pub record Whole : Type 0 where
     pub components_few : length components / number_bytes ≤ component_limit * component_width
     pub connections_few : length connections / number_bytes ≤ connection_limit * connection_width
 
-  pub whole_lists : groups_whole components connections ≡ Ok tt → Whole
+  pub whole_lists : groups_whole rules components connections ≡ Ok tt → Whole
   whole_lists e =
-      let (first, second) = both_accept (refuse Fault.ListLength (Some Section.Components) (not_whole (number_bytes * component_width) component_limit (length components))) _ e in
+      let (known, lists) = both_accept (refuse Fault.UnknownRules None (strange_rules rules)) _ e in
+      let (first, second) = both_accept (refuse Fault.ListLength (Some Section.Components) (not_whole (number_bytes * component_width) component_limit (length components))) _ lists in
       let c = refuse_none Fault.ListLength (Some Section.Components) (not_whole (number_bytes * component_width) component_limit (length components)) first in
       let p = refuse_none Fault.ListLength (Some Section.Connections) (not_whole (number_bytes * connection_width) connection_limit (length connections)) second in
       record {
@@ -106,23 +107,25 @@ module _ (components connections : List ℕ) where
         connections_few = omega (arith, whole_few _ connection_limit _ p, whole_all _ connection_limit _ p);
       }
 
-  pub whole_fits : Small (groups_whole components connections)
+  pub whole_fits : Small (groups_whole rules components connections)
   whole_fits =
-      small_or_else (refuse Fault.ListLength (Some Section.Components) (not_whole (number_bytes * component_width) component_limit (length components)))
+      small_or_else (refuse Fault.UnknownRules None (strange_rules rules)) _
+      (strange_small rules)
+      (λ _. small_or_else (refuse Fault.ListLength (Some Section.Components) (not_whole (number_bytes * component_width) component_limit (length components)))
       (refuse Fault.ListLength (Some Section.Connections) (not_whole (number_bytes * connection_width) connection_limit (length connections)))
       (whole_small (Some Section.Components) (number_bytes * component_width) component_limit (length components) (lit≤ tt))
-      (λ _. whole_small (Some Section.Connections) (number_bytes * connection_width) connection_limit (length connections) (lit≤ tt))
+      (λ _. whole_small (Some Section.Connections) (number_bytes * connection_width) connection_limit (length connections) (lit≤ tt)))
 
   module _ (nets nets' fragments fragments' : List ℕ) (r : ℕ) where
-    pub decoded_laid : (cs ps : List ℤ) → cs ≡ numbers components → ps ≡ numbers connections → groups_whole components connections ≡ Ok tt
-        → GroupsLaid (grouping_refusal cs ps (length nets / number_bytes) (length fragments / number_bytes)) cs ps nets nets' fragments fragments' r
-        → GroupsByBytes components connections nets nets' fragments fragments' r
+    pub decoded_laid : (cs ps : List ℤ) → cs ≡ numbers components → ps ≡ numbers connections → groups_whole rules components connections ≡ Ok tt
+        → GroupsLaid (grouping_refusal rules cs ps (length nets / number_bytes) (length fragments / number_bytes)) cs ps nets nets' fragments fragments' r
+        → GroupsByBytes rules components connections nets nets' fragments fragments' r
     decoded_laid cs ps ec ep e laid_so = rw e (rw (ec, ep) at laid_so)
 
-  pub part_laid : (nets fragments : List ℕ) (refusal : Refusal) (r : ℕ) → groups_whole components connections ≡ Err refusal → r ≡ packed (Err refusal)
-      → GroupsByBytes components connections nets nets fragments fragments r
+  pub part_laid : (nets fragments : List ℕ) (refusal : Refusal) (r : ℕ) → groups_whole rules components connections ≡ Err refusal → r ≡ packed (Err refusal)
+      → GroupsByBytes rules components connections nets nets fragments fragments r
   part_laid nets fragments refusal r e f =
-      refused_laid (groups_refusal components connections (length nets) (length fragments)) (numbers components) (numbers connections) nets fragments refusal r (rw e) f
+      refused_laid (groups_refusal rules components connections (length nets) (length fragments)) (numbers components) (numbers connections) nets fragments refusal r (rw e) f
 
 -- the numbers that were read stand at the front
 pub numbers_front : (bytes : List ℕ) (old new : List ℤ) → new ≡ laid (numbers bytes) old → take (length bytes / number_bytes) new ≡ numbers bytes

@@ -14,7 +14,7 @@ use lib.ListN.{length, get_or, get_or-eq_default}
 use borrow.Author.Tests.{ltb-true, ltb-false, eqb-true}
 use Rattle.lists.specs.First.{all_from}
 use Rattle.lists.proofs.Search.{never, both, all_at}
-use Rattle.faces.specs.Ports.{Port, opposite, face_or, neither, North, Down, repeater_ports, ports_by_kind, ports_for}
+use Rattle.faces.specs.Ports.{Port, opposite, face_or, neither, North, Down, repeater_ports, ports_by_kind, ports_by_facing}
 use Rattle.faces.specs.Rows.{rows_of}
 use Rattle.faces.proofs.Faces.{each_face}
 use Rattle.faces.proofs.Table.{Entry, entries, none, table_entry}
@@ -42,8 +42,8 @@ abbrev pub all_combinations : (ℕ → ℕ → ℕ → ℕ → Bool) → Bool
 all_combinations test =
     all_from (λ kind. all_from (λ facing. all_from (λ support. all_from (λ conducts. test kind facing support conducts) 0 2) 0 7) 0 7) 0 13
 
-pub table_computed : all_combinations (λ kind facing support conducts. lists (table_entry kind facing support conducts) (ports_for kind facing support conducts)) ≡ true
-unfolding all_from face_or opposite neither repeater_ports ports_for table_entry is_same_row same_rows
+pub table_computed : all_combinations (λ kind facing support conducts. lists (table_entry kind facing support conducts) (ports_by_facing kind facing support conducts)) ≡ true
+unfolding all_from face_or opposite neither repeater_ports ports_by_facing table_entry is_same_row same_rows
 table_computed = refl
 
 -- ---- from the combinations to all numbers
@@ -103,8 +103,8 @@ told e ports h =
     record { count = sym (eqb-true _ _ b.0); rows = sym (same_rows_lem _ _ b.1) }
 
 module _ (kind facing support conducts : ℕ) where
-  pub all_listed : Listed (table_entry kind facing support conducts) (ports_for kind facing support conducts)
-  unfolding ports_for table_entry is_same_row same_rows
+  pub all_listed : Listed (table_entry kind facing support conducts) (ports_by_facing kind facing support conducts)
+  unfolding ports_by_facing table_entry is_same_row same_rows
   all_listed =
       told _ _
       (every (λ k f s c. lists (get_or (entries f s c) k none) (get_or (ports_by_kind f s c) k [])) table_computed

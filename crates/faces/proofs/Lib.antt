@@ -4,6 +4,8 @@ pub mod Table
 pub mod Computed
 pub mod Blocks
 pub mod Runs
+pub mod Unread
+pub mod Blank
 pub mod Steps
 pub mod Places
 pub mod Transfers

@@ -2,6 +2,7 @@
 -- Assumes nothing: these are definitions.
 use Rattle.std.specs.Prelude.{ℕ, Bool, cond, ◌&&◌, ◌||◌, List, [], ◌∷◌, ◌++◌, eqb, leb, get_or}
 use Rattle.lists.specs.Records.{Component}
+use Rattle.lists.specs.Rules.{blanks_unread}
 
 -- ---- roles
 
@@ -132,8 +133,34 @@ ports_by_kind facing support conducts =
     ∷ [] ∷ []  -- Air
 
 -- A facing of none is North, a support of none is Down. A number that is no kind has no port.
-unfoldable pub ports_for : ℕ → ℕ → ℕ → ℕ → List Port
-ports_for kind facing support conducts = get_or (ports_by_kind (face_or North facing) (face_or Down support) (eqb conducts 1)) kind []
+unfoldable pub ports_by_facing : ℕ → ℕ → ℕ → ℕ → List Port
+ports_by_facing kind facing support conducts = get_or (ports_by_kind (face_or North facing) (face_or Down support) (eqb conducts 1)) kind []
 
-abbrev pub ports_of : Component → List Port
-ports_of c = ports_for c.kind c.facing c.support c.conducts
+-- ---- facings left blank (document 02, R-7)
+
+abbrev pub piston_kind : ℕ
+piston_kind = 8
+
+-- the kinds that turn with their facing: Repeater, Comparator, Piston
+abbrev pub turns : ℕ → Bool
+turns kind = eqb kind 1 || (eqb kind 2 || eqb kind piston_kind)
+
+-- by the rules number: of such a kind with a facing of none, where that is not taken as North
+abbrev pub is_unread : ℕ → ℕ → ℕ → Bool
+is_unread rules kind facing = blanks_unread rules && (eqb facing NoFace && turns kind)
+
+abbrev pub unread : ℕ → Component → Bool
+unread rules c = is_unread rules c.kind c.facing
+
+-- "facing 0 gives a Repeater or Comparator its Support port only, as port 0, and gives a Piston its four Inputs only"
+abbrev pub blank_ports : ℕ → List Port
+blank_ports kind = cond (eqb kind piston_kind) (four Input RedstoneSignal) support_down
+
+-- ---- under each rules number
+
+unfoldable pub ports_for : ℕ → ℕ → ℕ → ℕ → ℕ → List Port
+ports_for rules kind facing support conducts =
+    cond (is_unread rules kind facing) (blank_ports kind) (ports_by_facing kind facing support conducts)
+
+abbrev pub ports_of : ℕ → Component → List Port
+ports_of rules c = ports_for rules c.kind c.facing c.support c.conducts

@@ -1,11 +1,13 @@
 // The ports of a component, each in its place, and then places without a port.
 ghost use Rattle.std.specs.Prelude.{◌≡◌, map, length, true};
-ghost use Rattle.faces.specs.Ports.{wire_ports, repeater_ports, torch_ports, lever_ports, piston_ports, solid_ports, ports_for};
+ghost use Rattle.faces.specs.Ports.{wire_ports, repeater_ports, torch_ports, lever_ports, piston_ports, solid_ports};
+ghost use Rattle.faces.specs.Ports.{ports_by_facing, is_unread, blank_ports, ports_for};
 ghost use Rattle.faces.specs.Codes.{role_code, channel_code, face_code, numbers_at};
 ghost use Rattle.faces.specs.Rows.{places_of};
 
 use super::face::Face;
 use lists::kinds::BlockKind;
+use lists::rules::blanks_unread;
 
 // The most ports of a component.
 pub const PORTS: usize = 7;
@@ -58,6 +60,13 @@ const SUPPORT_DOWN: Option<Port> = Some(Port {
 });
 
 const NO_PORTS: [Option<Port>; PORTS] = [None; PORTS];
+
+// The kinds that turn with their facing.
+const REPEATER: u64 = BlockKind::Repeater as u64;
+
+const COMPARATOR: u64 = BlockKind::Comparator as u64;
+
+const PISTON: u64 = BlockKind::Piston as u64;
 
 fn place(role: Role, face: Face, channel: Channel) -> Option<Port>
     ensures { result ≡ Some (record { role = role; face = face; channel = channel }) }
@@ -158,9 +167,9 @@ fn solid_ports() -> [Option<Port>; PORTS]
     ]
 }
 
-// The ports of a component by its numbers in the lists. A facing of none is North, a support of none is Down.
-pub fn ports_for(kind: u64, facing: u64, support: u64, conducts: u64) -> [Option<Port>; PORTS]
-    ensures { map numbers_at result ≡ places_of (ports_for kind facing support conducts) }
+// The ports of a component by its numbers in the lists, where a facing of none is North. A support of none is Down.
+fn ports_by_facing(kind: u64, facing: u64, support: u64, conducts: u64) -> [Option<Port>; PORTS]
+    ensures { map numbers_at result ≡ places_of (ports_by_facing kind facing support conducts) }
 {
     let Ok(block) = BlockKind::try_from(kind) else {
         return NO_PORTS;
@@ -183,11 +192,53 @@ pub fn ports_for(kind: u64, facing: u64, support: u64, conducts: u64) -> [Option
     }
 }
 
-// How many there are: no port stands past a place without one.
-pub fn port_count(kind: u64, facing: u64, support: u64, conducts: u64) -> usize
-    ensures { result ≡ length (ports_for kind facing support conducts) }
+// Whether a component of a kind has a facing that was left blank and that cannot be guessed.
+pub fn is_unread(rules: u64, kind: u64, facing: u64) -> bool
+    ensures { result ≡ is_unread rules kind facing }
 {
-    let ports = ports_for(kind, facing, support, conducts);
+    let turns = (kind == REPEATER) | ((kind == COMPARATOR) | (kind == PISTON));
+    blanks_unread(rules) & ((facing == 0) & turns)
+}
+
+// The ports of such a component.
+fn blank_ports(kind: u64) -> [Option<Port>; PORTS]
+    ensures { map numbers_at result ≡ places_of (blank_ports kind) }
+{
+    if kind != PISTON {
+        return [SUPPORT_DOWN, None, None, None, None, None, None];
+    }
+    [
+        place(Role::Input, Face::North, Channel::RedstoneSignal),
+        place(Role::Input, Face::East, Channel::RedstoneSignal),
+        place(Role::Input, Face::South, Channel::RedstoneSignal),
+        place(Role::Input, Face::West, Channel::RedstoneSignal),
+        None,
+        None,
+        None,
+    ]
+}
+
+// The ports of a component by its numbers in the lists.
+pub fn ports_for(
+    rules: u64,
+    kind: u64,
+    facing: u64,
+    support: u64,
+    conducts: u64,
+) -> [Option<Port>; PORTS]
+    ensures { map numbers_at result ≡ places_of (ports_for rules kind facing support conducts) }
+{
+    if is_unread(rules, kind, facing) {
+        return blank_ports(kind);
+    }
+    ports_by_facing(kind, facing, support, conducts)
+}
+
+// How many there are: no port stands past a place without one.
+pub fn port_count(rules: u64, kind: u64, facing: u64, support: u64, conducts: u64) -> usize
+    ensures { result ≡ length (ports_for rules kind facing support conducts) }
+{
+    let ports = ports_for(rules, kind, facing, support, conducts);
     // By place: of `position` the check knows the answer by the runs of its closure alone.
     for i in 0..PORTS {
         let Some(_) = ports[i] else {

@@ -146,20 +146,20 @@ pub rows_as : {keys labelled labelled' : List ℕ} {flags flags' : List Bool} {r
 rows_as {keys} {labelled} {labelled'} {flags} {flags'} {rows} a b u =
     subst (λ (f : List Bool). UpstreamRows keys labelled' f rows) b (subst (λ (l : List ℕ). UpstreamRows keys l flags rows) a u)
 
-pub ready_as : {cs ps fs : List ℤ} {fed labelled fed' labelled' : List ℕ} {rows : List ComponentSet} → fed' ≡ fed → labelled' ≡ labelled → Ready cs ps fs fed labelled rows → Ready cs ps fs fed' labelled' rows
+pub ready_as : {rules : ℕ} {cs ps fs : List ℤ} {fed labelled fed' labelled' : List ℕ} {rows : List ComponentSet} → fed' ≡ fed → labelled' ≡ labelled → Ready rules cs ps fs fed labelled rows → Ready rules cs ps fs fed' labelled' rows
 ready_as a b r = rw (a, b) r
 
-pub ready_nodes : {cs ps fs : List ℤ} {fed labelled : List ℕ} {rows : List ComponentSet} → Ready cs ps fs fed labelled rows → length labelled ≡ component_count cs
-ready_nodes {cs} {ps} r = ap length r.labels_are ∙ labels_count cs ps r.fed_scene.scene.ends
+pub ready_nodes : {rules : ℕ} {cs ps fs : List ℤ} {fed labelled : List ℕ} {rows : List ComponentSet} → Ready rules cs ps fs fed labelled rows → length labelled ≡ component_count cs
+ready_nodes {cs = cs} {ps = ps} r = ap length r.labels_are ∙ labels_count cs ps r.fed_scene.scene.ends
 
-pub ready_labels : {cs ps fs : List ℤ} {fed labelled : List ℕ} {rows : List ComponentSet} → Ready cs ps fs fed labelled rows → Indices (length labelled) component_limit labelled
-ready_labels {cs} {ps} r =
+pub ready_labels : {rules : ℕ} {cs ps fs : List ℤ} {fed labelled : List ℕ} {rows : List ComponentSet} → Ready rules cs ps fs fed labelled rows → Indices (length labelled) component_limit labelled
+ready_labels {cs = cs} {ps = ps} r =
     subst (λ (l : List ℕ). Indices (length l) component_limit l) (sym r.labels_are)
     (labels_under cs ps r.fed_scene.scene.ends component_limit r.fed_scene.scene.components.few)
 
 -- ---- the port of the slot
 
-module _ {cs ps fs : List ℤ} {p port : ℕ} {fed labelled : List ℕ} {rows : List ComponentSet} {number : ℕ} {r : InputSources} (ready : Ready cs ps fs fed labelled rows)
+module _ {rules : ℕ} {cs ps fs : List ℤ} {p port : ℕ} {fed labelled : List ℕ} {rows : List ComponentSet} {number : ℕ} {r : InputSources} (ready : Ready rules cs ps fs fed labelled rows)
     (q : SlotOf cs ps p port fed number) (s : SlotSets fed number labelled rows r) where
   abbrev n : ℕ
   n = component_count cs
@@ -168,7 +168,7 @@ module _ {cs ps fs : List ℤ} {p port : ℕ} {fed labelled : List ℕ} {rows : 
   label a = at (labels cs ps) a
 
   abbrev flags : List Bool
-  flags = members_where cs (is_inferred cs ps fs)
+  flags = members_where cs (is_inferred rules cs ps fs)
 
   few : n ≤ component_limit
   few = q.fed_scene.scene.components.few
@@ -216,7 +216,7 @@ module _ {cs ps fs : List ℤ} {p port : ℕ} {fed labelled : List ℕ} {rows : 
       ap (λ (l : List ℕ). in_row rows (at l a) k) ready.labels_are ∙ ready.rows.at (label a) k
       ∙ ap (λ (m : ℕ). (ltb k m && marked flags k) && carry ready.keys (eqb (label k)) (label a)) count
 
-  there : (k : ℕ) → member_of r.inferred.words k ≡ true → (ltb k n && is_inferred_for cs ps fs p port k) ≡ true
+  there : (k : ℕ) → member_of r.inferred.words k ≡ true → (ltb k n && is_inferred_for rules cs ps fs p port k) ≡ true
   unfolding is_inferred_for
   there k t =
       let (a, h, m, row) = s.from k t in
@@ -227,7 +227,7 @@ module _ {cs ps fs : List ℤ} {p port : ℕ} {fed labelled : List ℕ} {rows : 
       let up = above k a node (sym (immediate_at q a (omega (arith, node, few))) ∙ m) (reaches k a small node parts.1) in
       and_true (ltb k n) (marked (upstream cs ps p port) k && marked flags k) flagged.0 (and_true (marked (upstream cs ps p port) k) (marked flags k) up flagged.1)
 
-  back : (k : ℕ) → (ltb k n && is_inferred_for cs ps fs p port k) ≡ true → member_of r.inferred.words k ≡ true
+  back : (k : ℕ) → (ltb k n && is_inferred_for rules cs ps fs p port k) ≡ true → member_of r.inferred.words k ≡ true
   unfolding is_inferred_for
   back k t =
       let parts = both (ltb k n) (marked (upstream cs ps p port) k && marked flags k) t in
@@ -238,13 +238,13 @@ module _ {cs ps fs : List ℤ} {p port : ℕ} {fed labelled : List ℕ} {rows : 
       (row_at a k
       ∙ and_true (ltb k n && marked flags k) (carry ready.keys (eqb (label k)) (label a)) (and_true (ltb k n) (marked flags k) parts.0 marks.1) (carried k a small h path))
 
-  inferred : SetWhere n (is_inferred_for cs ps fs p port) r.inferred.words
-  inferred = record { member = λ k. same_truth (member_of r.inferred.words k) (ltb k n && is_inferred_for cs ps fs p port k) (there k) (back k) }
+  inferred : SetWhere n (is_inferred_for rules cs ps fs p port) r.inferred.words
+  inferred = record { member = λ k. same_truth (member_of r.inferred.words k) (ltb k n && is_inferred_for rules cs ps fs p port k) (there k) (back k) }
 
-  pub port_sets : PortSets cs ps fs (Some p) port r
+  pub port_sets : PortSets rules cs ps fs (Some p) port r
   port_sets = record { immediate_set = immediate; inferred_set = inferred }
 
 -- by what was found
-pub sets_at : {cs ps fs : List ℤ} (id : ℕ) {port : ℕ} {found : Option ℕ} {r : InputSources} → row_place cs id port ≡ found → PortSets cs ps fs found port r
-    → PortSets cs ps fs (row_place cs id port) port r
-sets_at {cs} {ps} {fs} id {port} {r = r} e s = subst (λ (f : Option ℕ). PortSets cs ps fs f port r) (sym e) s
+pub sets_at : {rules : ℕ} {cs ps fs : List ℤ} (id : ℕ) {port : ℕ} {found : Option ℕ} {r : InputSources} → row_place cs id port ≡ found → PortSets rules cs ps fs found port r
+    → PortSets rules cs ps fs (row_place cs id port) port r
+sets_at {rules} {cs} {ps} {fs} id {port} {r = r} e s = subst (λ (f : Option ℕ). PortSets rules cs ps fs f port r) (sym e) s

@@ -197,16 +197,16 @@ graph_back {cs} {ps} scene t =
     λ i a b. edges_back scene.components.few t.source_members t.sink_members (ends_within cs ps scene.ends) t.backward_keys a b i
 
 -- the same of equal arrays
-pub walk_as : {cs ps fs : List ℤ} {fed backward fed' backward' : List ℕ} {inferred inferred' : List Bool} → fed' ≡ fed → backward' ≡ backward → inferred' ≡ inferred
-    → Walkable cs ps fs fed backward inferred → Walkable cs ps fs fed' backward' inferred'
+pub walk_as : {rules : ℕ} {cs ps fs : List ℤ} {fed backward fed' backward' : List ℕ} {inferred inferred' : List Bool} → fed' ≡ fed → backward' ≡ backward → inferred' ≡ inferred
+    → Walkable rules cs ps fs fed backward inferred → Walkable rules cs ps fs fed' backward' inferred'
 walk_as a b c r = rw (a, b, c) r
 
 pub flags_long : (cs : List ℤ) (P : ℕ → Bool) → length (members_where cs P) ≡ component_count cs
 unfolding members_where
 flags_long cs P = tabulated_length _ (component_count cs)
 
-pub walk_nodes : {cs ps fs : List ℤ} {fed backward : List ℕ} {inferred : List Bool} → Walkable cs ps fs fed backward inferred → length inferred ≡ component_count cs
-walk_nodes {cs} r = ap length r.inferred_are ∙ flags_long cs _
+pub walk_nodes : {rules : ℕ} {cs ps fs : List ℤ} {fed backward : List ℕ} {inferred : List Bool} → Walkable rules cs ps fs fed backward inferred → length inferred ≡ component_count cs
+walk_nodes {cs = cs} r = ap length r.inferred_are ∙ flags_long cs _
 
 -- ---- a mark that there cannot be
 
@@ -239,7 +239,7 @@ module _ {cs ps : List ℤ} {p port : ℕ} {fed : List ℕ} {number : ℕ} (q : 
 
 -- ---- by a walk
 
-module _ {cs ps fs : List ℤ} {p port : ℕ} {fed backward : List ℕ} {number : ℕ} {inferred : List Bool} (w : Walkable cs ps fs fed backward inferred)
+module _ {rules : ℕ} {cs ps fs : List ℤ} {p port : ℕ} {fed backward : List ℕ} {number : ℕ} {inferred : List Bool} (w : Walkable rules cs ps fs fed backward inferred)
     (q : SlotOf cs ps p port fed number) where
   nodes : length inferred ≡ component_count cs
   nodes = walk_nodes w
@@ -266,11 +266,11 @@ module _ {cs ps fs : List ℤ} {p port : ℕ} {fed backward : List ℕ} {number 
         let start = ((keys_reach n backward starts).exactly a).0 e in
         never (sym (sym start.2 ∙ tabulated_at test false n start.0 start.1 ∙ none_immediate start.0 start.1)))
 
-    none_inferred : (a : ℕ) → is_inferred_for cs ps fs p port a ≡ false
+    none_inferred : (a : ℕ) → is_inferred_for rules cs ps fs p port a ≡ false
     unfolding is_inferred_for
     none_inferred a = rw (none_upstream a)
 
-    pub none_fed : {r : InputSources} → PortSets cs ps fs None port r → PortSets cs ps fs (Some p) port r
+    pub none_fed : {r : InputSources} → PortSets rules cs ps fs None port r → PortSets rules cs ps fs (Some p) port r
     none_fed a = record {
       immediate_set = set_below refl (λ k h. sym (none_immediate k h)) a.immediate_set;
       inferred_set = set_below refl (λ k h. sym (none_inferred k)) a.inferred_set;
@@ -301,7 +301,7 @@ module _ {cs ps fs : List ℤ} {p port : ℕ} {fed backward : List ℕ} {number 
         ∙ ap (reached n (flip (signals cs ps))) starts_are
 
     pub inferred_set : {lent : List Bool} {stack words : List ℕ} → lent ≡ starts
-        → UpstreamSet (length inferred) (edges (length inferred) backward) lent inferred stack words → SetWhere (component_count cs) (is_inferred_for cs ps fs p port) words
+        → UpstreamSet (length inferred) (edges (length inferred) backward) lent inferred stack words → SetWhere (component_count cs) (is_inferred_for rules cs ps fs p port) words
     unfolding is_inferred_for
     inferred_set e u =
         let n = length inferred in
@@ -371,8 +371,8 @@ row_slot {cs} {port = port} f row e = record {
 
 -- ---- the answer
 
-module _ {cs ps fs : List ℤ} {port : ℕ} {stack stack' : List ℕ} {r : Result InputSources Refusal} where
+module _ {rules : ℕ} {cs ps fs : List ℤ} {port : ℕ} {stack stack' : List ℕ} {r : Result InputSources Refusal} where
   -- by what was found, with 8 where nothing was
-  pub inputs_found : (id : ℕ) {found : Option ℕ} → row_place cs id port ≡ found → InputsBy (refuse Fault.NoVerdictRow None (too_short (is_found found))) cs ps fs found port stack stack' r
-      → InputsBy (refuse Fault.NoVerdictRow None (too_short (is_found (row_place cs id port)))) cs ps fs (row_place cs id port) port stack stack' r
-  inputs_found id e a = subst (λ (f : Option ℕ). InputsBy (refuse Fault.NoVerdictRow None (too_short (is_found f))) cs ps fs f port stack stack' r) (sym e) a
+  pub inputs_found : (id : ℕ) {found : Option ℕ} → row_place cs id port ≡ found → InputsBy (refuse Fault.NoVerdictRow None (too_short (is_found found))) rules cs ps fs found port stack stack' r
+      → InputsBy (refuse Fault.NoVerdictRow None (too_short (is_found (row_place cs id port)))) rules cs ps fs (row_place cs id port) port stack stack' r
+  inputs_found id e a = subst (λ (f : Option ℕ). InputsBy (refuse Fault.NoVerdictRow None (too_short (is_found f))) rules cs ps fs f port stack stack' r) (sym e) a

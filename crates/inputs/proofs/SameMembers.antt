@@ -71,23 +71,9 @@ module _ (cs ps qs fs : List ℤ) (same : SameConnections ps qs) where
   unfolding holds_drive
   has_drive_same r = rw labels_same
 
-  pub outside_same : (r : ℕ) → fed_from_outside cs ps r ≡ fed_from_outside cs qs r
-  unfolding fed_from_outside
-  outside_same r =
-      rw labels_same (some_same same (λ c. carries c
-      && (not (eqb (at (labels cs qs) (smaller_ids cs c.source)) (at (labels cs qs) (smaller_ids cs c.sink)))
-      && (eqb (at (labels cs qs) (smaller_ids cs c.sink)) r && not (is_passive (kind_at cs (place_of cs c.source)))))))
-
   pub neighbours_same : (m : ℕ) → neighbours cs ps m ≡ neighbours cs qs m
   unfolding neighbours
   neighbours_same m = rw signals_same
-
-  pub inferred_same : is_inferred cs ps fs ≡ is_inferred cs qs fs
-  unfolding is_inferred
-  inferred_same = λ i p. at_place p i
-    where
-      at_place : (p : ℕ) → is_inferred cs ps fs p ≡ is_inferred cs qs fs p
-      at_place p = rw (neighbours_same (member_of cs p), has_drive_same (region_of_place cs ps p), outside_same (region_of_place cs ps p), labels_same)
 
   -- ---- reach
 
@@ -95,35 +81,9 @@ module _ (cs ps qs fs : List ℤ) (same : SameConnections ps qs) where
   unfolding drive
   drive_same = rw signals_same
 
-  pub potential_same : potential cs ps fs ≡ potential cs qs fs
-  unfolding potential
-  potential_same = rw (signals_same, inferred_same)
-
-  -- ---- rows
-
   pub fed_same : (p port : ℕ) (flags : List Bool) → fed_by cs ps p port flags ≡ fed_by cs qs p port flags
   unfolding fed_by
   fed_same p port flags = some_same same (λ c. feeds cs p port c && marked flags (smaller_ids cs c.source))
-
-  pub status_same : (p port : ℕ) → status_of cs ps fs p port ≡ status_of cs qs fs p port
-  unfolding status_of
-  status_same p port =
-      rw (some_same same (feeds cs p port), drive_same, potential_same, fed_same p port (drive cs qs fs), fed_same p port (potential cs qs fs))
-
-  pub ports_same : (p n : ℕ) → port_rows cs ps fs p n ≡ port_rows cs qs fs p n
-  unfolding port_rows
-  ports_same p zero = refl
-  ports_same p (suc k) = rw (ports_same p k, status_same p k)
-
-  pub verdicts_same : (n : ℕ) → verdict_rows cs ps fs n ≡ verdict_rows cs qs fs n
-  unfolding verdict_rows
-  verdicts_same zero = refl
-  verdicts_same (suc p) = rw (verdicts_same p, ports_same p (length (ports_of (component cs p))))
-
-  pub sources_same : (n : ℕ) → source_rows_below cs ps fs n ≡ source_rows_below cs qs fs n
-  unfolding source_rows_below sources_at
-  sources_same zero = refl
-  sources_same (suc p) = rw (sources_same p, inferred_same)
 
   -- ---- the input query
 
@@ -137,22 +97,63 @@ module _ (cs ps qs fs : List ℤ) (same : SameConnections ps qs) where
       ap₂ (λ (edge : Edges) (test : ℕ → Bool). reached (component_count cs) (flip edge) (tabulate test (component_count cs)))
       signals_same (λ i a. immediate_same p port a i)
 
-  pub inferred_for_same : (p port a : ℕ) → is_inferred_for cs ps fs p port a ≡ is_inferred_for cs qs fs p port a
-  unfolding is_inferred_for
-  inferred_for_same p port a = rw (upstream_same p port, inferred_same)
+  -- ---- what depends on the rules number
+
+  module _ (rules : ℕ) where
+    pub outside_same : (r : ℕ) → fed_from_outside rules cs ps r ≡ fed_from_outside rules cs qs r
+    unfolding fed_from_outside
+    outside_same r =
+        rw labels_same (some_same same (λ c. carries c
+        && (not (eqb (at (labels cs qs) (smaller_ids cs c.source)) (at (labels cs qs) (smaller_ids cs c.sink)))
+        && (eqb (at (labels cs qs) (smaller_ids cs c.sink)) r && not (is_passive rules (kind_at cs (place_of cs c.source)))))))
+
+    pub inferred_same : is_inferred rules cs ps fs ≡ is_inferred rules cs qs fs
+    unfolding is_inferred
+    inferred_same = λ i p. at_place p i
+      where
+        at_place : (p : ℕ) → is_inferred rules cs ps fs p ≡ is_inferred rules cs qs fs p
+        at_place p = rw (neighbours_same (member_of cs p), has_drive_same (region_of_place cs ps p), outside_same (region_of_place cs ps p), labels_same)
+
+    pub potential_same : potential rules cs ps fs ≡ potential rules cs qs fs
+    unfolding potential
+    potential_same = rw (signals_same, inferred_same)
+
+    pub status_same : (p port : ℕ) → status_of rules cs ps fs p port ≡ status_of rules cs qs fs p port
+    unfolding status_of
+    status_same p port =
+        rw (some_same same (feeds cs p port), drive_same, potential_same, fed_same p port (drive cs qs fs), fed_same p port (potential rules cs qs fs))
+
+    pub ports_same : (p n : ℕ) → port_rows rules cs ps fs p n ≡ port_rows rules cs qs fs p n
+    unfolding port_rows
+    ports_same p zero = refl
+    ports_same p (suc k) = rw (ports_same p k, status_same p k)
+
+    pub verdicts_same : (n : ℕ) → verdict_rows rules cs ps fs n ≡ verdict_rows rules cs qs fs n
+    unfolding verdict_rows
+    verdicts_same zero = refl
+    verdicts_same (suc p) = rw (verdicts_same p, ports_same p (length (ports_of (component cs p))))
+
+    pub sources_same : (n : ℕ) → source_rows_below rules cs ps fs n ≡ source_rows_below rules cs qs fs n
+    unfolding source_rows_below sources_at
+    sources_same zero = refl
+    sources_same (suc p) = rw (sources_same p, inferred_same)
+
+    pub inferred_for_same : (p port a : ℕ) → is_inferred_for rules cs ps fs p port a ≡ is_inferred_for rules cs qs fs p port a
+    unfolding is_inferred_for
+    inferred_for_same p port a = rw (upstream_same p port, inferred_same)
 
 -- ---- every part of an answer
 
-pub same_answer : (cs ps qs fs : List ℤ) → SameConnections ps qs → SameAnswer cs ps qs fs
-same_answer cs ps qs fs same = record {
+pub same_answer : (rules : ℕ) (cs ps qs fs : List ℤ) → SameConnections ps qs → SameAnswer rules cs ps qs fs
+same_answer rules cs ps qs fs same = record {
   regions = ap (λ (l : List ℕ). tabulate (λ p. at l (member_of cs p)) (component_count cs)) (labels_same cs ps qs fs same);
   region_count_lem = ap (count (component_count cs)) (signals_same cs ps qs fs same);
-  sources = sources_same cs ps qs fs same (component_count cs);
-  inputs = verdicts_same cs ps qs fs same (component_count cs);
+  sources = sources_same cs ps qs fs same rules (component_count cs);
+  inputs = verdicts_same cs ps qs fs same rules (component_count cs);
   driven = drive_same cs ps qs fs same;
-  possible = potential_same cs ps qs fs same;
+  possible = potential_same cs ps qs fs same rules;
   cyclic = cyclic_same cs ps qs fs same;
   has_drive = has_drive_same cs ps qs fs same;
   immediate = immediate_same cs ps qs fs same;
-  inferred = inferred_for_same cs ps qs fs same;
+  inferred = inferred_for_same cs ps qs fs same rules;
 }

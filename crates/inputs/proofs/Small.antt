@@ -23,7 +23,7 @@ pub row_small : (found : Bool) → Small (refuse Fault.NoVerdictRow None (too_sh
 row_small true = tt
 row_small false = omega arith
 
-pub input_small : (cs ps fs : List ℤ) (id port stack : ℕ) → Small (input_refusal cs ps fs id port stack)
-input_small cs ps fs id port stack =
-    or_small (query_refusal cs ps fs stack) (refuse Fault.NoVerdictRow None (too_short (is_found (row_place cs id port))))
-    (liveness_small cs ps fs (room_for (component_count cs) 2 stack)) (row_small (is_found (row_place cs id port)))
+pub input_small : (rules : ℕ) (cs ps fs : List ℤ) (id port stack : ℕ) → Small (input_refusal rules cs ps fs id port stack)
+input_small rules cs ps fs id port stack =
+    or_small (query_refusal rules cs ps fs stack) (refuse Fault.NoVerdictRow None (too_short (is_found (row_place cs id port))))
+    (liveness_small rules cs ps fs (room_for (component_count cs) 2 stack)) (row_small (is_found (row_place cs id port)))

@@ -62,12 +62,13 @@ module _ (cs ps fs : List ℤ) (p port : ℕ) where
       let b = both (feeds_port cs ps p port f.0) (marked (drive cs ps fs) (source_member cs ps f.0)) f.2 in
       (f.0, f.1, b.0, b.1)
 
-  pub fed_zero : fed_by cs ps p port (drive cs ps fs) ≡ true → status_of cs ps fs p port ≡ 0
-  unfolding status_of
-  fed_zero e =
-      let f = fed_found e in
-      rw (some_at (feeds_port cs ps p port) (port_count ps) f.0 f.1 f.2, e)
+  module _ (rules : ℕ) where
+    pub fed_zero : fed_by cs ps p port (drive cs ps fs) ≡ true → status_of rules cs ps fs p port ≡ 0
+    unfolding status_of
+    fed_zero e =
+        let f = fed_found e in
+        rw (some_at (feeds_port cs ps p port) (port_count ps) f.0 f.1 f.2, e)
 
-  pub zero_fed : status_of cs ps fs p port ≡ 0 → fed_by cs ps p port (drive cs ps fs) ≡ true
-  unfolding status_of
-  zero_fed e = zero_back (some (feeds_port cs ps p port) (port_count ps)) (fed_by cs ps p port (drive cs ps fs)) (fed_by cs ps p port (potential cs ps fs)) e
+    pub zero_fed : status_of rules cs ps fs p port ≡ 0 → fed_by cs ps p port (drive cs ps fs) ≡ true
+    unfolding status_of
+    zero_fed e = zero_back (some (feeds_port cs ps p port) (port_count ps)) (fed_by cs ps p port (drive cs ps fs)) (fed_by cs ps p port (potential rules cs ps fs)) e

@@ -65,18 +65,18 @@ module _ {cs ps : List ℤ} (scene : Scene cs ps) where
       let (w, m, is) = found_place cs (port_connection ps k).source (ends_below cs ps scene.ends k l signal).source_found in
       subst (Chain ps (component cs q).id) is (reach_chain cs ps scene path q w h m refl (ap (smaller_ids cs) is))
 
-  module _ {fs : List ℤ} {p port : ℕ} {s : InputSources} (sets : PortSets cs ps fs (Some p) port s) where
+  module _ {rules : ℕ} {fs : List ℤ} {p port : ℕ} {s : InputSources} (sets : PortSets rules cs ps fs (Some p) port s) where
     signal_of : (k : ℕ) → feeds_port cs ps p port k ≡ true → is_signal ps k ≡ true
     signal_of k t =
         (both (is_signal ps k) (eqb (port_connection ps k).sink (component cs p).id && eqb (port_connection ps k).sink_port_of port) t).0
 
-    pub upstream_of : UpstreamOf cs ps fs p port s
+    pub upstream_of : UpstreamOf rules cs ps fs p port s
     unfolding is_inferred_for upstream is_immediate
     upstream_of = record {
       exactly = λ q h.
           let m = member_of cs q in
           let asked = asked_below sets.inferred_set m (member_below cs q h) in
-          let flag = flag_at cs scene.distinct (is_inferred cs ps fs) q h in
+          let flag = flag_at cs scene.distinct (is_inferred rules cs ps fs) q h in
           let walked = walked_from (component_count cs) (flip (signals cs ps)) backward_within (port_count ps) (feeds_port cs ps p port)
           (source_member cs ps) (λ k l t. (ends_within cs ps scene.ends k l (signal_of k t)).0) m in (
             λ e.
@@ -94,15 +94,15 @@ module _ {cs ps : List ℤ} (scene : Scene cs ps) where
 abbrev row_checked : List ℤ → ℕ → ℕ → Result ⊤ Refusal
 row_checked cs id port = refuse Fault.NoVerdictRow None (too_short (is_found (row_place cs id port)))
 
-module _ {cs ps fs : List ℤ} (id : ℕ) {port : ℕ} {stack stack' : List ℕ} where
-  answer_upstream : (r : Result InputSources Refusal) → Scene cs ps → InputsBy (row_checked cs id port) cs ps fs (row_place cs id port) port stack stack' r
-      → IfOk r (λ s. (p : ℕ) → row_place cs id port ≡ Some p → UpstreamOf cs ps fs p port s)
-  answer_upstream (Ok s) scene a = λ p e. upstream_of scene (subst (λ (f : Option ℕ). PortSets cs ps fs f port s) e a.sets)
+module _ {rules : ℕ} {cs ps fs : List ℤ} (id : ℕ) {port : ℕ} {stack stack' : List ℕ} where
+  answer_upstream : (r : Result InputSources Refusal) → Scene cs ps → InputsBy (row_checked cs id port) rules cs ps fs (row_place cs id port) port stack stack' r
+      → IfOk r (λ s. (p : ℕ) → row_place cs id port ≡ Some p → UpstreamOf rules cs ps fs p port s)
+  answer_upstream (Ok s) scene a = λ p e. upstream_of scene (subst (λ (f : Option ℕ). PortSets rules cs ps fs f port s) e a.sets)
   answer_upstream (Err refused) scene a = tt
 
-  pub answered : {r : Result InputSources Refusal} → query_refusal cs ps fs (length stack) ≡ Ok tt
-      → InputsBy (row_checked cs id port) cs ps fs (row_place cs id port) port stack stack' r → Answered cs ps fs id port stack stack' r
+  pub answered : {r : Result InputSources Refusal} → query_refusal rules cs ps fs (length stack) ≡ Ok tt
+      → InputsBy (row_checked cs id port) rules cs ps fs (row_place cs id port) port stack stack' r → Answered rules cs ps fs id port stack stack' r
   answered {r} e a = record {
-    by = subst (λ (c : Result ⊤ Refusal). InputsBy (c or_else row_checked cs id port) cs ps fs (row_place cs id port) port stack stack' r) (sym e) a;
-    upstream = answer_upstream r (scene_of_lem (liveness_accept _ _ _ _ e)) a;
+    by = subst (λ (c : Result ⊤ Refusal). InputsBy (c or_else row_checked cs id port) rules cs ps fs (row_place cs id port) port stack stack' r) (sym e) a;
+    upstream = answer_upstream r (scene_of_lem (liveness_accept _ _ _ _ _ e)) a;
   }

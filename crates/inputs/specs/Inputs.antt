@@ -31,11 +31,11 @@ use Rattle.inputs.specs.declared.InputSources.{InputSources}
 -- ---- a prepared scene
 
 -- with the flags of the members that are inferred inputs; the stack is zero again
-pub record Inputs (cs ps fs : List ℤ) (sources sinks forward backward labelled : List ℕ) (inferred : List Bool) (stack : List ℕ) : Type 0 where
+pub record Inputs (rules : ℕ) (cs ps fs : List ℤ) (sources sinks forward backward labelled : List ℕ) (inferred : List Bool) (stack : List ℕ) : Type 0 where
   pub members : List ℕ
   pub region_of : List ℕ
   pub prepared : Prepared cs ps sources sinks forward backward labelled members region_of
-  pub inferred_are : inferred ≡ members_where cs (is_inferred cs ps fs)
+  pub inferred_are : inferred ≡ members_where cs (is_inferred rules cs ps fs)
   pub stack_zeros : Zeros stack
 
 -- room for them
@@ -70,11 +70,11 @@ pub record SlotKeys (keys : List ℕ) (number : ℕ) (cut : List ℕ) : Type 0 w
 -- ---- one port, by a walk
 
 -- the edges by the port that they feed and backward, and the flags of the inferred inputs
-pub record Walkable (cs ps fs : List ℤ) (fed backward : List ℕ) (inferred : List Bool) : Type 0 where
+pub record Walkable (rules : ℕ) (cs ps fs : List ℤ) (fed backward : List ℕ) (inferred : List Bool) : Type 0 where
   pub fed_scene : FedScene cs ps fed
   pub turned : edges (component_count cs) backward ≡ flip (signals cs ps)
   pub rising : Ascending backward
-  pub inferred_are : inferred ≡ members_where cs (is_inferred cs ps fs)
+  pub inferred_are : inferred ≡ members_where cs (is_inferred rules cs ps fs)
 
 -- what a walk against the edges asks
 pub record UpstreamRoom (backward : List ℕ) (immediate inferred : List Bool) (stack : List ℕ) : Type 0 where
@@ -92,12 +92,12 @@ pub record UpstreamSet (n : ℕ) (edge : Edges) (immediate inferred : List Bool)
 -- ---- many ports, by the table of what is upstream of each region
 
 -- the edges by the port that they feed, the regions, and their rows
-pub record Ready (cs ps fs : List ℤ) (fed labelled : List ℕ) (upstream : List ComponentSet) : Type 0 where
+pub record Ready (rules : ℕ) (cs ps fs : List ℤ) (fed labelled : List ℕ) (upstream : List ComponentSet) : Type 0 where
   pub fed_scene : FedScene cs ps fed
   pub labels_are : labelled ≡ labels cs ps
   pub keys : List ℕ
   pub pairs : Crossings (signals cs ps) (labels cs ps) keys
-  pub rows : UpstreamRows keys (labels cs ps) (members_where cs (is_inferred cs ps fs)) upstream
+  pub rows : UpstreamRows keys (labels cs ps) (members_where cs (is_inferred rules cs ps fs)) upstream
   pub rows_long : length upstream ≡ component_limit
 
 -- the nodes that feed a slot, and all members of the rows of their regions

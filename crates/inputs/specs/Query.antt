@@ -35,8 +35,8 @@ unfoldable pub upstream : List ℤ → List ℤ → ℕ → ℕ → List Bool
 upstream cs ps p port = reached (component_count cs) (flip (signals cs ps)) (tabulate (is_immediate cs ps p port) (component_count cs))
 
 -- the inferred inputs among them
-unfoldable pub is_inferred_for : List ℤ → List ℤ → List ℤ → ℕ → ℕ → ℕ → Bool
-is_inferred_for cs ps fs p port a = marked (upstream cs ps p port) a && marked (members_where cs (is_inferred cs ps fs)) a
+unfoldable pub is_inferred_for : ℕ → List ℤ → List ℤ → List ℤ → ℕ → ℕ → ℕ → Bool
+is_inferred_for rules cs ps fs p port a = marked (upstream cs ps p port) a && marked (members_where cs (is_inferred rules cs ps fs)) a
 
 -- ---- the port asked for, by an id and a port
 
@@ -49,8 +49,8 @@ unfoldable pub row_place : List ℤ → ℕ → ℕ → Option ℕ
 row_place cs id port = with_row cs port (place_of cs id)
 
 -- the refusals of the lists, then 8
-abbrev pub input_refusal : List ℤ → List ℤ → List ℤ → ℕ → ℕ → ℕ → Result ⊤ Refusal
-input_refusal cs ps fs id port stack = query_refusal cs ps fs stack or_else refuse Fault.NoVerdictRow None (too_short (is_found (row_place cs id port)))
+abbrev pub input_refusal : ℕ → List ℤ → List ℤ → List ℤ → ℕ → ℕ → ℕ → Result ⊤ Refusal
+input_refusal rules cs ps fs id port stack = query_refusal rules cs ps fs stack or_else refuse Fault.NoVerdictRow None (too_short (is_found (row_place cs id port)))
 
 -- a test at a place that was found
 abbrev pub at_place : (ℕ → ℕ → Bool) → Option ℕ → ℕ → Bool
@@ -58,15 +58,15 @@ at_place test (Some p) a = test p a
 at_place test None a = false
 
 -- the two sets of a port of the component that was found, empty where none was
-pub record PortSets (cs ps fs : List ℤ) (found : Option ℕ) (port : ℕ) (s : InputSources) : Type 0 where
+pub record PortSets (rules : ℕ) (cs ps fs : List ℤ) (found : Option ℕ) (port : ℕ) (s : InputSources) : Type 0 where
   pub immediate_set : SetWhere (component_count cs) (at_place (λ p a. is_immediate cs ps p port a) found) s.immediate.words
-  pub inferred_set : SetWhere (component_count cs) (at_place (λ p a. is_inferred_for cs ps fs p port a) found) s.inferred.words
+  pub inferred_set : SetWhere (component_count cs) (at_place (λ p a. is_inferred_for rules cs ps fs p port a) found) s.inferred.words
 
 -- an inferred input is in the second set of the port exactly if it has a chain to the source of a connection that feeds the port
-pub record UpstreamOf (cs ps fs : List ℤ) (p port : ℕ) (s : InputSources) : Type 0 where
+pub record UpstreamOf (rules : ℕ) (cs ps fs : List ℤ) (p port : ℕ) (s : InputSources) : Type 0 where
   pub exactly : (q : ℕ) → q < component_count cs
       → (member_of s.inferred.words (Ids.member_of cs q) ≡ true)
-      ↔ ((is_inferred cs ps fs q ≡ true)
+      ↔ ((is_inferred rules cs ps fs q ≡ true)
       × ((k : ℕ) × (k < port_count ps) × (feeds_port cs ps p port k ≡ true) × Chain ps (component cs q).id (port_connection ps k).source))
 
 -- the paper's numbers of each case: 0, or those of the refusal
@@ -75,13 +75,13 @@ numbers_of (Ok s) = 0 ∷ []
 numbers_of (Err r) = refusal_numbers r
 
 -- by what the checks say: their refusal, or the sets
-pub record InputsBy (checks : Result ⊤ Refusal) (cs ps fs : List ℤ) (place : Option ℕ) (port : ℕ) (stack stack' : List ℕ) (r : Result InputSources Refusal) : Type 0 where
+pub record InputsBy (checks : Result ⊤ Refusal) (rules : ℕ) (cs ps fs : List ℤ) (place : Option ℕ) (port : ℕ) (stack stack' : List ℕ) (r : Result InputSources Refusal) : Type 0 where
   pub answer : checked r ≡ checks
   pub numbers : numbers_of r ≡ numbers_by checks []
-  pub sets : IfOk r (PortSets cs ps fs place port)
+  pub sets : IfOk r (PortSets rules cs ps fs place port)
   pub stack_left : stack' ≡ work_of checks stack
 
--- from the lists, an id, a port and the lent stack
-pub record Answered (cs ps fs : List ℤ) (id port : ℕ) (stack stack' : List ℕ) (r : Result InputSources Refusal) : Type 0 where
-  pub by : InputsBy (input_refusal cs ps fs id port (length stack)) cs ps fs (row_place cs id port) port stack stack' r
-  pub upstream : IfOk r (λ s. (p : ℕ) → row_place cs id port ≡ Some p → UpstreamOf cs ps fs p port s)
+-- from a rules number, the lists, an id, a port and the lent stack
+pub record Answered (rules : ℕ) (cs ps fs : List ℤ) (id port : ℕ) (stack stack' : List ℕ) (r : Result InputSources Refusal) : Type 0 where
+  pub by : InputsBy (input_refusal rules cs ps fs id port (length stack)) rules cs ps fs (row_place cs id port) port stack stack' r
+  pub upstream : IfOk r (λ s. (p : ℕ) → row_place cs id port ≡ Some p → UpstreamOf rules cs ps fs p port s)

@@ -16,19 +16,19 @@ pub record SameConnections (ps qs : List ℤ) : Type 0 where
   pub back : (j : ℕ) → j < port_count qs → (k : ℕ) × (k < port_count ps) × (port_connection qs j ≡ port_connection ps k)
 
 -- the analysis and the input query answer the same for both lists: order and repetition of port connections change nothing
-pub record SameAnswer (cs ps qs fs : List ℤ) : Type 0 where
+pub record SameAnswer (rules : ℕ) (cs ps qs fs : List ℤ) : Type 0 where
   -- the region of each component
   pub regions : regions_of cs ps ≡ regions_of cs qs
   -- how many regions there are
   pub region_count_lem : region_count cs ps ≡ region_count cs qs
   -- the source rows
-  pub sources : source_rows cs ps fs ≡ source_rows cs qs fs
+  pub sources : source_rows rules cs ps fs ≡ source_rows rules cs qs fs
   -- the verdict rows
-  pub inputs : input_rows cs ps fs ≡ input_rows cs qs fs
+  pub inputs : input_rows rules cs ps fs ≡ input_rows rules cs qs fs
   -- the members reached from a drive source
   pub driven : drive cs ps fs ≡ drive cs qs fs
   -- the members reached from a drive source or inferred input
-  pub possible : potential cs ps fs ≡ potential cs qs fs
+  pub possible : potential rules cs ps fs ≡ potential rules cs qs fs
   -- the regions that are cyclic
   pub cyclic : (r : ℕ) → is_cyclic cs ps r ≡ is_cyclic cs qs r
   -- the regions that hold a drive source
@@ -36,4 +36,4 @@ pub record SameAnswer (cs ps qs fs : List ℤ) : Type 0 where
   -- the immediate sources of a port of the component at p
   pub immediate : (p port a : ℕ) → is_immediate cs ps p port a ≡ is_immediate cs qs p port a
   -- the inferred inputs among these and all upstream of them
-  pub inferred : (p port a : ℕ) → is_inferred_for cs ps fs p port a ≡ is_inferred_for cs qs fs p port a
+  pub inferred : (p port a : ℕ) → is_inferred_for rules cs ps fs p port a ≡ is_inferred_for rules cs qs fs p port a

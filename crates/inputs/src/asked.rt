@@ -38,7 +38,7 @@ pub struct Asked<'a> {
     pub labels: &'a [usize],
     pub upstream: &'a [ComponentSet; COMPONENTS],
     pub ghost table: { IdTable components.now keys.now } by { Prim.hlevel props },
-    pub ghost ready: { ∥ ((ps fs : List ℤ) × Ready components.now ps fs fed.now labels.now upstream.now) ∥₁ },
+    pub ghost ready: { ∥ ((rules : ℕ) × (ps fs : List ℤ) × Ready rules components.now ps fs fed.now labels.now upstream.now) ∥₁ },
 }
 
 // Fills what the ports of a plot are asked by: its edges by the port that they feed, the regions of its members, and the rows of the
@@ -54,7 +54,8 @@ pub fn make_ready(
     requires fed_len { length fed.old ≡ port_count plot.now.ports.now }
     requires labels_len { let n = component_count plot.now.components.now in (length labels.old ≡ n) × (2 * n ≤ length stack.old) }
     requires upstream { RowsEmpty upstream.old }
-    ensures { let p = plot.now in Ready p.components.now p.ports.now p.frontiers.now fed.new labels.new upstream.new × Zeros stack.new }
+    ensures { let p = plot.now in
+        Ready p.rules p.components.now p.ports.now p.frontiers.now fed.new labels.new upstream.new × Zeros stack.new }
 {
     let n = plot.keys.len();
     let m = plot.port_list().count();
@@ -110,8 +111,8 @@ impl<'a> Asked<'a> {
     // The sets of a port by the id of its component, empty where it has no verdict row: those of every scene that the tables are of.
     pub fn sources(&self, id: u64, port: u64) -> InputSources
         ensures { let a = self.now in
-            (ps fs : List ℤ) → Ready a.components.now ps fs a.fed.now a.labels.now a.upstream.now →
-            PortSets a.components.now ps fs (row_place a.components.now id port) port result }
+            (rules : ℕ) (ps fs : List ℤ) → Ready rules a.components.now ps fs a.fed.now a.labels.now a.upstream.now →
+            PortSets rules a.components.now ps fs (row_place a.components.now id port) port result }
     {
         match row_place(self.keys, self.component_list(), id, port) {
             Some(_) => slot_sources(

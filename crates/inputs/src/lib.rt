@@ -10,10 +10,12 @@ pub mod row;
 mod slot;
 
 ghost use Rattle.std.specs.Prelude.{List, ℕ, ℤ, None};
+ghost use Rattle.lists.specs.Rules.{rules_of};
 ghost use Rattle.inputs.specs.Query.{Answered, PortSets};
 
 use checks::refusals::{liveness_lists, room_for};
 use lists::ends::Ends;
+use lists::rules::rules_of;
 use lists::{COMPONENT, COMPONENTS, CONNECTIONS, Refusal};
 use liveness::plot::Plot;
 use query::query_plot;
@@ -30,7 +32,7 @@ impl InputSources {
     // Those of a port that has no verdict row, or that nothing feeds. A report writes them as empty lists, so that no Option stands for
     // them.
     pub fn none() -> InputSources
-        ensures { (cs ps fs : List ℤ) (port : ℕ) → PortSets cs ps fs None port result }
+        ensures { (rules : ℕ) (cs ps fs : List ℤ) (port : ℕ) → PortSets rules cs ps fs None port result }
     {
         InputSources {
             immediate: ComponentSet::empty(),
@@ -42,6 +44,7 @@ impl InputSources {
 // The refusal of the checks, or the immediate sources of a port that has a verdict row, by the id of its component, and the inferred inputs
 // among these and all upstream of them. Any id and port may be asked for.
 pub fn required_input(
+    rules: i64,
     components: &[i64],
     ports: &[i64],
     frontiers: &[i64],
@@ -49,18 +52,22 @@ pub fn required_input(
     port: u64,
     stack: &mut [usize],
 ) -> Result<InputSources, Refusal>
-    ensures { Answered components.now ports.now frontiers.now id port stack.old stack.new result }
+    ensures { Answered (rules_of rules) components.now ports.now frontiers.now id port stack.old stack.new result }
 {
+    let rules = rules_of(rules);
     let mut keys = [0u64; COMPONENTS];
     let mut ends = [Ends { source: 0, sink: 0 }; CONNECTIONS];
     let count = components.len() / COMPONENT;
     let enough = room_for(count, 2, stack.len());
-    liveness_lists(components, ports, frontiers, enough, &mut keys, &mut ends)?;
+    liveness_lists(
+        rules, components, ports, frontiers, enough, &mut keys, &mut ends,
+    )?;
     let plot = Plot {
         keys: &keys[..count],
         components,
         ports,
         frontiers,
+        rules,
         ends: &ends,
     };
     query_plot(&plot, id, port, stack)

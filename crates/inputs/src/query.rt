@@ -82,11 +82,12 @@ pub(crate) fn row_sources(
     inferred: &[bool],
     stack: &mut [usize],
 ) -> InputSources
-    requires by_index { (cs ps fs : List ℤ) × (p port : ℕ)
-        × (Walkable cs ps fs fed.now backward.now inferred.now × SlotOf cs ps p port fed.now slot) }
+    requires by_index { (rules : ℕ) × (cs ps fs : List ℤ) × (p port : ℕ)
+        × (Walkable rules cs ps fs fed.now backward.now inferred.now × SlotOf cs ps p port fed.now slot) }
     requires inferred_in_bounds { (2 * length inferred.now ≤ length stack.old) × Zeros stack.old }
-    ensures { (cs ps fs : List ℤ) (p port : ℕ) → Walkable cs ps fs fed.now backward.now inferred.now → SlotOf cs ps p port fed.now slot →
-        PortSets cs ps fs (Some p) port result × Zeros stack.new }
+    ensures { (rules : ℕ) (cs ps fs : List ℤ) (p port : ℕ) →
+        Walkable rules cs ps fs fed.now backward.now inferred.now → SlotOf cs ps p port fed.now slot →
+        PortSets rules cs ps fs (Some p) port result × Zeros stack.new }
 {
     let keys = slot_keys(fed, slot);
     if keys.is_empty() {
@@ -107,7 +108,7 @@ pub(crate) fn row_sources(
 pub(crate) fn inferred_members(plot: &PreparedPlot, inferred: &mut [bool])
     requires { length inferred.old ≡ component_count plot.now.plot.components.now }
     ensures { let p = plot.now.plot in
-        inferred.new ≡ members_where p.components.now (is_inferred p.components.now p.ports.now p.frontiers.now) }
+        inferred.new ≡ members_where p.components.now (is_inferred p.rules p.components.now p.ports.now p.frontiers.now) }
 {
     let mut on_frontier = [false; COMPONENTS];
     let mut has_drive = [false; COMPONENTS];
@@ -128,7 +129,7 @@ pub(crate) fn find_inputs(
 )
     requires { InputsRoom plot.now.components.now plot.now.ports.now forward.old backward.old labels.old inferred.old stack.old }
     ensures { let p = plot.now in
-        Inputs p.components.now p.ports.now p.frontiers.now (sources_of p.ends.now) (sinks_of p.ends.now)
+        Inputs p.rules p.components.now p.ports.now p.frontiers.now (sources_of p.ends.now) (sinks_of p.ends.now)
         forward.new backward.new labels.new inferred.new stack.new }
 {
     let mut members = [0usize; COMPONENTS];
@@ -160,7 +161,7 @@ fn walk_tables(
 )
     requires fed_len { (length fed.old ≡ port_count plot.now.ports.now) × (length backward.old ≡ port_count plot.now.ports.now) }
     requires inferred_len { let n = component_count plot.now.components.now in (length inferred.old ≡ n) × (2 * n ≤ length stack.old) }
-    ensures { let p = plot.now in Walkable p.components.now p.ports.now p.frontiers.now fed.new backward.new inferred.new
+    ensures { let p = plot.now in Walkable p.rules p.components.now p.ports.now p.frontiers.now fed.new backward.new inferred.new
         × Zeros stack.new }
 {
     let n = plot.keys.len();
@@ -174,7 +175,7 @@ fn input_sources(plot: &Plot, p: usize, port: usize, stack: &mut [usize]) -> Inp
     requires p_bound { (p < component_count plot.now.components.now) × (port < 2 ^ 8) }
     requires stack_room { 2 * component_count plot.now.components.now ≤ length stack.old }
     ensures { let l = plot.now in
-        InputsBy (Ok tt) l.components.now l.ports.now l.frontiers.now (Some p) port stack.old stack.new (Ok result) }
+        InputsBy (Ok tt) l.rules l.components.now l.ports.now l.frontiers.now (Some p) port stack.old stack.new (Ok result) }
 {
     let n = plot.keys.len();
     let m = plot.port_list().count();
@@ -202,7 +203,7 @@ pub(crate) fn query_plot(
     requires { 2 * component_count plot.now.components.now ≤ length stack.old }
     ensures { let p = plot.now in let place = row_place p.components.now id port in
         InputsBy (refuse Fault.NoVerdictRow None (too_short (is_found place)))
-        p.components.now p.ports.now p.frontiers.now place port stack.old stack.new result }
+        p.rules p.components.now p.ports.now p.frontiers.now place port stack.old stack.new result }
 {
     let p = row_place(plot.keys, plot.component_list(), id, port).ok_or(Refusal {
         fault: Fault::NoVerdictRow,

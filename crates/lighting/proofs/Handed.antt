@@ -100,9 +100,9 @@ driven_at cs ps fs scene {marks = marks} e flags m h =
 
 -- ---- the answer
 
-pub lit_accepted : {cs ps fs : List ℤ} {regions regions' stack stack' : List ℕ} {a : Lit}
-    → light_refusal cs ps fs (length regions) (length stack) ≡ Ok tt → Scene cs ps
-    → LitBy (Ok tt) cs ps fs regions regions' stack stack' (Ok a) → Lighted cs ps fs regions regions' stack stack' (Ok a)
+pub lit_accepted : {rules : ℕ} {cs ps fs : List ℤ} {regions regions' stack stack' : List ℕ} {a : Lit}
+    → light_refusal rules cs ps fs (length regions) (length stack) ≡ Ok tt → Scene cs ps
+    → LitBy (Ok tt) cs ps fs regions regions' stack stack' (Ok a) → Lighted rules cs ps fs regions regions' stack stack' (Ok a)
 unfolding drive
 lit_accepted {cs} {ps} {fs} {regions} {regions'} {a = a} e scene by =
     let laws = light_laws cs ps fs scene in

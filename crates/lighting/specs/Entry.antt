@@ -26,8 +26,8 @@ use Rattle.lighting.specs.declared.Lit.{Lit}
 abbrev pub light_room : List ℤ → ℕ → ℕ → Bool
 light_room cs regions stack = room_for (component_count cs) 1 regions && room_for (component_count cs) 2 stack
 
-abbrev pub light_refusal : List ℤ → List ℤ → List ℤ → ℕ → ℕ → Result ⊤ Refusal
-light_refusal cs ps fs regions stack = liveness_lists cs ps fs (light_room cs regions stack)
+abbrev pub light_refusal : ℕ → List ℤ → List ℤ → List ℤ → ℕ → ℕ → Result ⊤ Refusal
+light_refusal rules cs ps fs regions stack = liveness_lists rules cs ps fs (light_room cs regions stack)
 
 -- the count and the sets of an accepted scene
 pub record LitOf (cs ps fs : List ℤ) (a : Lit) : Type 0 where
@@ -45,8 +45,8 @@ pub record LitBy (checks : Result ⊤ Refusal) (cs ps fs : List ℤ) (regions re
   pub stack_left : stack' ≡ work_of checks stack
 
 -- from components, port connections, frontiers and two lent slices
-pub record Lighted (cs ps fs : List ℤ) (regions regions' stack stack' : List ℕ) (r : Result Lit Refusal) : Type 0 where
-  pub by : LitBy (light_refusal cs ps fs (length regions) (length stack)) cs ps fs regions regions' stack stack' r
+pub record Lighted (rules : ℕ) (cs ps fs : List ℤ) (regions regions' stack stack' : List ℕ) (r : Result Lit Refusal) : Type 0 where
+  pub by : LitBy (light_refusal rules cs ps fs (length regions) (length stack)) cs ps fs regions regions' stack stack' r
   -- demand 3, on the answer itself
   pub demand : IfOk r (λ a. RegionsOfScene cs ps regions' a.count)
   -- driven: some drive source has a chain to it

@@ -4,10 +4,12 @@
 pub mod pass;
 mod plot;
 
+ghost use Rattle.lists.specs.Rules.{rules_of};
 ghost use Rattle.lighting.specs.Entry.{Lighted};
 
 use checks::refusals::{liveness_lists, room_for};
 use lists::ends::Ends;
+use lists::rules::rules_of;
 use lists::{COMPONENT, COMPONENTS, CONNECTIONS, Refusal};
 use liveness::plot::Plot;
 use plot::light_plot;
@@ -24,24 +26,29 @@ pub struct Lit {
 // The refusal of the checks, or what one pass over the regions lights; the region of each component, in list order, at the front of the
 // lent slice. A refusal writes nothing.
 pub fn light_regions(
+    rules: i64,
     components: &[i64],
     ports: &[i64],
     frontiers: &[i64],
     regions: &mut [u64],
     stack: &mut [usize],
 ) -> Result<Lit, Refusal>
-    ensures { Lighted components.now ports.now frontiers.now regions.old regions.new stack.old stack.new result }
+    ensures { Lighted (rules_of rules) components.now ports.now frontiers.now regions.old regions.new stack.old stack.new result }
 {
+    let rules = rules_of(rules);
     let mut keys = [0u64; COMPONENTS];
     let mut ends = [Ends { source: 0, sink: 0 }; CONNECTIONS];
     let count = components.len() / COMPONENT;
     let enough = room_for(count, 1, regions.len()) & room_for(count, 2, stack.len());
-    liveness_lists(components, ports, frontiers, enough, &mut keys, &mut ends)?;
+    liveness_lists(
+        rules, components, ports, frontiers, enough, &mut keys, &mut ends,
+    )?;
     let plot = Plot {
         keys: &keys[..count],
         components,
         ports,
         frontiers,
+        rules,
         ends: &ends,
     };
     Ok(light_plot(&plot, regions, stack))

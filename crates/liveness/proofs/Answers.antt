@@ -83,18 +83,18 @@ tabulated_same f g zero e = refl
 tabulated_same f g (suc n) e = rw (tabulated_same f g n (λ p h. e p (omega arith)), e n (omega arith))
 
 -- by its counts, or its refusal
-pub numbers_are : (cs ps fs : List ℤ) {checks : Result ⊤ Refusal} (r : Result Analysis Refusal) → checked r ≡ checks → IfOk r (AnalysisOf cs ps fs)
-    → numbers_of r ≡ numbers_by checks (region_count cs ps ∷ length (source_rows cs ps fs) / 2 ∷ length (input_rows cs ps fs) / 3 ∷ [])
-numbers_are cs ps fs (Ok a) e f =
-    let sources : a.sources ≡ length (source_rows cs ps fs) / 2 = omega (arith, f.source_count) in
-    let inputs : a.inputs ≡ length (input_rows cs ps fs) / 3 = omega (arith, f.input_count) in
+pub numbers_are : (rules : ℕ) (cs ps fs : List ℤ) {checks : Result ⊤ Refusal} (r : Result Analysis Refusal) → checked r ≡ checks → IfOk r (AnalysisOf rules cs ps fs)
+    → numbers_of r ≡ numbers_by checks (region_count cs ps ∷ length (source_rows rules cs ps fs) / 2 ∷ length (input_rows rules cs ps fs) / 3 ∷ [])
+numbers_are rules cs ps fs (Ok a) e f =
+    let sources : a.sources ≡ length (source_rows rules cs ps fs) / 2 = omega (arith, f.source_count) in
+    let inputs : a.inputs ≡ length (input_rows rules cs ps fs) / 3 = omega (arith, f.input_count) in
     rw (← e, ← sources, ← inputs, ← f.region_count_lem) refl
-numbers_are cs ps fs (Err refusal) e f = rw (← e) refl
+numbers_are rules cs ps fs (Err refusal) e f = rw (← e) refl
 
 -- a work slice of the same length
-pub analyzed_stack : {cs ps fs : List ℤ} {regions regions' sources sources' inputs inputs' stack stack₂ stack' : List ℕ} {r : Result Analysis Refusal} → length stack₂ ≡ length stack
-    → AnalyzedBy (Ok tt) cs ps fs regions regions' sources sources' inputs inputs' stack₂ stack' r
-    → AnalyzedBy (Ok tt) cs ps fs regions regions' sources sources' inputs inputs' stack stack' r
+pub analyzed_stack : {rules : ℕ} {cs ps fs : List ℤ} {regions regions' sources sources' inputs inputs' stack stack₂ stack' : List ℕ} {r : Result Analysis Refusal} → length stack₂ ≡ length stack
+    → AnalyzedBy (Ok tt) rules cs ps fs regions regions' sources sources' inputs inputs' stack₂ stack' r
+    → AnalyzedBy (Ok tt) rules cs ps fs regions regions' sources sources' inputs inputs' stack stack' r
 analyzed_stack e a = record {
   answer = a.answer;
   numbers = a.numbers;
@@ -108,19 +108,19 @@ analyzed_stack e a = record {
 -- ---- the entry
 
 -- what an accepted scene's checks have shown
-pub scene_of_lem : {cs ps fs : List ℤ} {enough : Bool} → LivenessScene cs ps fs enough → Scene cs ps
+pub scene_of_lem : {rules : ℕ} {cs ps fs : List ℤ} {enough : Bool} → LivenessScene rules cs ps fs enough → Scene cs ps
 scene_of_lem s = record { components = s.components; connections = s.connections; ends = s.ends; ascending = s.scene.ascending; distinct = s.scene.once }
 
-pub analyzed_accepted : {cs ps fs : List ℤ} {regions regions' sources sources' inputs inputs' stack stack' : List ℕ} {r : Analysis}
-    → liveness_refusal cs ps fs (length regions) (length sources) (length inputs) (length stack) ≡ Ok tt → Scene cs ps
-    → AnalyzedBy (Ok tt) cs ps fs regions regions' sources sources' inputs inputs' stack stack' (Ok r)
-    → Analyzed cs ps fs regions regions' sources sources' inputs inputs' stack stack' (Ok r)
+pub analyzed_accepted : {rules : ℕ} {cs ps fs : List ℤ} {regions regions' sources sources' inputs inputs' stack stack' : List ℕ} {r : Analysis}
+    → liveness_refusal rules cs ps fs (length regions) (length sources) (length inputs) (length stack) ≡ Ok tt → Scene cs ps
+    → AnalyzedBy (Ok tt) rules cs ps fs regions regions' sources sources' inputs inputs' stack stack' (Ok r)
+    → Analyzed rules cs ps fs regions regions' sources sources' inputs inputs' stack stack' (Ok r)
 unfolding drive potential
-analyzed_accepted {cs} {ps} {fs} {regions = regions} e s a = record {
+analyzed_accepted {rules} {cs} {ps} {fs} {regions = regions} e s a = record {
   by = rw e a;
   demand = rw (a.regions_left, a.analysis.region_count_lem) (demand_3 cs ps s (drop (length (regions_of cs ps)) regions));
   driven = fed_from cs ps s (is_drive cs fs) a.analysis.drive_set;
-  possible = fed_from cs ps s (λ q. is_drive cs fs q || is_inferred cs ps fs q) a.analysis.potential_set;
+  possible = fed_from cs ps s (λ q. is_drive cs fs q || is_inferred rules cs ps fs q) a.analysis.potential_set;
 }
 
 -- a refusal counts nothing
@@ -129,12 +129,12 @@ if_refused (Ok value) P e = absurd (refused_not (sym e))
 if_refused (Err refused) P e = tt
 
 -- and nothing is written
-pub analyzed_refused : {cs ps fs : List ℤ} {regions regions' sources sources' inputs inputs' stack stack' : List ℕ} {refusal : Refusal} {r : Result Analysis Refusal}
-    → liveness_refusal cs ps fs (length regions) (length sources) (length inputs) (length stack) ≡ Err refusal → checked r ≡ Err refusal
+pub analyzed_refused : {rules : ℕ} {cs ps fs : List ℤ} {regions regions' sources sources' inputs inputs' stack stack' : List ℕ} {refusal : Refusal} {r : Result Analysis Refusal}
+    → liveness_refusal rules cs ps fs (length regions) (length sources) (length inputs) (length stack) ≡ Err refusal → checked r ≡ Err refusal
     → regions' ≡ regions → sources' ≡ sources → inputs' ≡ inputs → stack' ≡ stack
-    → Analyzed cs ps fs regions regions' sources sources' inputs inputs' stack stack' r
-analyzed_refused {cs} {ps} {fs} {r = r} e f p q u v = record {
-  by = rw e record { answer = f; numbers = numbers_are cs ps fs r f (if_refused r _ f); analysis = if_refused r _ f; regions_left = p; sources_left = q; inputs_left = u; stack_left = v };
+    → Analyzed rules cs ps fs regions regions' sources sources' inputs inputs' stack stack' r
+analyzed_refused {rules} {cs} {ps} {fs} {r = r} e f p q u v = record {
+  by = rw e record { answer = f; numbers = numbers_are rules cs ps fs r f (if_refused r _ f); analysis = if_refused r _ f; regions_left = p; sources_left = q; inputs_left = u; stack_left = v };
   demand = if_refused r _ f;
   driven = if_refused r _ f;
   possible = if_refused r _ f;

@@ -134,14 +134,14 @@ module _ {cs ps : List ℤ} (scene : Scene cs ps) {sources sinks forward backwar
       ap (λ (g : Edges). same && (g m j || edges n backward m j)) graph
       ∙ ap (λ (b : Bool). same && (signals cs ps m j || b)) (edges_back few s t within p.tables.backward_keys m j))
 
-  module _ (fs : List ℤ) {driven fed : List Bool} (d : Flags component_limit (holds_drive cs ps fs) driven) (f : Flags component_limit (fed_from_outside cs ps) fed) where
-    pub inferred_is : (q : ℕ) → q < component_count cs → inferred_by cs members region_of driven fed forward backward labelled q ≡ is_inferred cs ps fs q
+  module _ (rules : ℕ) (fs : List ℤ) {driven fed : List Bool} (d : Flags component_limit (holds_drive cs ps fs) driven) (f : Flags component_limit (fed_from_outside rules cs ps) fed) where
+    pub inferred_is : (q : ℕ) → q < component_count cs → inferred_by cs members region_of driven fed forward backward labelled q ≡ is_inferred rules cs ps fs q
     unfolding is_inferred
     inferred_is q h =
         let region = region_of_place cs ps q in
         let below : region < component_limit = omega (arith, label_under cs ps scene.ends (member_of cs q) (member_below cs q h), few) in
         rw (labels_long, p.labels_are, p.members_are.at q h, p.regions_are.at q h, d.at region below, f.at region below, neighbours_are (member_of cs q))
-        (and_turned (eqb (component cs q).kind wire) (not (holds_drive cs ps fs region) && not (fed_from_outside cs ps region)) (leb (neighbours cs ps (member_of cs q)) 1))
+        (and_turned (eqb (component cs q).kind wire) (not (holds_drive cs ps fs region) && not (fed_from_outside rules cs ps region)) (leb (neighbours cs ps (member_of cs q)) 1))
 
 -- ---- pairs of regions
 

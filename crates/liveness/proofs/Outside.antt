@@ -59,24 +59,24 @@ module _ (P same : ℕ → Bool) (n p : ℕ) (h : p < n) (here : same p ≡ true
 
 -- ---- passive sources
 
-module _ (cs : List ℤ) (once : first_repeated cs ≡ None) {members : List ℕ} (numbers : Numbers (component_count cs) (member_of cs) members)
-    {flags marks : List Bool} (f : Flags (component_count cs) (λ p. is_passive (component cs p).kind) flags) (long : length marks ≡ component_count cs)
+module _ (rules : ℕ) (cs : List ℤ) (once : first_repeated cs ≡ None) {members : List ℕ} (numbers : Numbers (component_count cs) (member_of cs) members)
+    {flags marks : List Bool} (f : Flags (component_count cs) (λ p. is_passive rules (component cs p).kind) flags) (long : length marks ≡ component_count cs)
     (g : Gathered (component_count cs) members flags marks) where
-  mark_at : (p : ℕ) → p < component_count cs → marked marks (member_of cs p) ≡ is_passive (component cs p).kind
+  mark_at : (p : ℕ) → p < component_count cs → marked marks (member_of cs p) ≡ is_passive rules (component cs p).kind
   mark_at p h =
       let n = component_count cs in
       let m = member_of cs p in
       g.at m (omega (arith, member_below cs p h))
-      ∙ ap is_found (first_cong _ (λ q. is_passive (component cs q).kind && eqb (member_of cs q) m) 0 n (λ q a b.
+      ∙ ap is_found (first_cong _ (λ q. is_passive rules (component cs q).kind && eqb (member_of cs q) m) 0 n (λ q a b.
       rw (f.at q (omega arith), numbers.at q (omega arith))))
-      ∙ some_only (λ q. is_passive (component cs q).kind) (λ q. eqb (member_of cs q) m) n p h (eq-eqb m m refl)
+      ∙ some_only (λ q. is_passive rules (component cs q).kind) (λ q. eqb (member_of cs q) m) n p h (eq-eqb m m refl)
       (λ q l e. member_inj cs once q p l h (eqb-true (member_of cs q) m e))
 
-  pub passive_at : (id : ℕ) → has_component cs id ≡ true → marked marks (smaller_ids cs id) ≡ is_passive (kind_at cs (place_of cs id))
+  pub passive_at : (id : ℕ) → has_component cs id ≡ true → marked marks (smaller_ids cs id) ≡ is_passive rules (kind_at cs (place_of cs id))
   unfolding place_below
   passive_at id e = go (place_of cs id) refl e
     where
-      go : (x : Option ℕ) → place_of cs id ≡ x → is_found x ≡ true → marked marks (smaller_ids cs id) ≡ is_passive (kind_at cs x)
+      go : (x : Option ℕ) → place_of cs id ≡ x → is_found x ≡ true → marked marks (smaller_ids cs id) ≡ is_passive rules (kind_at cs x)
       go (Some p) q t =
           let found = found_at (λ k. eqb (component cs k).id id) 0 (component_count cs) p q in
           ap (λ (i : ℕ). marked marks (smaller_ids cs i)) (sym (eqb-true (component cs p).id id found.passes)) ∙ mark_at p (omega (arith, found.below))
@@ -98,12 +98,12 @@ tests_same true true y y' z e = turned y z ∙ rw (e refl)
 
 module _ {cs ps : List ℤ} (scene : Scene cs ps) {sources sinks forward labelled members : List ℕ} (s : Settled cs ps 0 sources) (t : Settled cs ps 2 sinks)
     (table : KeysOf ps sources sinks component_limit forward) (is : labelled ≡ labels cs ps) (numbers : Numbers (component_count cs) (member_of cs) members) where
-  pub fed_is : (rest : List Bool) {flags marks fed : List Bool} {n : ℕ} → Flags (component_count cs) (λ p. is_passive (component cs p).kind) flags
+  pub fed_is : (rules : ℕ) (rest : List Bool) {flags marks fed : List Bool} {n : ℕ} → Flags (component_count cs) (λ p. is_passive rules (component cs p).kind) flags
       → length marks ≡ component_count cs → Gathered (component_count cs) members flags marks
       → n ≡ component_limit → Flags n (λ r. some (λ i. outside_key labelled (marks ++ rest) r (get_or forward i 0)) (length forward)) fed
-      → Flags component_limit (fed_from_outside cs ps) fed
+      → Flags component_limit (fed_from_outside rules cs ps) fed
   unfolding fed_from_outside
-  fed_is rest {flags} {marks} {fed} f long g room o = record {
+  fed_is rules rest {flags} {marks} {fed} f long g room o = record {
     long = omega (arith, o.long);
     at = λ r h.
         o.at r (omega arith)
@@ -118,15 +118,15 @@ module _ {cs ps : List ℤ} (scene : Scene cs ps) {sources sinks forward labelle
       test : ℕ → ℕ → ℕ → Bool
       test r a b = (not (eqb (get_or labelled a 0) (get_or labelled b 0)) && not (marked (marks ++ rest) a)) && eqb (get_or labelled b 0) r
 
-      passive : (k : ℕ) → k < port_count ps → is_signal ps k ≡ true → marked (marks ++ rest) (source_member cs ps k) ≡ is_passive (kind_at cs (place_of cs (port_connection ps k).source))
+      passive : (k : ℕ) → k < port_count ps → is_signal ps k ≡ true → marked (marks ++ rest) (source_member cs ps k) ≡ is_passive rules (kind_at cs (place_of cs (port_connection ps k).source))
       passive k h signal =
           let there = ends_below cs ps scene.ends k h signal in
           get_or-append marks rest false (source_member cs ps k) (omega (arith, there.source_below))
-          ∙ passive_at cs scene.distinct numbers f long g (port_connection ps k).source there.source_found
+          ∙ passive_at rules cs scene.distinct numbers f long g (port_connection ps k).source there.source_found
 
       tested : (r k : ℕ) → k < port_count ps → (is_signal ps k && test r (source_member cs ps k) (sink_member cs ps k))
           ≡ (is_signal ps k && (not (eqb (at (labels cs ps) (source_member cs ps k)) (at (labels cs ps) (sink_member cs ps k)))
-          && (eqb (at (labels cs ps) (sink_member cs ps k)) r && not (is_passive (kind_at cs (place_of cs (port_connection ps k).source))))))
+          && (eqb (at (labels cs ps) (sink_member cs ps k)) r && not (is_passive rules (kind_at cs (place_of cs (port_connection ps k).source))))))
       tested r k h =
           tests_same (is_signal ps k) (not (eqb (get_or labelled (source_member cs ps k) 0) (get_or labelled (sink_member cs ps k) 0)))
           (marked (marks ++ rest) (source_member cs ps k)) _ (eqb (get_or labelled (sink_member cs ps k) 0) r) (passive k h)

@@ -20,14 +20,14 @@ use Rattle.liveness.specs.Meaning.{FedFrom}
 use Rattle.liveness.specs.declared.Analysis.{Analysis}
 
 -- the counts and the sets of an accepted scene
-pub record AnalysisOf (cs ps fs : List ℤ) (a : Analysis) : Type 0 where
+pub record AnalysisOf (rules : ℕ) (cs ps fs : List ℤ) (a : Analysis) : Type 0 where
   -- a source row is two numbers, a verdict row three
   pub region_count_lem : a.regions ≡ region_count cs ps
-  pub source_count : a.sources * 2 ≡ length (source_rows cs ps fs)
-  pub input_count : a.inputs * 3 ≡ length (input_rows cs ps fs)
+  pub source_count : a.sources * 2 ≡ length (source_rows rules cs ps fs)
+  pub input_count : a.inputs * 3 ≡ length (input_rows rules cs ps fs)
   -- of members
   pub drive_set : SetWhere (component_count cs) (marked (drive cs ps fs)) a.drive.words
-  pub potential_set : SetWhere (component_count cs) (marked (potential cs ps fs)) a.potential.words
+  pub potential_set : SetWhere (component_count cs) (marked (potential rules cs ps fs)) a.potential.words
   -- of regions
   pub cyclic_set : SetWhere (region_count cs ps) (is_cyclic cs ps) a.cyclic.words
   pub has_drive_set : SetWhere (region_count cs ps) (holds_drive cs ps fs) a.has_drive.words
@@ -38,24 +38,24 @@ numbers_of (Ok a) = 0 ∷ a.regions ∷ a.sources ∷ a.inputs ∷ []
 numbers_of (Err r) = refusal_numbers r
 
 -- by what the checks say: their refusal, or the counts and the sets, and the rows
-pub record AnalyzedBy (checks : Result ⊤ Refusal) (cs ps fs : List ℤ) (regions regions' sources sources' inputs inputs' stack stack' : List ℕ) (r : Result Analysis Refusal) : Type 0 where
+pub record AnalyzedBy (checks : Result ⊤ Refusal) (rules : ℕ) (cs ps fs : List ℤ) (regions regions' sources sources' inputs inputs' stack stack' : List ℕ) (r : Result Analysis Refusal) : Type 0 where
   pub answer : checked r ≡ checks
   pub numbers : numbers_of r
-      ≡ numbers_by checks (region_count cs ps ∷ length (source_rows cs ps fs) / 2 ∷ length (input_rows cs ps fs) / 3 ∷ [])
-  pub analysis : IfOk r (AnalysisOf cs ps fs)
+      ≡ numbers_by checks (region_count cs ps ∷ length (source_rows rules cs ps fs) / 2 ∷ length (input_rows rules cs ps fs) / 3 ∷ [])
+  pub analysis : IfOk r (AnalysisOf rules cs ps fs)
   pub regions_left : regions' ≡ left_of checks (regions_of cs ps) regions
-  pub sources_left : sources' ≡ left_of checks (source_rows cs ps fs) sources
-  pub inputs_left : inputs' ≡ left_of checks (input_rows cs ps fs) inputs
+  pub sources_left : sources' ≡ left_of checks (source_rows rules cs ps fs) sources
+  pub inputs_left : inputs' ≡ left_of checks (input_rows rules cs ps fs) inputs
   pub stack_left : stack' ≡ work_of checks stack
 
--- from components, port connections, frontiers and four lent slices
-pub record Analyzed (cs ps fs : List ℤ) (regions regions' sources sources' inputs inputs' stack stack' : List ℕ) (r : Result Analysis Refusal) : Type 0 where
-  pub by : AnalyzedBy (liveness_refusal cs ps fs (length regions) (length sources) (length inputs) (length stack))
-      cs ps fs regions regions' sources sources' inputs inputs' stack stack' r
+-- from a rules number, components, port connections, frontiers and four lent slices
+pub record Analyzed (rules : ℕ) (cs ps fs : List ℤ) (regions regions' sources sources' inputs inputs' stack stack' : List ℕ) (r : Result Analysis Refusal) : Type 0 where
+  pub by : AnalyzedBy (liveness_refusal rules cs ps fs (length regions) (length sources) (length inputs) (length stack))
+      rules cs ps fs regions regions' sources sources' inputs inputs' stack stack' r
   -- demand 3, on the answer itself
   pub demand : IfOk r (λ a. RegionsOfScene cs ps regions' a.regions)
   -- driven: some drive source has a chain to it
   pub driven : IfOk r (λ a. FedFrom cs ps (is_drive cs fs) (λ p. member_of a.drive.words (Ids.member_of cs p)))
   -- the same of what may be: some drive source or inferred input has
-  pub possible : IfOk r (λ a. FedFrom cs ps (λ q. is_drive cs fs q || is_inferred cs ps fs q)
+  pub possible : IfOk r (λ a. FedFrom cs ps (λ q. is_drive cs fs q || is_inferred rules cs ps fs q)
       (λ p. member_of a.potential.words (Ids.member_of cs p)))

@@ -62,9 +62,9 @@ pub record PreparedScene (cs ps : List ℤ) (forward backward labelled members r
   pub prepared : Prepared cs ps sources sinks forward backward labelled members region_of
 
 -- what the drive sources reach, and what these and the inferred inputs reach
-pub record Alive (cs ps fs : List ℤ) (driven possible : List Bool) : Type 0 where
+pub record Alive (rules : ℕ) (cs ps fs : List ℤ) (driven possible : List Bool) : Type 0 where
   pub drive_is : driven ≡ drive cs ps fs
-  pub potential_is : possible ≡ potential cs ps fs
+  pub potential_is : possible ≡ potential rules cs ps fs
 
 -- ---- room in the arrays that are lent
 
@@ -86,12 +86,12 @@ pub record NarrowEnds (ps : List ℤ) (sources sinks froms tos : List ℕ) : Typ
 -- ---- the marks and the rows of a scene
 
 -- marks of components by list place, of members, and of regions
-pub record Marked (cs ps fs : List ℤ) (frontier inferred hasDriven driven possible : List Bool) : Type 0 where
+pub record Marked (rules : ℕ) (cs ps fs : List ℤ) (frontier inferred hasDriven driven possible : List Bool) : Type 0 where
   pub frontier_flags : Flags (component_count cs) (is_on_frontier cs fs) frontier
-  pub inferred_flags : Flags (component_count cs) (is_inferred cs ps fs) inferred
+  pub inferred_flags : Flags (component_count cs) (is_inferred rules cs ps fs) inferred
   pub region_flags : Flags component_limit (holds_drive cs ps fs) hasDriven
   pub drive_is : driven ≡ drive cs ps fs
-  pub potential_is : possible ≡ potential cs ps fs
+  pub potential_is : possible ≡ potential rules cs ps fs
 
 -- room for them
 pub record MarkRoom (cs : List ℤ) (frontier inferred hasDriven driven possible : List Bool) : Type 0 where

@@ -1,5 +1,5 @@
 // What the drive sources and the inferred inputs reach: marks of their regions, carried along the pairs of regions.
-ghost use Rattle.std.specs.Prelude.{◌≡◌, ◌&&◌, ◌||◌, List, ◌≤◌, eqb, length, get_or, ℤ};
+ghost use Rattle.std.specs.Prelude.{◌≡◌, ℕ, ◌&&◌, ◌||◌, List, ◌≤◌, eqb, length, get_or, ℤ};
 ghost use Rattle.lists.specs.Limits.{component_limit};
 ghost use Rattle.lists.specs.Records.{component_count};
 ghost use Rattle.lists.specs.First.{some};
@@ -38,10 +38,10 @@ pub(crate) fn flag_alive(
     potential: &mut [bool],
 )
     requires { AliveRoom (component_count plot.now.plot.components.now) has_drive.now inferred.now drive.old potential.old }
-    ensures { let p = plot.now.plot in let cs = p.components.now in (fs : List ℤ) →
+    ensures { let p = plot.now.plot in let cs = p.components.now in (rules : ℕ) (fs : List ℤ) →
         Flags component_limit (holds_drive cs p.ports.now fs) has_drive.now →
-        Flags (component_count cs) (is_inferred cs p.ports.now fs) inferred.now →
-        Alive cs p.ports.now fs drive.new potential.new }
+        Flags (component_count cs) (is_inferred rules cs p.ports.now fs) inferred.now →
+        Alive rules cs p.ports.now fs drive.new potential.new }
 {
     let n = plot.labels.len();
     let mut keys = [0u64; CONNECTIONS];

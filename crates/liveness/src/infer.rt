@@ -38,9 +38,10 @@ pub(crate) fn infer(
     }
 }
 
-// Flags the regions that get a connection from another region's component, Solid and Transparent sources left uncounted.
+// Flags the regions that get a connection from another region's component, passive sources left uncounted.
 pub(crate) fn outside_regions(
     components: ComponentList,
+    rules: u64,
     forward: &[u64],
     labels: &[usize],
     members: &[usize],
@@ -51,12 +52,12 @@ pub(crate) fn outside_regions(
     requires fed_len { length fed.old ≡ component_limit }
     ensures { (ps : List ℤ) (backward region_of : List ℕ) →
         PreparedScene components.entry.numbers.now ps forward.now backward labels.now members.now region_of →
-        Flags component_limit (fed_from_outside components.entry.numbers.now ps) fed.new }
+        Flags component_limit (fed_from_outside rules components.entry.numbers.now ps) fed.new }
 {
     let n = labels.len();
     let mut passive_at = [false; COMPONENTS];
     let mut passive = [false; COMPONENTS];
-    passive_flags(components, &mut passive_at);
+    passive_flags(components, rules, &mut passive_at);
     gather(&members[..n], &passive_at, &mut passive[..n]);
     flag_outside(forward, labels, &passive, fed);
 }

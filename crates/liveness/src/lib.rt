@@ -12,10 +12,12 @@ mod infer;
 pub mod plot;
 pub mod steps;
 
+ghost use Rattle.lists.specs.Rules.{rules_of};
 ghost use Rattle.liveness.specs.Entry.{Analyzed};
 
 use checks::refusals::{liveness_lists, room_for_rows};
 use lists::ends::Ends;
+use lists::rules::rules_of;
 use lists::{COMPONENT, COMPONENTS, CONNECTIONS, Refusal};
 use plot::Plot;
 use sets::ComponentSet;
@@ -44,6 +46,7 @@ pub struct Rows<'a> {
 // The refusal of the checks, or what is counted and the sets; the region of each component, the source rows and the verdict rows, in list
 // order, at the front of the lent slices. A refusal writes nothing.
 pub fn analyze_signal_liveness(
+    rules: i64,
     components: &[i64],
     ports: &[i64],
     frontiers: &[i64],
@@ -52,9 +55,10 @@ pub fn analyze_signal_liveness(
     inputs: &mut [u64],
     stack: &mut [usize],
 ) -> Result<Analysis, Refusal>
-    ensures { Analyzed components.now ports.now frontiers.now
+    ensures { Analyzed (rules_of rules) components.now ports.now frontiers.now
         regions.old regions.new sources.old sources.new inputs.old inputs.new stack.old stack.new result }
 {
+    let rules = rules_of(rules);
     let mut keys = [0u64; COMPONENTS];
     let mut ends = [Ends { source: 0, sink: 0 }; CONNECTIONS];
     let count = components.len() / COMPONENT;
@@ -65,12 +69,15 @@ pub fn analyze_signal_liveness(
         inputs.len(),
         stack.len(),
     );
-    liveness_lists(components, ports, frontiers, enough, &mut keys, &mut ends)?;
+    liveness_lists(
+        rules, components, ports, frontiers, enough, &mut keys, &mut ends,
+    )?;
     let plot = Plot {
         keys: &keys[..count],
         components,
         ports,
         frontiers,
+        rules,
         ends: &ends,
     };
     Ok(analyze(&plot, regions, sources, inputs, stack))

@@ -12,13 +12,15 @@ use regions::{Graph, HINTED};
 use signals::flags::spread;
 use signals::stages::{build_tables, find_regions, place_members};
 
-// The lists that the checks accepted, the table of the components' ids, and the ends of the port connections as members.
+// The lists that the checks accepted, the rules by which they are marked, the table of the components' ids, and the ends of the port
+// connections as members.
 #[derive(Clone, Copy)]
 pub struct Plot<'a> {
     pub keys: &'a [u64],
     pub components: &'a [i64],
     pub ports: &'a [i64],
     pub frontiers: &'a [i64],
+    pub rules: u64,
     pub ends: &'a [Ends],
     pub ghost accepted: { Accepted components.now ports.now keys.now (sources_of ends.now) (sinks_of ends.now) } by { Prim.hlevel props },
 }

@@ -60,6 +60,7 @@ pub fn flag_drive(
 // Flags the inferred inputs, by list place. A prepared plot for its slices would ask more.
 pub fn flag_inferred(
     components: ComponentList,
+    rules: u64,
     forward: Graph,
     backward: Graph,
     labels: &[usize],
@@ -74,10 +75,10 @@ pub fn flag_inferred(
     ensures { (ps fs : List ℤ) →
         PreparedScene components.entry.numbers.now ps forward.entry.keys.now backward.entry.keys.now labels.now members.now region_at.now →
         Flags component_limit (holds_drive components.entry.numbers.now ps fs) has_drive.now →
-        Flags (component_count components.entry.numbers.now) (is_inferred components.entry.numbers.now ps fs) inferred.new }
+        Flags (component_count components.entry.numbers.now) (is_inferred rules components.entry.numbers.now ps fs) inferred.new }
 {
     let mut fed = [false; COMPONENTS];
-    outside_regions(components, forward.keys, labels, members, &mut fed);
+    outside_regions(components, rules, forward.keys, labels, members, &mut fed);
     let network = Network {
         forward,
         backward,
@@ -103,7 +104,7 @@ pub fn flag_inputs(
     ensures region_flags { let p = plot.now.plot in
         Flags component_limit (holds_drive p.components.now p.ports.now p.frontiers.now) has_drive.new }
     ensures inferred_flags { let p = plot.now.plot in
-        Flags (component_count p.components.now) (is_inferred p.components.now p.ports.now p.frontiers.now) inferred.new }
+        Flags (component_count p.components.now) (is_inferred p.rules p.components.now p.ports.now p.frontiers.now) inferred.new }
 {
     let mut drive_at = [false; COMPONENTS];
     let listed = plot.plot.component_list();
@@ -117,6 +118,7 @@ pub fn flag_inputs(
     );
     flag_inferred(
         listed,
+        plot.plot.rules,
         plot.forward,
         plot.backward,
         plot.labels,
@@ -138,7 +140,7 @@ fn mark(
 )
     requires { MarkRoom plot.now.plot.components.now on_frontier.old inferred.old has_drive.old drive.old potential.old }
     ensures { let p = plot.now.plot in
-        Marked p.components.now p.ports.now p.frontiers.now on_frontier.new inferred.new has_drive.new drive.new potential.new }
+        Marked p.rules p.components.now p.ports.now p.frontiers.now on_frontier.new inferred.new has_drive.new drive.new potential.new }
 {
     flag_inputs(plot, on_frontier, has_drive, inferred);
     flag_alive(plot, has_drive, inferred, drive, potential);
@@ -193,7 +195,7 @@ fn report(
     requires rows_room { RowsRoom plot.now.plot.components.now regions.old sources.old inputs.old stack.old }
     requires stack_zeros { Zeros stack.old }
     ensures { let p = plot.now.plot in
-        AnalyzedBy (Ok tt) p.components.now p.ports.now p.frontiers.now
+        AnalyzedBy (Ok tt) p.rules p.components.now p.ports.now p.frontiers.now
         regions.old regions.new sources.old sources.new inputs.old inputs.new stack.old stack.new (Ok result) }
 {
     let lists = plot.plot;
@@ -243,7 +245,7 @@ fn analyze_in(
     requires labels_room { length labels.old ≡ component_count plot.now.components.now }
     requires rows_room { RowsRoom plot.now.components.now regions.old sources.old inputs.old stack.old }
     ensures { let p = plot.now in
-        AnalyzedBy (Ok tt) p.components.now p.ports.now p.frontiers.now
+        AnalyzedBy (Ok tt) p.rules p.components.now p.ports.now p.frontiers.now
         regions.old regions.new sources.old sources.new inputs.old inputs.new stack.old stack.new (Ok result) }
 {
     let mut members = [0usize; COMPONENTS];
@@ -274,7 +276,7 @@ pub fn analyze(
 ) -> Analysis
     requires { RowsRoom plot.now.components.now regions.old sources.old inputs.old stack.old }
     ensures { let p = plot.now in
-        AnalyzedBy (Ok tt) p.components.now p.ports.now p.frontiers.now
+        AnalyzedBy (Ok tt) p.rules p.components.now p.ports.now p.frontiers.now
         regions.old regions.new sources.old sources.new inputs.old inputs.new stack.old stack.new (Ok result) }
 {
     let n = plot.keys.len();

@@ -50,19 +50,19 @@ grouping_answered (Err refusal) nets fragments r e = absurd (let z : ◌≡◌ {
 
 -- ---- the liveness entry
 
-module _ {cs ps fs : List ℤ} {regions regions₁ sources sources₁ inputs inputs₁ stack stack₁ : List ℕ} {r : Analysis}
-    (a : Analyzed cs ps fs regions regions₁ sources sources₁ inputs inputs₁ stack stack₁ (Ok r)) where
-  pub accepted_checks : liveness_refusal cs ps fs (length regions) (length sources) (length inputs) (length stack) ≡ Ok tt
+module _ {rules : ℕ} {cs ps fs : List ℤ} {regions regions₁ sources sources₁ inputs inputs₁ stack stack₁ : List ℕ} {r : Analysis}
+    (a : Analyzed rules cs ps fs regions regions₁ sources sources₁ inputs inputs₁ stack stack₁ (Ok r)) where
+  pub accepted_checks : liveness_refusal rules cs ps fs (length regions) (length sources) (length inputs) (length stack) ≡ Ok tt
   accepted_checks = sym a.by.answer
 
-  by : AnalyzedBy (Ok tt) cs ps fs regions regions₁ sources sources₁ inputs inputs₁ stack stack₁ (Ok r)
-  by = subst (λ (checks : Result ⊤ Refusal). AnalyzedBy checks cs ps fs regions regions₁ sources sources₁ inputs inputs₁ stack stack₁ (Ok r)) accepted_checks a.by
+  by : AnalyzedBy (Ok tt) rules cs ps fs regions regions₁ sources sources₁ inputs inputs₁ stack stack₁ (Ok r)
+  by = subst (λ (checks : Result ⊤ Refusal). AnalyzedBy checks rules cs ps fs regions regions₁ sources sources₁ inputs inputs₁ stack stack₁ (Ok r)) accepted_checks a.by
 
-  pub rows_answered : answered_rows r inputs₁ ≡ input_rows cs ps fs
+  pub rows_answered : answered_rows r inputs₁ ≡ input_rows rules cs ps fs
   rows_answered =
       ap (λ (l : List ℕ). take (r.inputs * 3) l) by.inputs_left
-      ∙ ap (λ (k : ℕ). take k (input_rows cs ps fs ++ drop (length (input_rows cs ps fs)) inputs)) by.analysis.input_count
-      ∙ take-append_seam (input_rows cs ps fs) (drop (length (input_rows cs ps fs)) inputs)
+      ∙ ap (λ (k : ℕ). take k (input_rows rules cs ps fs ++ drop (length (input_rows rules cs ps fs)) inputs)) by.analysis.input_count
+      ∙ take-append_seam (input_rows rules cs ps fs) (drop (length (input_rows rules cs ps fs)) inputs)
 
   module _ (scene : Scene cs ps) where
     drive_long : length (drive cs ps fs) ≡ component_count cs

@@ -12,10 +12,11 @@ use lib.IntN.{ℤ}
 use borrow.Author.Tests.{eq-eqb, ne_eqb}
 use Rattle.sets.specs.Members.{count_below}
 use Rattle.lists.specs.First.{first_from, all_from, tabulate}
+use Rattle.lists.specs.Rules.{known_rules}
 use Rattle.lists.specs.Ranges.{record_in_range, first_out_of_range}
 use Rattle.lists.specs.Order.{record_before, first_not_ascending}
 use Rattle.lists.specs.Ids.{place_below, first_repeated, first_end_missing, smaller_ids}
-use Rattle.checks.specs.Refusals.{not_whole, grouping_lists, liveness_lists}
+use Rattle.checks.specs.Refusals.{not_whole, scene_lists, grouping_lists, liveness_lists}
 use Rattle.circuit.specs.Connected.{Joined, pair, same, flip, chain}
 use Rattle.circuit.specs.Topology.{net_kinds, fragment_kinds, joins, joins_of, net_count, fragment_count}
 use Rattle.circuit.proofs.Nets.{numbers_joined}
@@ -31,17 +32,17 @@ use Rattle.one_wire.specs.Ports.{is_driven, is_reachable, newly}
 use Rattle.one_wire.proofs.Merged.{number_of, group_count_lem}
 use Rattle.one_wire.specs.Example.{lever_and_repeater, joining, feed, Reached}
 
-net_accepted : grouping_lists lever_and_repeater (joining 4) [] true ≡ Ok tt
-unfolding first_from all_from record_in_range first_out_of_range record_before first_not_ascending place_below first_repeated not_whole grouping_lists
-net_accepted = refl
+net_accepted : (rules : ℕ) → known_rules rules ≡ true → grouping_lists rules lever_and_repeater (joining 4) [] true ≡ Ok tt
+unfolding first_from all_from record_in_range first_out_of_range record_before first_not_ascending place_below first_repeated not_whole scene_lists grouping_lists
+net_accepted rules known = rw known
 
-fragment_accepted : grouping_lists lever_and_repeater (joining 8) [] true ≡ Ok tt
-unfolding first_from all_from record_in_range first_out_of_range record_before first_not_ascending place_below first_repeated not_whole grouping_lists
-fragment_accepted = refl
+fragment_accepted : (rules : ℕ) → known_rules rules ≡ true → grouping_lists rules lever_and_repeater (joining 8) [] true ≡ Ok tt
+unfolding first_from all_from record_in_range first_out_of_range record_before first_not_ascending place_below first_repeated not_whole scene_lists grouping_lists
+fragment_accepted rules known = rw known
 
-feed_accepted : liveness_lists lever_and_repeater feed [] true ≡ Ok tt
-unfolding first_from all_from record_in_range first_out_of_range record_before first_not_ascending place_below first_repeated first_end_missing not_whole liveness_lists
-feed_accepted = refl
+feed_accepted : (rules : ℕ) → known_rules rules ≡ true → liveness_lists rules lever_and_repeater feed [] true ≡ Ok tt
+unfolding first_from all_from record_in_range first_out_of_range record_before first_not_ascending place_below first_repeated first_end_missing not_whole scene_lists liveness_lists
+feed_accepted rules known = rw known
 
 newly_driven : count_below (newly (is_driven lever_and_repeater [] []) (is_driven lever_and_repeater feed [])) 2 ≡ 1
 unfolding count_below first_from tabulate smaller_ids graph.range graph.filter graph.each graph.next walk.visit walk.reached signals source_kind first_at is_on_frontier members_where drive
@@ -51,13 +52,13 @@ reachable : count_below (is_reachable lever_and_repeater [] 2) 2 ≡ 1
 unfolding count_below first_from tabulate smaller_ids graph.range graph.filter graph.each graph.next walk.visit walk.reached signals is_reachable
 reachable = refl
 
-rows_before : input_rows lever_and_repeater [] [] ≡ 2 ∷ 1 ∷ 2 ∷ []
+rows_before : (rules : ℕ) → input_rows rules lever_and_repeater [] [] ≡ 2 ∷ 1 ∷ 2 ∷ []
 unfolding first_from opposite face_or neither repeater_ports ports_for status_of port_rows verdict_rows
-rows_before = refl
+rows_before rules = refl
 
-rows_after : input_rows lever_and_repeater feed [] ≡ 2 ∷ 1 ∷ 0 ∷ []
+rows_after : (rules : ℕ) → input_rows rules lever_and_repeater feed [] ≡ 2 ∷ 1 ∷ 0 ∷ []
 unfolding count_below first_from tabulate smaller_ids opposite face_or neither repeater_ports ports_for graph.range graph.filter graph.each graph.next walk.visit walk.reached signals source_kind first_at is_on_frontier members_where drive fed_by status_of port_rows verdict_rows
-rows_after = refl
+rows_after rules = refl
 
 -- ---- groups
 

@@ -38,13 +38,13 @@ module _ (cs ps fs : List ℤ) (p port : ℕ) where
   abbrev is_fed : Bool
   is_fed = some (feeds_port cs ps p port) (port_count ps)
 
-  status_unfed : status_of cs ps fs p port ≡ 2 → is_fed ≡ false
+  status_unfed : (rules : ℕ) → status_of rules cs ps fs p port ≡ 2 → is_fed ≡ false
   unfolding status_of
-  status_unfed e = unfed is_fed (fed_by cs ps p port (drive cs ps fs)) (fed_by cs ps p port (potential cs ps fs)) e
+  status_unfed rules e = unfed is_fed (fed_by cs ps p port (drive cs ps fs)) (fed_by cs ps p port (potential rules cs ps fs)) e
 
-  unfed_status : is_fed ≡ false → status_of cs ps fs p port ≡ 2
+  unfed_status : (rules : ℕ) → is_fed ≡ false → status_of rules cs ps fs p port ≡ 2
   unfolding status_of
-  unfed_status e = rw e
+  unfed_status rules e = rw e
 
 -- ---- a row
 
@@ -52,7 +52,7 @@ module _ (cs ps fs : List ℤ) (p port : ℕ) where
 abbrev feeds : List ℤ → ℕ → ℕ → PortConnection → Bool
 feeds cs p port c = not (eqb c.transfer support_transfer) && (eqb c.sink (component cs p).id && eqb c.sink_port_of port)
 
-module _ (cs ps ps' fs : List ℤ) (i : ℕ) (added : Added port_width ps i ps') where
+module _ (rules : ℕ) (cs ps ps' fs : List ℤ) (i : ℕ) (added : Added port_width ps i ps') where
   abbrev c : PortConnection
   c = port_connection ps' i
 
@@ -78,15 +78,15 @@ module _ (cs ps ps' fs : List ℤ) (i : ℕ) (added : Added port_width ps i ps')
         never (sym unmet ∙ some_at (feeds_port cs ps p port) (port_count ps) found.0 found.1 (sym (ap (feeds cs p port) found.2) ∙ t)))
         (port_back added j l)
 
-    row_after : RowAfter c (component cs p).id port (status_of cs ps fs p port) (status_of cs ps' fs p port)
+    row_after : RowAfter c (component cs p).id port (status_of rules cs ps fs p port) (status_of rules cs ps' fs p port)
     row_after = record {
-      leaves = λ before after. newly_fed (status_unfed cs ps fs p port before) (fed (is_fed cs ps' fs p port) refl after);
-      enters = λ after. unfed_status cs ps fs p port (not_fed (is_fed cs ps fs p port) refl (status_unfed cs ps' fs p port after));
+      leaves = λ before after. newly_fed (status_unfed cs ps fs p port rules before) (fed (is_fed cs ps' fs p port) refl after);
+      enters = λ after. unfed_status cs ps fs p port rules (not_fed (is_fed cs ps fs p port) refl (status_unfed cs ps' fs p port rules after));
     }
       where
-        fed : (t : Bool) → is_fed cs ps' fs p port ≡ t → (status_of cs ps' fs p port ≡ 2 → ⊥) → t ≡ true
+        fed : (t : Bool) → is_fed cs ps' fs p port ≡ t → (status_of rules cs ps' fs p port ≡ 2 → ⊥) → t ≡ true
         fed true e h = refl
-        fed false e h = absurd (h (unfed_status cs ps' fs p port e))
+        fed false e h = absurd (h (unfed_status cs ps' fs p port rules e))
 
         not_fed : (t : Bool) → is_fed cs ps fs p port ≡ t → is_fed cs ps' fs p port ≡ false → t ≡ false
         not_fed true e h = never (sym h ∙ still_fed e)
@@ -98,19 +98,19 @@ module _ (cs ps ps' fs : List ℤ) (i : ℕ) (added : Added port_width ps i ps')
   after_both none s = s
   after_both (row r rest) s = row r (after_both rest s)
 
-  rows_of_ports : (p m : ℕ) → RowsAfter c (port_rows cs ps fs p m) (port_rows cs ps' fs p m)
+  rows_of_ports : (p m : ℕ) → RowsAfter c (port_rows rules cs ps fs p m) (port_rows rules cs ps' fs p m)
   unfolding port_rows
   rows_of_ports p zero = none
   rows_of_ports p (suc k) = after_both (rows_of_ports p k) (go (is_required (component cs p) k))
     where
-      go : (t : Bool) → RowsAfter c (cond t ((component cs p).id ∷ k ∷ status_of cs ps fs p k ∷ []) []) (cond t ((component cs p).id ∷ k ∷ status_of cs ps' fs p k ∷ []) [])
+      go : (t : Bool) → RowsAfter c (cond t ((component cs p).id ∷ k ∷ status_of rules cs ps fs p k ∷ []) []) (cond t ((component cs p).id ∷ k ∷ status_of rules cs ps' fs p k ∷ []) [])
       go true = row (row_after p k) none
       go false = none
 
-  component_rows : (m : ℕ) → RowsAfter c (verdict_rows cs ps fs m) (verdict_rows cs ps' fs m)
+  component_rows : (m : ℕ) → RowsAfter c (verdict_rows rules cs ps fs m) (verdict_rows rules cs ps' fs m)
   unfolding verdict_rows
   component_rows zero = none
   component_rows (suc p) = after_both (component_rows p) (rows_of_ports p (length (ports_of (component cs p))))
 
-  pub rows_after : RowsAfter c (input_rows cs ps fs) (input_rows cs ps' fs)
+  pub rows_after : RowsAfter c (input_rows rules cs ps fs) (input_rows rules cs ps' fs)
   rows_after = component_rows (component_count cs)

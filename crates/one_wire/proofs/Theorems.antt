@@ -24,8 +24,8 @@ use Rattle.one_wire.proofs.Rows.{rows_after}
 use Rattle.one_wire.proofs.Answered.{grouping_answered, accepted_checks, driven_answered, rows_answered}
 
 pub one_grouping_connection : OneGroupingConnection
-one_grouping_connection cs ps ps' fs i enough added accepted =
-    let small = (grouping_accept cs ps' fs enough accepted).components.few in
+one_grouping_connection rules cs ps ps' fs i enough added accepted =
+    let small = (grouping_accept rules cs ps' fs enough accepted).components.few in
     record {
       nets = counts_fall cs ps ps' i added small net_kinds;
       fragments = counts_fall cs ps ps' i added small fragment_kinds;
@@ -35,20 +35,20 @@ one_grouping_connection cs ps ps' fs i enough added accepted =
     }
 
 pub one_grouping_answer : OneGroupingAnswer
-one_grouping_answer cs ps ps' i added nets nets₁ fragments fragments₁ old g nets' nets₁' fragments' fragments₁' new g' =
-    let a = grouping_answered (grouping_refusal cs ps (length nets) (length fragments)) (net_count cs ps) (fragment_count cs ps) old g.answer in
-    let b = grouping_answered (grouping_refusal cs ps' (length nets') (length fragments')) (net_count cs ps') (fragment_count cs ps') new g'.answer in
-    let laws = one_grouping_connection cs ps ps' [] i (room_for_groups (component_count cs) (length nets') (length fragments')) added b.accepted in
+one_grouping_answer rules cs ps ps' i added nets nets₁ fragments fragments₁ old g nets' nets₁' fragments' fragments₁' new g' =
+    let a = grouping_answered (grouping_refusal rules cs ps (length nets) (length fragments)) (net_count cs ps) (fragment_count cs ps) old g.answer in
+    let b = grouping_answered (grouping_refusal rules cs ps' (length nets') (length fragments')) (net_count cs ps') (fragment_count cs ps') new g'.answer in
+    let laws = one_grouping_connection rules cs ps ps' [] i (room_for_groups (component_count cs) (length nets') (length fragments')) added b.accepted in
     (rw (a.nets_are, b.nets_are) laws.nets, rw (a.fragments_are, b.fragments_are) laws.fragments)
 
 pub one_port_connection : OnePortConnection
-one_port_connection cs ps ps' fs i enough added signal accepted =
-    let new = scene_of_lem (liveness_accept cs ps' fs enough accepted) in
+one_port_connection rules cs ps ps' fs i enough added signal accepted =
+    let new = scene_of_lem (liveness_accept rules cs ps' fs enough accepted) in
     record {
       reaches = reaches cs ps ps' fs i added signal new;
       stays = stays cs ps ps' fs i added signal new;
       few = few cs ps ps' fs i added signal new;
-      verdicts = rows_after cs ps ps' fs i added;
+      verdicts = rows_after rules cs ps ps' fs i added;
       same_chains = chains_same added;
       same_reach = same_reach cs ps ps' fs i added signal new;
       idle = idle cs ps ps' fs i added signal new;
@@ -57,17 +57,17 @@ one_port_connection cs ps ps' fs i enough added signal accepted =
     }
 
 pub one_port_answer : OnePortAnswer
-one_port_answer cs ps ps' fs i added signal regions regions₁ sources sources₁ inputs inputs₁ stack stack₁ old a
+one_port_answer rules cs ps ps' fs i added signal regions regions₁ sources sources₁ inputs inputs₁ stack stack₁ old a
     regions' regions₁' sources' sources₁' inputs' inputs₁' stack' stack₁' new b =
     let enough = liveness_room cs (length regions') (length sources') (length inputs') (length stack') in
     let checks = accepted_checks b in
-    let scene = scene_of_lem (liveness_accept cs ps' fs enough checks) in
+    let scene = scene_of_lem (liveness_accept rules cs ps' fs enough checks) in
     rw (driven_answered a (scene_before added scene), driven_answered b scene, rows_answered a, rows_answered b)
-    (one_port_connection cs ps ps' fs i enough added signal checks)
+    (one_port_connection rules cs ps ps' fs i enough added signal checks)
 
 pub repeated_port_connection : RepeatedPortConnection
-repeated_port_connection cs ps ps' fs i k added h e =
-    same_answer cs ps ps' fs (record {
+repeated_port_connection rules cs ps ps' fs i k added h e =
+    same_answer rules cs ps ps' fs (record {
       there = λ m l. let (j, b, q) = port_there added m l in (j, b, sym q);
       back = λ j l. ⊎_elim (λ (q : j ≡ i). (k, h, ap (port_connection ps') q ∙ e)) (λ (old : (m : ℕ) × (m < port_count ps) × (port_connection ps' j ≡ port_connection ps m)). old) (port_back added j l);
     })

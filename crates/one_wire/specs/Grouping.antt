@@ -34,13 +34,13 @@ pub record GroupCounts (cs ps ps' : List ℤ) (kind : ℕ) : Type 0 where
 
 -- of the lists only those with the connection need be accepted, by the grouping entry or in a sheet, whatever slices are lent
 abbrev pub OneGroupingConnection : Type 0
-OneGroupingConnection = (cs ps ps' fs : List ℤ) (i : ℕ) (enough : Bool) → Added connection_width ps i ps'
-    → grouping_lists cs ps' fs enough ≡ Ok tt
+OneGroupingConnection = (rules : ℕ) (cs ps ps' fs : List ℤ) (i : ℕ) (enough : Bool) → Added connection_width ps i ps'
+    → grouping_lists rules cs ps' fs enough ≡ Ok tt
     → GroupCounts cs ps ps' (connection ps' i).kind
 
 -- two answers of the entry, neither a refusal
 abbrev pub OneGroupingAnswer : Type 0
-OneGroupingAnswer = (cs ps ps' : List ℤ) (i : ℕ) → Added connection_width ps i ps'
-    → (nets nets₁ fragments fragments₁ : List ℕ) (old : Counts) → Grouped cs ps nets nets₁ fragments fragments₁ (Ok old)
-    → (nets' nets₁' fragments' fragments₁' : List ℕ) (new : Counts) → Grouped cs ps' nets' nets₁' fragments' fragments₁' (Ok new)
+OneGroupingAnswer = (rules : ℕ) (cs ps ps' : List ℤ) (i : ℕ) → Added connection_width ps i ps'
+    → (nets nets₁ fragments fragments₁ : List ℕ) (old : Counts) → Grouped rules cs ps nets nets₁ fragments fragments₁ (Ok old)
+    → (nets' nets₁' fragments' fragments₁' : List ℕ) (new : Counts) → Grouped rules cs ps' nets' nets₁' fragments' fragments₁' (Ok new)
     → FallsByOneOrNotAtAll old.nets new.nets × FallsByOneOrNotAtAll old.fragments new.fragments

@@ -93,9 +93,9 @@ pub record PortEffects (cs ps ps' fs : List ℤ) (c : PortConnection) (driven dr
 
 -- of the scenes only the one with the connection need be accepted, whatever slices are lent
 abbrev pub OnePortConnection : Type 0
-OnePortConnection = (cs ps ps' fs : List ℤ) (i : ℕ) (enough : Bool) → Added port_width ps i ps'
-    → is_signal ps' i ≡ true → liveness_lists cs ps' fs enough ≡ Ok tt
-    → PortEffects cs ps ps' fs (port_connection ps' i) (is_driven cs ps fs) (is_driven cs ps' fs) (input_rows cs ps fs) (input_rows cs ps' fs)
+OnePortConnection = (rules : ℕ) (cs ps ps' fs : List ℤ) (i : ℕ) (enough : Bool) → Added port_width ps i ps'
+    → is_signal ps' i ≡ true → liveness_lists rules cs ps' fs enough ≡ Ok tt
+    → PortEffects cs ps ps' fs (port_connection ps' i) (is_driven cs ps fs) (is_driven cs ps' fs) (input_rows rules cs ps fs) (input_rows rules cs ps' fs)
 
 -- ---- of the entry's answers
 
@@ -109,17 +109,17 @@ answered_rows r inputs = take (r.inputs * 3) inputs
 
 -- two answers of the entry, neither a refusal
 abbrev pub OnePortAnswer : Type 0
-OnePortAnswer = (cs ps ps' fs : List ℤ) (i : ℕ) → Added port_width ps i ps' → is_signal ps' i ≡ true
+OnePortAnswer = (rules : ℕ) (cs ps ps' fs : List ℤ) (i : ℕ) → Added port_width ps i ps' → is_signal ps' i ≡ true
     → (regions regions₁ sources sources₁ inputs inputs₁ stack stack₁ : List ℕ) (old : Analysis)
-    → Analyzed cs ps fs regions regions₁ sources sources₁ inputs inputs₁ stack stack₁ (Ok old)
+    → Analyzed rules cs ps fs regions regions₁ sources sources₁ inputs inputs₁ stack stack₁ (Ok old)
     → (regions' regions₁' sources' sources₁' inputs' inputs₁' stack' stack₁' : List ℕ) (new : Analysis)
-    → Analyzed cs ps' fs regions' regions₁' sources' sources₁' inputs' inputs₁' stack' stack₁' (Ok new)
+    → Analyzed rules cs ps' fs regions' regions₁' sources' sources₁' inputs' inputs₁' stack' stack₁' (Ok new)
     → PortEffects cs ps ps' fs (port_connection ps' i) (answered_driven cs old) (answered_driven cs new)
     (answered_rows old inputs₁) (answered_rows new inputs₁')
 
 -- ---- a repeat
 
 abbrev pub RepeatedPortConnection : Type 0
-RepeatedPortConnection = (cs ps ps' fs : List ℤ) (i k : ℕ) → Added port_width ps i ps'
+RepeatedPortConnection = (rules : ℕ) (cs ps ps' fs : List ℤ) (i k : ℕ) → Added port_width ps i ps'
     → k < port_count ps → port_connection ps' i ≡ port_connection ps k
-    → SameAnswer cs ps ps' fs
+    → SameAnswer rules cs ps ps' fs

@@ -115,9 +115,9 @@ module _ (cs ps : List ℤ) (scene : Scene cs ps) (square regions : List ℕ) wh
 -- ---- the answer
 
 module _ {cs ps fs : List ℤ} (square regions stack : List ℕ) {stack' s q : List ℕ} {r : ℕ} where
-  pub tabled_accepted : table_refusal cs ps fs (length square) (length regions) (length stack) ≡ Ok tt → Scene cs ps
+  pub tabled_accepted : {rules : ℕ} → table_refusal rules cs ps fs (length square) (length regions) (length stack) ≡ Ok tt → Scene cs ps
       → length stack' ≡ length stack → Tables cs ps s q stack' r
-      → Tabled cs ps fs square (s ++ drop (component_count cs * component_count cs) square) regions (q ++ drop (component_count cs) regions) stack stack' (Ok r)
+      → Tabled rules cs ps fs square (s ++ drop (component_count cs * component_count cs) square) regions (q ++ drop (component_count cs) regions) stack stack' (Ok r)
   tabled_accepted e scene long t =
       let h = rows_hold (component_count cs) (reaches cs ps) in
       let filled : s ++ drop (component_count cs * component_count cs) square ≡ laid (reach_table cs ps) square =
@@ -138,9 +138,9 @@ module _ {cs ps fs : List ℤ} (square regions stack : List ℕ) {stack' s q : L
       }
 
 -- there are no more regions than components
-pub count_few : {cs ps fs : List ℤ} (square regions stack : List ℕ) {square' regions' stack' : List ℕ} {r : Result ℕ Refusal}
-    → Tabled cs ps fs square square' regions regions' stack stack' r → IfOk r (λ count. count ≤ component_limit)
-count_few {cs} {ps} {fs} square regions stack {r = Ok count} t =
-    let live = liveness_accept cs ps fs _ (sym t.by.answer) in
+pub count_few : {rules : ℕ} {cs ps fs : List ℤ} (square regions stack : List ℕ) {square' regions' stack' : List ℕ} {r : Result ℕ Refusal}
+    → Tabled rules cs ps fs square square' regions regions' stack stack' r → IfOk r (λ count. count ≤ component_limit)
+count_few {rules} {cs} {ps} {fs} square regions stack {r = Ok count} t =
+    let live = liveness_accept rules cs ps fs _ (sym t.by.answer) in
     omega (arith, t.by.count, (scene_regions cs ps (scene_of_lem live).ends).few, live.components.few)
 count_few square regions stack {r = Err refusal} t = tt

@@ -17,8 +17,8 @@ table_room cs square regions stack =
     room_for (component_count cs * component_count cs) 1 square
     && (room_for (component_count cs) 1 regions && room_for (component_count cs) 2 stack)
 
-abbrev pub table_refusal : List ℤ → List ℤ → List ℤ → ℕ → ℕ → ℕ → Result ⊤ Refusal
-table_refusal cs ps fs square regions stack = liveness_lists cs ps fs (table_room cs square regions stack)
+abbrev pub table_refusal : ℕ → List ℤ → List ℤ → List ℤ → ℕ → ℕ → ℕ → Result ⊤ Refusal
+table_refusal rules cs ps fs square regions stack = liveness_lists rules cs ps fs (table_room cs square regions stack)
 
 -- by what the checks say: their refusal, or how many regions there are; the table and the quick walk's regions
 pub record TabledBy (checks : Result ⊤ Refusal) (cs ps : List ℤ) (square square' regions regions' stack stack' : List ℕ) (r : Result ℕ Refusal) : Type 0 where
@@ -41,8 +41,8 @@ pub record SquareOfScene (cs ps : List ℤ) (square regions : List ℕ) : Type 0
       ↔ (get_or regions v 0 ≡ get_or regions w 0)
 
 -- from components, port connections, frontiers and three lent slices
-pub record Tabled (cs ps fs : List ℤ) (square square' regions regions' stack stack' : List ℕ) (r : Result ℕ Refusal) : Type 0 where
-  pub by : TabledBy (table_refusal cs ps fs (length square) (length regions) (length stack)) cs ps square square' regions regions' stack stack' r
+pub record Tabled (rules : ℕ) (cs ps fs : List ℤ) (square square' regions regions' stack stack' : List ℕ) (r : Result ℕ Refusal) : Type 0 where
+  pub by : TabledBy (table_refusal rules cs ps fs (length square) (length regions) (length stack)) cs ps square square' regions regions' stack stack' r
   -- of the table of an accepted scene: who reaches whom, and equal rows
   pub laws : IfOk r (λ _. SceneLaws cs ps)
   -- the same, on the square that is left

@@ -7,11 +7,13 @@ mod start;
 mod table;
 
 ghost use Rattle.std.specs.Prelude.{◌≡◌, ◌*◌};
+ghost use Rattle.lists.specs.Rules.{rules_of};
 ghost use Rattle.checks.specs.Refusals.{room_for};
 ghost use Rattle.reach_table.specs.Entry.{Tabled};
 
 use checks::refusals::{liveness_lists, room_for};
 use lists::ends::Ends;
+use lists::rules::rules_of;
 use lists::{COMPONENT, COMPONENTS, CONNECTIONS, Refusal};
 use liveness::plot::Plot;
 use plot::table_plot;
@@ -26,6 +28,7 @@ fn room_for_square(side: usize, len: usize) -> bool
 // The refusal of the checks, or how many regions there are. Leaves the finished reach table, row after row in list order, at the front of
 // the square, and the region of each component, in list order, at the front of `regions`; the stack zero. A refusal writes nothing.
 pub fn slow_regions(
+    rules: i64,
     components: &[i64],
     ports: &[i64],
     frontiers: &[i64],
@@ -33,20 +36,24 @@ pub fn slow_regions(
     regions: &mut [u64],
     stack: &mut [usize],
 ) -> Result<usize, Refusal>
-    ensures { Tabled components.now ports.now frontiers.now
+    ensures { Tabled (rules_of rules) components.now ports.now frontiers.now
         square.old square.new regions.old regions.new stack.old stack.new result }
 {
+    let rules = rules_of(rules);
     let mut keys = [0u64; COMPONENTS];
     let mut ends = [Ends { source: 0, sink: 0 }; CONNECTIONS];
     let count = components.len() / COMPONENT;
     let enough = room_for_square(count, square.len())
         & (room_for(count, 1, regions.len()) & room_for(count, 2, stack.len()));
-    liveness_lists(components, ports, frontiers, enough, &mut keys, &mut ends)?;
+    liveness_lists(
+        rules, components, ports, frontiers, enough, &mut keys, &mut ends,
+    )?;
     let plot = Plot {
         keys: &keys[..count],
         components,
         ports,
         frontiers,
+        rules,
         ends: &ends,
     };
     Ok(table_plot(

@@ -4,6 +4,7 @@
 
 ghost use Rattle.std.specs.Prelude.{◌≡◌, ◌*◌, ◌≤◌, length, take};
 ghost use Rattle.lists.specs.Limits.{port_width};
+ghost use Rattle.lists.specs.Rules.{rules_of};
 ghost use Rattle.lists.specs.Slices.{laid};
 ghost use Rattle.liveness.specs.Entry.{Analyzed};
 ghost use Rattle.records.specs.declared.PortRecord.{PortRecord};
@@ -67,6 +68,7 @@ fn stand_in(records: &[PortRecord], flat: &mut [i64]) -> usize
 
 // The liveness entry over a list of records.
 pub fn analyze_records(
+    rules: i64,
     components: &[i64],
     ports: &[PortRecord],
     frontiers: &[i64],
@@ -75,12 +77,13 @@ pub fn analyze_records(
     inputs: &mut [u64],
     stack: &mut [usize],
 ) -> Result<Analysis, Refusal>
-    ensures { Analyzed components.now (flatten ports.now) frontiers.now
+    ensures { Analyzed (rules_of rules) components.now (flatten ports.now) frontiers.now
         regions.old regions.new sources.old sources.new inputs.old inputs.new stack.old stack.new result }
 {
     let mut flat = [0i64; ROOM];
     let count = stand_in(ports, &mut flat);
     analyze_signal_liveness(
+        rules,
         components,
         &flat[..count],
         frontiers,

@@ -28,12 +28,12 @@ use Rattle.scene.specs.Kept.{link_of, row_by, kept_row, rows_below, kept_rows, k
 use Rattle.faces.proofs.Transfers.{transfer_below}
 use Rattle.scene.proofs.Links.{linked}
 
-pub support_dropped : (cs ps : List ℤ) (k : ℕ) → (connection ps k).kind ≡ support_kind → kept_row cs ps k ≡ []
-support_dropped cs ps k e = go (link_of cs (connection ps k)) refl
+pub support_dropped : (rules : ℕ) (cs ps : List ℤ) (k : ℕ) → (connection ps k).kind ≡ support_kind → kept_row rules cs ps k ≡ []
+support_dropped rules cs ps k e = go (link_of rules cs (connection ps k)) refl
   where
-    go : (l : Option (ℕ × ℕ)) → link_of cs (connection ps k) ≡ l → row_by (connection ps k) l ≡ []
+    go : (l : Option (ℕ × ℕ)) → link_of rules cs (connection ps k) ≡ l → row_by (connection ps k) l ≡ []
     go None h = refl
-    go (Some (i, j)) h = absurd ((linked cs (connection ps k) i j h).unsupported e)
+    go (Some (i, j)) h = absurd ((linked rules cs (connection ps k) i j h).unsupported e)
 
 -- ---- a row
 
@@ -75,36 +75,36 @@ module _ (cs rows row : List ℤ) (r : Each cs rows) (five : length row ≡ 5) (
     each = λ i h. at_row i (ltb i (length rows / 5)) refl h;
   }
 
-one_more : (cs ps rows : List ℤ) (k : ℕ) → Each cs rows → (l : Option (ℕ × ℕ)) → link_of cs (connection ps k) ≡ l → Each cs (rows ++ map pos (row_by (connection ps k) l))
-one_more cs ps rows k r None e = rw append-nil r
-one_more cs ps rows k r (Some (i, j)) e =
+one_more : (rules : ℕ) (cs ps rows : List ℤ) (k : ℕ) → Each cs rows → (l : Option (ℕ × ℕ)) → link_of rules cs (connection ps k) ≡ l → Each cs (rows ++ map pos (row_by (connection ps k) l))
+one_more rules cs ps rows k r None e = rw append-nil r
+one_more rules cs ps rows k r (Some (i, j)) e =
     let p = connection ps k in
-    let l = linked cs p i j e in
+    let l = linked rules cs p i j e in
     more cs rows (map pos (row_by p (Some (i, j)))) r refl
     (record { source = l.source; sink = l.sink; source_port_of = l.source_port_of; sink_port_of = l.sink_port_of; transfer = transfer_below p.kind l.unsupported })
 
-each_below : (cs ps : List ℤ) (k : ℕ) → Each cs (map pos (rows_below cs ps k))
+each_below : (rules : ℕ) (cs ps : List ℤ) (k : ℕ) → Each cs (map pos (rows_below rules cs ps k))
 unfolding rows_below
-each_below cs ps zero = record { whole = refl; each = λ i h. absurd (omega arith) }
-each_below cs ps (suc k) = rw (map-append pos (rows_below cs ps k) (kept_row cs ps k)) (one_more cs ps _ k (each_below cs ps k) (link_of cs (connection ps k)) refl)
+each_below rules cs ps zero = record { whole = refl; each = λ i h. absurd (omega arith) }
+each_below rules cs ps (suc k) = rw (map-append pos (rows_below rules cs ps k) (kept_row rules cs ps k)) (one_more rules cs ps _ k (each_below rules cs ps k) (link_of rules cs (connection ps k)) refl)
 
 -- ---- all that is kept
 
-module _ (cs ps : List ℤ) where
-  count_is : port_count (map pos (kept_rows cs ps)) ≡ kept_count cs ps
-  count_is = ap (λ (n : ℕ). n / port_width) (length-map (kept_rows cs ps) pos)
+module _ (rules : ℕ) (cs ps : List ℤ) where
+  count_is : port_count (map pos (kept_rows rules cs ps)) ≡ kept_count rules cs ps
+  count_is = ap (λ (n : ℕ). n / port_width) (length-map (kept_rows rules cs ps) pos)
 
-  pub kept_ends : (i : ℕ) → i < kept_count cs ps → KeptEnds cs (port_connection (map pos (kept_rows cs ps)) i)
-  kept_ends i h = (each_below cs ps (connection_count ps)).each i (rw count_is h)
+  pub kept_ends : (i : ℕ) → i < kept_count rules cs ps → KeptEnds cs (port_connection (map pos (kept_rows rules cs ps)) i)
+  kept_ends i h = (each_below rules cs ps (connection_count ps)).each i (rw count_is h)
 
-  pub kept_whole : length (kept_rows cs ps) % port_width ≡ 0
-  kept_whole = rw (length-map (kept_rows cs ps) pos) at (each_below cs ps (connection_count ps)).whole
+  pub kept_whole : length (kept_rows rules cs ps) % port_width ≡ 0
+  kept_whole = rw (length-map (kept_rows rules cs ps) pos) at (each_below rules cs ps (connection_count ps)).whole
 
-  pub kept_no_missing : first_end_missing cs (map pos (kept_rows cs ps)) ≡ None
+  pub kept_no_missing : first_end_missing cs (map pos (kept_rows rules cs ps)) ≡ None
   unfolding first_end_missing
   kept_no_missing =
-      let rows = map pos (kept_rows cs ps) in
+      let rows = map pos (kept_rows rules cs ps) in
       first_nothing (end_missing cs rows) 0 (port_count rows)
       (λ i a b.
-      let ends = (each_below cs ps (connection_count ps)).each i (omega arith) in
+      let ends = (each_below rules cs ps (connection_count ps)).each i (omega arith) in
       rw (ends.source, ends.sink, ne_eqb (port_connection rows i).transfer support_transfer (λ e. omega (arith, ends.transfer))))

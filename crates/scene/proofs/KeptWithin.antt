@@ -30,14 +30,14 @@ row_few : (p : Connection) (l : Option (ℕ × ℕ)) → length (row_by p l) ≤
 row_few p (Some (i, j)) = omega arith
 row_few p None = omega arith
 
-rows_few : (cs ps : List ℤ) (k : ℕ) → length (rows_below cs ps k) ≤ k * port_width
+rows_few : (rules : ℕ) (cs ps : List ℤ) (k : ℕ) → length (rows_below rules cs ps k) ≤ k * port_width
 unfolding rows_below
-rows_few cs ps zero = omega arith
-rows_few cs ps (suc k) =
-    simp length-append (omega (arith, rows_few cs ps k, row_few (connection ps k) (link_of cs (connection ps k))))
+rows_few rules cs ps zero = omega arith
+rows_few rules cs ps (suc k) =
+    simp length-append (omega (arith, rows_few rules cs ps k, row_few (connection ps k) (link_of rules cs (connection ps k))))
 
-pub kept_few : (cs ps : List ℤ) → kept_count cs ps ≤ connection_count ps
-kept_few cs ps = omega (arith, rows_few cs ps (connection_count ps))
+pub kept_few : (rules : ℕ) (cs ps : List ℤ) → kept_count rules cs ps ≤ connection_count ps
+kept_few rules cs ps = omega (arith, rows_few rules cs ps (connection_count ps))
 
 -- ---- ranges
 
@@ -59,22 +59,22 @@ in-range l j h p =
     let q : get_or l j 0 ≤ h = rw e at p in
     rw (e, le-leb 0 (get_or l j 0) (omega arith), le-leb (get_or l j 0) h q)
 
-module _ (cs ps : List ℤ) (w : Components cs) where
-  fields : (k f : ℕ) → k < port_count (map pos (kept_rows cs ps)) → f < 5
-      → in_range (at port_low f) (at port_high f) (at (map pos (kept_rows cs ps)) (k * 5 + f)) ≡ true
-  fields k f h l = go f l (kept_ends cs ps k (omega (arith, length-map (kept_rows cs ps) pos)))
+module _ (rules : ℕ) (cs ps : List ℤ) (w : Components cs) where
+  fields : (k f : ℕ) → k < port_count (map pos (kept_rows rules cs ps)) → f < 5
+      → in_range (at port_low f) (at port_high f) (at (map pos (kept_rows rules cs ps)) (k * 5 + f)) ≡ true
+  fields k f h l = go f l (kept_ends rules cs ps k (omega (arith, length-map (kept_rows rules cs ps) pos)))
     where
-      go : (f : ℕ) → f < 5 → KeptEnds cs (port_connection (map pos (kept_rows cs ps)) k)
-          → in_range (at port_low f) (at port_high f) (at (map pos (kept_rows cs ps)) (k * 5 + f)) ≡ true
-      go zero l e = rw add-zero (in-range (kept_rows cs ps) (k * 5) 4294967295 (id_most cs w _ e.source))
-      go (suc zero) l e = in-range (kept_rows cs ps) (k * 5 + 1) 255 (omega (arith, e.source_port_of))
-      go (suc (suc zero)) l e = in-range (kept_rows cs ps) (k * 5 + 2) 4294967295 (id_most cs w _ e.sink)
-      go (suc (suc (suc zero))) l e = in-range (kept_rows cs ps) (k * 5 + 3) 255 (omega (arith, e.sink_port_of))
-      go (suc (suc (suc (suc zero)))) l e = in-range (kept_rows cs ps) (k * 5 + 4) 6 (omega (arith, e.transfer))
+      go : (f : ℕ) → f < 5 → KeptEnds cs (port_connection (map pos (kept_rows rules cs ps)) k)
+          → in_range (at port_low f) (at port_high f) (at (map pos (kept_rows rules cs ps)) (k * 5 + f)) ≡ true
+      go zero l e = rw add-zero (in-range (kept_rows rules cs ps) (k * 5) 4294967295 (id_most cs w _ e.source))
+      go (suc zero) l e = in-range (kept_rows rules cs ps) (k * 5 + 1) 255 (omega (arith, e.source_port_of))
+      go (suc (suc zero)) l e = in-range (kept_rows rules cs ps) (k * 5 + 2) 4294967295 (id_most cs w _ e.sink)
+      go (suc (suc (suc zero))) l e = in-range (kept_rows rules cs ps) (k * 5 + 3) 255 (omega (arith, e.sink_port_of))
+      go (suc (suc (suc (suc zero)))) l e = in-range (kept_rows rules cs ps) (k * 5 + 4) 6 (omega (arith, e.transfer))
       go (suc (suc (suc (suc (suc f))))) l e = absurd (omega arith)
 
-  pub kept_within : connection_count ps ≤ connection_limit → PortConnections (map pos (kept_rows cs ps))
+  pub kept_within : connection_count ps ≤ connection_limit → PortConnections (map pos (kept_rows rules cs ps))
   kept_within few = record {
-    few = omega (arith, kept_few cs ps, length-map (kept_rows cs ps) pos);
+    few = omega (arith, kept_few rules cs ps, length-map (kept_rows rules cs ps) pos);
     field = fields;
   }

@@ -4,3 +4,4 @@ pub mod Slopes
 pub mod Writes
 pub mod KeptEnds
 pub mod KeptWithin
+pub mod Unread

@@ -1,5 +1,7 @@
 -- What a connection's ports say of its ends.
 --     between_none, between_some        the ports of a connection by the face of its step
+--     chosen, picked                    each of the two was selected, so it is a port of its component, at that face, and fits
+--     no_support                        and the kind is not Support
 --     Linked, linked                    both ends are components, their ports are below seven, and the kind is not Support
 -- Assumes nothing.
 use Rattle.std.specs.Prelude.{Option, Some, None}
@@ -25,19 +27,19 @@ use Rattle.faces.proofs.Sound.{ports_few, structural_down}
 
 -- ---- between two components
 
-module _ (source sink : Component) (kind : ℕ) where
-  pub between_none : step_face source sink ≡ NoFace → ports_between source sink kind ≡ None
+module _ (rules : ℕ) (source sink : Component) (kind : ℕ) where
+  pub between_none : step_face source sink ≡ NoFace → ports_between rules source sink kind ≡ None
   unfolding ports_between
   between_none e = rw e
 
   pub between_some : (face facing : ℕ) → face ≡ step_face source sink → (face ≡ NoFace → ⊥) → facing ≡ opposite face
-      → ports_between source sink kind ≡ both_ports (select_port (ports_of source) face true kind) (select_port (ports_of sink) facing false kind)
+      → ports_between rules source sink kind ≡ both_ports (select_port (ports_of rules source) face true kind) (select_port (ports_of rules sink) facing false kind)
   unfolding ports_between
   between_some face facing e h d = rw (d, ← e, ne_eqb face NoFace h)
 
-pub record Chosen (source sink : Component) (kind i j : ℕ) : Type 0 where
-  pub out : select_port (ports_of source) (step_face source sink) true kind ≡ Some i
-  pub into : select_port (ports_of sink) (opposite (step_face source sink)) false kind ≡ Some j
+pub record Chosen (rules : ℕ) (source sink : Component) (kind i j : ℕ) : Type 0 where
+  pub out : select_port (ports_of rules source) (step_face source sink) true kind ≡ Some i
+  pub into : select_port (ports_of rules sink) (opposite (step_face source sink)) false kind ≡ Some j
 
 both_chosen : (t : Bool) (f g : Option ℕ) (i j : ℕ) → cond t None (both_ports f g) ≡ Some (i, j) → (f ≡ Some i) × (g ≡ Some j)
 both_chosen true f g i j e = cc
@@ -47,52 +49,52 @@ both_chosen false (Some a) (Some b) i j e =
     let p : ◌≡◌ {A = ℕ × ℕ} (a, b) (i, j) = cc in
     (ap (λ (q : ℕ × ℕ). Some q.0) p, ap (λ (q : ℕ × ℕ). Some q.1) p)
 
-chosen : (source sink : Component) (kind i j : ℕ) → ports_between source sink kind ≡ Some (i, j) → Chosen source sink kind i j
+pub chosen : (rules : ℕ) (source sink : Component) (kind i j : ℕ) → ports_between rules source sink kind ≡ Some (i, j) → Chosen rules source sink kind i j
 unfolding ports_between
-chosen source sink kind i j e =
-    let r = both_chosen (eqb (step_face source sink) NoFace) (select_port (ports_of source) (step_face source sink) true kind)
-    (select_port (ports_of sink) (opposite (step_face source sink)) false kind) i j e in
+chosen rules source sink kind i j e =
+    let r = both_chosen (eqb (step_face source sink) NoFace) (select_port (ports_of rules source) (step_face source sink) true kind)
+    (select_port (ports_of rules sink) (opposite (step_face source sink)) false kind) i j e in
     record { out = r.0; into = r.1 }
 
 -- ---- the port that was selected
 
-pub record Picked (c : Component) (face : ℕ) (outgoing : Bool) (kind i : ℕ) : Type 0 where
-  pub below : i < length (ports_of c)
-  pub faces : (port_at (ports_of c) i).face ≡ face
-  pub fit : fits (port_at (ports_of c) i) outgoing kind ≡ true
+pub record Picked (rules : ℕ) (c : Component) (face : ℕ) (outgoing : Bool) (kind i : ℕ) : Type 0 where
+  pub below : i < length (ports_of rules c)
+  pub faces : (port_at (ports_of rules c) i).face ≡ face
+  pub fit : fits (port_at (ports_of rules c) i) outgoing kind ≡ true
 
 first_fitting : (ports : List Port) (face : ℕ) (outgoing : Bool) (kind i : ℕ) → select_port ports face outgoing kind ≡ Some i
     → FoundAt (λ k. serves (port_at ports k) face outgoing kind) 0 (length ports) i
 unfolding select_port
 first_fitting ports face outgoing kind i e = found_at (λ k. serves (port_at ports k) face outgoing kind) 0 (length ports) i e
 
-picked : (c : Component) (face : ℕ) (outgoing : Bool) (kind i : ℕ) → select_port (ports_of c) face outgoing kind ≡ Some i → Picked c face outgoing kind i
+pub picked : (rules : ℕ) (c : Component) (face : ℕ) (outgoing : Bool) (kind i : ℕ) → select_port (ports_of rules c) face outgoing kind ≡ Some i → Picked rules c face outgoing kind i
 unfolding serves
-picked c face outgoing kind i e =
-    let f = first_fitting (ports_of c) face outgoing kind i e in
-    let t = both (eqb (port_at (ports_of c) i).face face) (fits (port_at (ports_of c) i) outgoing kind) f.passes in
+picked rules c face outgoing kind i e =
+    let f = first_fitting (ports_of rules c) face outgoing kind i e in
+    let t = both (eqb (port_at (ports_of rules c) i).face face) (fits (port_at (ports_of rules c) i) outgoing kind) f.passes in
     record { below = omega (arith, f.below); faces = eqb-true _ face t.0; fit = t.1 }
 
-picked_few : {c : Component} {face : ℕ} {outgoing : Bool} {kind i : ℕ} → Picked c face outgoing kind i → i < port_places
-picked_few {c} p = omega (arith, p.below, ports_few c.kind c.facing c.support c.conducts)
+picked_few : {rules : ℕ} {c : Component} {face : ℕ} {outgoing : Bool} {kind i : ℕ} → Picked rules c face outgoing kind i → i < port_places
+picked_few {rules} {c} p = omega (arith, p.below, ports_few rules c.kind c.facing c.support c.conducts)
 
 -- Support takes Structural ports, and these face Down
-support_face : (c : Component) (face : ℕ) (outgoing : Bool) (i : ℕ) → Picked c face outgoing support_kind i → face ≡ Down
-support_face c face outgoing i p =
-    sym p.faces ∙ structural_down c.kind c.facing c.support c.conducts i p.below (eqb-true _ Structural p.fit)
+support_face : (rules : ℕ) (c : Component) (face : ℕ) (outgoing : Bool) (i : ℕ) → Picked rules c face outgoing support_kind i → face ≡ Down
+support_face rules c face outgoing i p =
+    sym p.faces ∙ structural_down rules c.kind c.facing c.support c.conducts i p.below (eqb-true _ Structural p.fit)
 
 -- no two facing ports do
 never_down : (face : ℕ) → face ≡ Down → opposite face ≡ Down → ⊥
 unfolding opposite
 never_down face p q = let e : ◌≡◌ {A = ℕ} 5 6 = rw p at q in omega arith
 
-no_support : (source sink : Component) (kind i j : ℕ) → Chosen source sink kind i j → kind ≡ support_kind → ⊥
-no_support source sink kind i j h e =
+pub no_support : (rules : ℕ) (source sink : Component) (kind i j : ℕ) → Chosen rules source sink kind i j → kind ≡ support_kind → ⊥
+no_support rules source sink kind i j h e =
     let out = rw e at h.out in
     let into = rw e at h.into in
     never_down (step_face source sink)
-    (support_face source (step_face source sink) true i (picked source (step_face source sink) true support_kind i out))
-    (support_face sink (opposite (step_face source sink)) false j (picked sink (opposite (step_face source sink)) false support_kind j into))
+    (support_face rules source (step_face source sink) true i (picked rules source (step_face source sink) true support_kind i out))
+    (support_face rules sink (opposite (step_face source sink)) false j (picked rules sink (opposite (step_face source sink)) false support_kind j into))
 
 -- ---- a connection
 
@@ -103,20 +105,20 @@ pub record Linked (cs : List ℤ) (p : Connection) (i j : ℕ) : Type 0 where
   pub sink_port_of : j < port_places
   pub unsupported : p.kind ≡ support_kind → ⊥
 
-pub linked : (cs : List ℤ) (p : Connection) (i j : ℕ) → link_of cs p ≡ Some (i, j) → Linked cs p i j
-linked cs p i j e = go (place_of cs p.source) (place_of cs p.sink) refl refl e
+pub linked : (rules : ℕ) (cs : List ℤ) (p : Connection) (i j : ℕ) → link_of rules cs p ≡ Some (i, j) → Linked cs p i j
+linked rules cs p i j e = go (place_of cs p.source) (place_of cs p.sink) refl refl e
   where
-    go : (f g : Option ℕ) → place_of cs p.source ≡ f → place_of cs p.sink ≡ g → link_between cs p.kind f g ≡ Some (i, j) → Linked cs p i j
+    go : (f g : Option ℕ) → place_of cs p.source ≡ f → place_of cs p.sink ≡ g → link_between rules cs p.kind f g ≡ Some (i, j) → Linked cs p i j
     go None g a b h = cc
     go (Some x) None a b h = cc
     go (Some x) (Some y) a b h =
         let from = component cs x in
         let to = component cs y in
-        let c = chosen from to p.kind i j h in
+        let c = chosen rules from to p.kind i j h in
         record {
           source = ap is_found a;
           sink = ap is_found b;
-          source_port_of = picked_few (picked from (step_face from to) true p.kind i c.out);
-          sink_port_of = picked_few (picked to (opposite (step_face from to)) false p.kind j c.into);
-          unsupported = no_support from to p.kind i j c;
+          source_port_of = picked_few (picked rules from (step_face from to) true p.kind i c.out);
+          sink_port_of = picked_few (picked rules to (opposite (step_face from to)) false p.kind j c.into);
+          unsupported = no_support rules from to p.kind i j c;
         }

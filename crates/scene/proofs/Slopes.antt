@@ -32,31 +32,31 @@ row_long : (p : Connection) (l : Option (ℕ × ℕ)) (slope : ℕ) → length (
 row_long p (Some (i, j)) slope = refl
 row_long p None slope = refl
 
-pub sloped_long : (cs ps : List ℤ) (k : ℕ) → length (sloped_below cs ps k) * port_width ≡ length (rows_below cs ps k) * kept_width
+pub sloped_long : (rules : ℕ) (cs ps : List ℤ) (k : ℕ) → length (sloped_below rules cs ps k) * port_width ≡ length (rows_below rules cs ps k) * kept_width
 unfolding rows_below sloped_below
-sloped_long cs ps zero = refl
-sloped_long cs ps (suc k) =
+sloped_long rules cs ps zero = refl
+sloped_long rules cs ps (suc k) =
     let p = connection ps k in
     omega (
       arith,
-      sloped_long cs ps k,
-      row_long p (link_of cs p) (slope_along cs p),
-      length-append (sloped_below cs ps k) (sloped_row cs ps k),
-      length-append (rows_below cs ps k) (kept_row cs ps k),
+      sloped_long rules cs ps k,
+      row_long p (link_of rules cs p) (slope_along cs p),
+      length-append (sloped_below rules cs ps k) (sloped_row rules cs ps k),
+      length-append (rows_below rules cs ps k) (kept_row rules cs ps k),
     )
 
 row_whole : (p : Connection) (l : Option (ℕ × ℕ)) (slope : ℕ) → (turns : ℕ) × (length (sloped_by p l slope) ≡ turns * kept_width)
 row_whole p (Some (i, j)) slope = (1, refl)
 row_whole p None slope = (0, refl)
 
-pub sloped_whole : (cs ps : List ℤ) (k : ℕ) → (turns : ℕ) × (length (sloped_below cs ps k) ≡ turns * kept_width)
+pub sloped_whole : (rules : ℕ) (cs ps : List ℤ) (k : ℕ) → (turns : ℕ) × (length (sloped_below rules cs ps k) ≡ turns * kept_width)
 unfolding sloped_below
-sloped_whole cs ps zero = (0, refl)
-sloped_whole cs ps (suc k) =
+sloped_whole rules cs ps zero = (0, refl)
+sloped_whole rules cs ps (suc k) =
     let p = connection ps k in
-    let before = sloped_whole cs ps k in
-    let last = row_whole p (link_of cs p) (slope_along cs p) in
-    (before.0 + last.0, omega (arith, before.1, last.1, length-append (sloped_below cs ps k) (sloped_row cs ps k)))
+    let before = sloped_whole rules cs ps k in
+    let last = row_whole p (link_of rules cs p) (slope_along cs p) in
+    (before.0 + last.0, omega (arith, before.1, last.1, length-append (sloped_below rules cs ps k) (sloped_row rules cs ps k)))
 
 -- ---- rows one after the other
 
@@ -137,24 +137,24 @@ unfolding without_slopes
 row_cut p (Some (i, j)) slope = refl
 row_cut p None slope = refl
 
-cut_below : (cs ps : List ℤ) (k : ℕ) → without_slopes (sloped_below cs ps k) ≡ rows_below cs ps k
+cut_below : (rules : ℕ) (cs ps : List ℤ) (k : ℕ) → without_slopes (sloped_below rules cs ps k) ≡ rows_below rules cs ps k
 unfolding rows_below sloped_below without_slopes
-cut_below cs ps zero = refl
-cut_below cs ps (suc k) =
+cut_below rules cs ps zero = refl
+cut_below rules cs ps (suc k) =
     let p = connection ps k in
-    let before = sloped_whole cs ps k in
-    cut_append before.0 (sloped_below cs ps k) (sloped_row cs ps k) before.1
-    ∙ rw (cut_below cs ps k, row_cut p (link_of cs p) (slope_along cs p))
+    let before = sloped_whole rules cs ps k in
+    cut_append before.0 (sloped_below rules cs ps k) (sloped_row rules cs ps k) before.1
+    ∙ rw (cut_below rules cs ps k, row_cut p (link_of rules cs p) (slope_along cs p))
 
 -- as many
-pub sloped_count : (cs ps : List ℤ) → length (sloped_rows cs ps) ≡ kept_count cs ps * kept_width
-sloped_count cs ps =
-    let whole = sloped_whole cs ps (connection_count ps) in
-    omega (arith, sloped_long cs ps (connection_count ps), whole.1)
+pub sloped_count : (rules : ℕ) (cs ps : List ℤ) → length (sloped_rows rules cs ps) ≡ kept_count rules cs ps * kept_width
+sloped_count rules cs ps =
+    let whole = sloped_whole rules cs ps (connection_count ps) in
+    omega (arith, sloped_long rules cs ps (connection_count ps), whole.1)
 
 -- the ports entry's rows without their slopes are the list that the liveness entry takes
-pub cut_sloped : (cs ps : List ℤ) → without_slopes (sloped_rows cs ps) ≡ kept_rows cs ps
-cut_sloped cs ps = cut_below cs ps (connection_count ps)
+pub cut_sloped : (rules : ℕ) (cs ps : List ℤ) → without_slopes (sloped_rows rules cs ps) ≡ kept_rows rules cs ps
+cut_sloped rules cs ps = cut_below rules cs ps (connection_count ps)
 
 -- ---- sizes
 
@@ -182,18 +182,18 @@ row_small cs p (Some (a, b)) (suc k) =
 row_small cs p None k = omega arith
 
 -- the sixth number of each row
-pub sloped_small : (cs ps : List ℤ) (n k : ℕ) → get_or (sloped_below cs ps n) (k * kept_width + 5) 0 ≤ step.Falling
+pub sloped_small : (rules : ℕ) (cs ps : List ℤ) (n k : ℕ) → get_or (sloped_below rules cs ps n) (k * kept_width + 5) 0 ≤ step.Falling
 unfolding sloped_below
-sloped_small cs ps zero k = omega arith
-sloped_small cs ps (suc n) k =
-    let before = sloped_below cs ps n in
-    let row = sloped_row cs ps n in
-    let (turns, whole) = sloped_whole cs ps n in
+sloped_small rules cs ps zero k = omega arith
+sloped_small rules cs ps (suc n) k =
+    let before = sloped_below rules cs ps n in
+    let row = sloped_row rules cs ps n in
+    let (turns, whole) = sloped_whole rules cs ps n in
     ⊎_elim
     (λ (inside : k * kept_width + 5 < length before).
-    rw (get_or-append before row 0 (k * kept_width + 5) inside) (sloped_small cs ps n k))
+    rw (get_or-append before row 0 (k * kept_width + 5) inside) (sloped_small rules cs ps n k))
     (λ (past : length before ≤ k * kept_width + 5).
     let there : k * kept_width + 5 ≡ length before + ((k - turns) * kept_width + 5) = omega (arith, whole) in
     rw (there, get_or-append-add before row ((k - turns) * kept_width + 5) 0)
-    (row_small cs (connection ps n) (link_of cs (connection ps n)) (k - turns)))
+    (row_small cs (connection ps n) (link_of rules cs (connection ps n)) (k - turns)))
     (cases_lt (k * kept_width + 5) (length before))

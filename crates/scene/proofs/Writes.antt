@@ -45,35 +45,35 @@ put_more rows row out out₁ out₂ e p =
 -- ---- the rows of the connections below k
 
 -- `count` rows are laid, which are those kept of connections 0, 1, .., k - 1
-pub record Laid (cs ps old out : List ℤ) (count k : ℕ) : Type 0 where
-  pub rows : out ≡ laid (map pos (sloped_below cs ps k)) old
-  pub full : count * kept_width ≡ length (map pos (sloped_below cs ps k))
+pub record Laid (rules : ℕ) (cs ps old out : List ℤ) (count k : ℕ) : Type 0 where
+  pub rows : out ≡ laid (map pos (sloped_below rules cs ps k)) old
+  pub full : count * kept_width ≡ length (map pos (sloped_below rules cs ps k))
   pub few : count ≤ k
 
-pub none_laid : (cs ps old : List ℤ) → Laid cs ps old old 0 0
+pub none_laid : (rules : ℕ) (cs ps old : List ℤ) → Laid rules cs ps old old 0 0
 unfolding sloped_below
-none_laid cs ps old = record { rows = refl; full = refl; few = omega arith }
+none_laid rules cs ps old = record { rows = refl; full = refl; few = omega arith }
 
 row_few : (p : Connection) (l : Option (ℕ × ℕ)) (slope : ℕ) → length (sloped_by p l slope) ≤ kept_width
 row_few p (Some (i, j)) slope = omega arith
 row_few p None slope = omega arith
 
-rows_more : (cs ps : List ℤ) (k : ℕ) → map pos (sloped_below cs ps (k + 1)) ≡ map pos (sloped_below cs ps k) ++ map pos (sloped_row cs ps k)
+rows_more : (rules : ℕ) (cs ps : List ℤ) (k : ℕ) → map pos (sloped_below rules cs ps (k + 1)) ≡ map pos (sloped_below rules cs ps k) ++ map pos (sloped_row rules cs ps k)
 unfolding sloped_below
-rows_more cs ps k = rw (add-one k) (map-append pos (sloped_below cs ps k) (sloped_row cs ps k))
+rows_more rules cs ps k = rw (add-one k) (map-append pos (sloped_below rules cs ps k) (sloped_row rules cs ps k))
 
-pub one_laid : (cs ps old out out' : List ℤ) (count k r : ℕ) → Laid cs ps old out count k
-    → Filled (map pos (sloped_row cs ps k)) count out out' r → Laid cs ps old out' r (k + 1)
-one_laid cs ps old out out' count k r i f =
+pub one_laid : (rules : ℕ) (cs ps old out out' : List ℤ) (count k r : ℕ) → Laid rules cs ps old out count k
+    → Filled (map pos (sloped_row rules cs ps k)) count out out' r → Laid rules cs ps old out' r (k + 1)
+one_laid rules cs ps old out out' count k r i f =
     let put = rw i.full at f.put in
     let p = connection ps k in
-    let few = row_few p (link_of cs p) (slope_along cs p) in
+    let few = row_few p (link_of rules cs p) (slope_along cs p) in
     record {
-      rows = rw (rows_more cs ps k) (put_more (map pos (sloped_below cs ps k)) (map pos (sloped_row cs ps k)) old out out' i.rows put);
-      full = rw (rows_more cs ps k, length-append) (omega (arith, f.count, i.full));
-      few = omega (arith, f.count, i.few, few, length-map (sloped_row cs ps k) pos);
+      rows = rw (rows_more rules cs ps k) (put_more (map pos (sloped_below rules cs ps k)) (map pos (sloped_row rules cs ps k)) old out out' i.rows put);
+      full = rw (rows_more rules cs ps k, length-append) (omega (arith, f.count, i.full));
+      few = omega (arith, f.count, i.few, few, length-map (sloped_row rules cs ps k) pos);
     }
 
-pub all_laid : (cs ps old out : List ℤ) (count k : ℕ) → connection_count ps ≡ k → Laid cs ps old out count k → AllKept cs ps old out count
-all_laid cs ps old out count k e i =
-    record { rows = rw e i.rows; count = rw e (omega (arith, i.full, length-map (sloped_below cs ps k) pos, sloped_long cs ps k)) }
+pub all_laid : (rules : ℕ) (cs ps old out : List ℤ) (count k : ℕ) → connection_count ps ≡ k → Laid rules cs ps old out count k → AllKept rules cs ps old out count
+all_laid rules cs ps old out count k e i =
+    record { rows = rw e i.rows; count = rw e (omega (arith, i.full, length-map (sloped_below rules cs ps k) pos, sloped_long rules cs ps k)) }

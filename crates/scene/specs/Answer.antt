@@ -33,9 +33,9 @@ pub record Filled (rows : List ℤ) (before : ℕ) (out out' : List ℤ) (r : �
   pub count : r * kept_width ≡ before * kept_width + length rows
 
 -- all that is kept stands at the front, and r says how many rows these are
-pub record AllKept (cs ps out out' : List ℤ) (r : ℕ) : Type 0 where
-  pub rows : out' ≡ laid (map pos (sloped_rows cs ps)) out
-  pub count : r ≡ kept_count cs ps
+pub record AllKept (rules : ℕ) (cs ps out out' : List ℤ) (r : ℕ) : Type 0 where
+  pub rows : out' ≡ laid (map pos (sloped_rows rules cs ps)) out
+  pub count : r ≡ kept_count rules cs ps
 
 -- ---- what the entry answers
 
@@ -44,10 +44,10 @@ abbrev pub answer_of : Result ℕ Refusal → List ℕ
 answer_of (Ok count) = 0 ∷ count ∷ []
 answer_of (Err r) = refusal_numbers r
 
--- the answer for these lists and a lent slice of n numbers
-abbrev pub ports_answer : List ℤ → List ℤ → ℕ → List ℕ
-ports_answer cs ps n = numbers_by (ports_refusal cs ps n) (kept_count cs ps ∷ [])
+-- the answer for a rules number, these lists and a lent slice of n numbers
+abbrev pub ports_answer : ℕ → List ℤ → List ℤ → ℕ → List ℕ
+ports_answer rules cs ps n = numbers_by (ports_refusal rules cs ps n) (kept_count rules cs ps ∷ [])
 
-pub record Answered (cs ps out out' : List ℤ) (r : Result ℕ Refusal) : Type 0 where
-  pub answer : answer_of r ≡ ports_answer cs ps (length out)
-  pub left : out' ≡ left_of (ports_refusal cs ps (length out)) (map pos (sloped_rows cs ps)) out
+pub record Answered (rules : ℕ) (cs ps out out' : List ℤ) (r : Result ℕ Refusal) : Type 0 where
+  pub answer : answer_of r ≡ ports_answer rules cs ps (length out)
+  pub left : out' ≡ left_of (ports_refusal rules cs ps (length out)) (map pos (sloped_rows rules cs ps)) out

@@ -1,6 +1,7 @@
 // The port connections that are kept of a scene, each with the slope of its step.
 ghost use Rattle.std.specs.Prelude.{◌≡◌, Some, ◌+◌, ◌*◌, ◌≤◌, ◌<◌, map, length, pos};
 ghost use Rattle.lists.specs.Limits.{kept_width};
+ghost use Rattle.lists.specs.Rules.{rules_of};
 ghost use Rattle.lists.specs.Records.{component, connection, component_count, connection_count};
 ghost use Rattle.lists.specs.Ids.{IdTable};
 ghost use Rattle.faces.specs.Codes.{face_code, face_number, slope_code};
@@ -17,6 +18,7 @@ use faces::ports::ports_for;
 use faces::select::{select_port, transfer_of};
 use faces::step::{Slope, Step, step_between};
 use lists::hints::{Hints, SLOTS, hint_ids, place_near};
+use lists::rules::rules_of;
 use lists::views::{ComponentList, ConnectionList};
 use lists::{COMPONENT, COMPONENTS, CONNECTION, KEPT, Refusal};
 
@@ -28,9 +30,10 @@ struct Link {
     slope: Slope,
 }
 
-// The lists of an accepted scene, with the table of the components' ids and hints into it.
+// The rules number and the lists of an accepted scene, with the table of the components' ids and hints into it.
 #[derive(Drop)]
 struct Scene<'a> {
+    rules: u64,
     components: ComponentList<'a>,
     connections: ConnectionList<'a>,
     keys: &'a [u64],
@@ -42,10 +45,12 @@ impl Scene<'_> {
     // The port that component k has for a connection at a face.
     fn port_at(&self, k: usize, face: Face, outgoing: bool, kind: u64) -> Option<usize>
         requires { k < component_count self.now.components.numbers.now }
-        ensures { result ≡ select_port (ports_of (component self.now.components.numbers.now k)) (face_code face) outgoing kind }
+        ensures { let s = self.now in
+            result ≡ select_port (ports_of s.rules (component s.components.numbers.now k)) (face_code face) outgoing kind }
     {
         let list = self.components;
         let ports = ports_for(
+            self.rules,
             list.kind(k),
             list.facing(k),
             list.support(k),
@@ -66,7 +71,8 @@ impl Scene<'_> {
     // The link of a connection from component a to component b.
     fn link_between(&self, a: usize, b: usize, kind: u64) -> Option<Link>
         requires { (a < component_count self.now.components.numbers.now) × (b < component_count self.now.components.numbers.now) }
-        ensures ports { let cs = self.now.components.numbers.now in ports_by result ≡ ports_between (component cs a) (component cs b) kind }
+        ensures ports { let cs = self.now.components.numbers.now in
+            ports_by result ≡ ports_between self.now.rules (component cs a) (component cs b) kind }
         ensures slope { let cs = self.now.components.numbers.now in SlopeIs result (step_slope (component cs a) (component cs b)) }
     {
         let step = self.step(a, b);
@@ -84,7 +90,7 @@ impl Scene<'_> {
     fn link_of(&self, k: usize) -> Option<Link>
         requires { k < connection_count self.now.connections.numbers.now }
         ensures ports { let s = self.now in
-            ports_by result ≡ link_of s.components.numbers.now (connection s.connections.numbers.now k) }
+            ports_by result ≡ link_of s.rules s.components.numbers.now (connection s.connections.numbers.now k) }
         ensures slope { let s = self.now in
             SlopeIs result (slope_along s.components.numbers.now (connection s.connections.numbers.now k)) }
     {
@@ -115,7 +121,7 @@ impl Scene<'_> {
         requires k_bound { k < connection_count self.now.connections.numbers.now }
         requires kept_width_in_bounds { count * kept_width + kept_width ≤ length out.old }
         ensures { let s = self.now in
-            Filled (map pos (sloped_row s.components.numbers.now s.connections.numbers.now k)) count out.old out.new result }
+            Filled (map pos (sloped_row s.rules s.components.numbers.now s.connections.numbers.now k)) count out.old out.new result }
     {
         let Some(link) = self.link_of(k) else {
             return count;
@@ -128,6 +134,7 @@ impl Scene<'_> {
 
 // Writes all rows that are kept, in order.
 pub fn keep_all(
+    rules: u64,
     components: ComponentList,
     keys: &[u64],
     connections: ConnectionList,
@@ -135,11 +142,12 @@ pub fn keep_all(
 ) -> usize
     requires id_table { IdTable components.numbers.now keys.now }
     requires kept_width_in_bounds { connection_count connections.numbers.now * kept_width ≤ length out.old }
-    ensures { AllKept components.entry.numbers.now connections.entry.numbers.now out.old out.new result }
+    ensures { AllKept rules components.entry.numbers.now connections.entry.numbers.now out.old out.new result }
 {
     let mut hints = [[0u16; 2]; SLOTS];
     hint_ids(keys, &mut hints);
     let scene = Scene {
+        rules,
         components,
         connections,
         keys,
@@ -154,15 +162,18 @@ pub fn keep_all(
 
 // The port connections of a scene with their slopes, in the order of its grouping connections, as rows at the front of `out`.
 pub fn port_connections(
+    rules: i64,
     components: &[i64],
     connections: &[i64],
     out: &mut [i64],
 ) -> Result<usize, Refusal>
-    ensures { Answered components.now connections.now out.old out.new result }
+    ensures { Answered (rules_of rules) components.now connections.now out.old out.new result }
 {
+    let rules = rules_of(rules);
     let enough = room_for(connections.len() / CONNECTION, KEPT, out.len());
     let mut keys = [0u64; COMPONENTS];
     grouping_lists(
+        rules,
         components,
         connections,
         &connections[..0],
@@ -176,5 +187,5 @@ pub fn port_connections(
         numbers: connections,
     };
     let count = components.len() / COMPONENT;
-    Ok(keep_all(listed, &keys[..count], connected, out))
+    Ok(keep_all(rules, listed, &keys[..count], connected, out))
 }

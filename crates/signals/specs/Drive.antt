@@ -17,5 +17,5 @@ members_where cs P = tabulate (λ m. some (λ p. P p && eqb (member_of cs p) m) 
 unfoldable pub drive : List ℤ → List ℤ → List ℤ → List Bool
 drive cs ps fs = reached (component_count cs) (signals cs ps) (members_where cs (is_drive cs fs))
 
-unfoldable pub potential : List ℤ → List ℤ → List ℤ → List Bool
-potential cs ps fs = reached (component_count cs) (signals cs ps) (members_where cs (λ p. is_drive cs fs p || is_inferred cs ps fs p))
+unfoldable pub potential : ℕ → List ℤ → List ℤ → List ℤ → List Bool
+potential rules cs ps fs = reached (component_count cs) (signals cs ps) (members_where cs (λ p. is_drive cs fs p || is_inferred rules cs ps fs p))

@@ -11,6 +11,7 @@ ghost use Rattle.signals.specs.Seen.{SeenOf, Rows, few_near, outside_key};
 use super::edges::flag_sinks;
 use super::network::Network;
 use lists::kinds::BlockKind;
+use lists::rules::lamps_pass;
 use lists::views::ComponentList;
 use regions::Graph;
 use tables::SPAN;
@@ -69,23 +70,24 @@ fn few_neighbours(network: &Network, m: usize) -> bool
     !matches!(both, Seen::Many)
 }
 
-// Whether a component's kind is Solid or Transparent.
-fn is_passive(kind: u64) -> bool
-    ensures { result ≡ is_passive kind }
+// Whether what a component of a kind hands on to a wire is left uncounted: Solid and Transparent, and from rules 2 on lamps.
+fn is_passive(rules: u64, kind: u64) -> bool
+    ensures { result ≡ is_passive rules kind }
 {
-    matches!(
-        BlockKind::try_from(kind),
-        Ok(BlockKind::Solid | BlockKind::Transparent)
-    )
+    match BlockKind::try_from(kind) {
+        Ok(BlockKind::Solid | BlockKind::Transparent) => true,
+        Ok(BlockKind::RedstoneLamp) => lamps_pass(rules),
+        _ => false,
+    }
 }
 
-// Flags the Solid and Transparent components, by list place.
-pub fn passive_flags(components: ComponentList, flags: &mut [bool])
+// Flags the passive components, by list place.
+pub fn passive_flags(components: ComponentList, rules: u64, flags: &mut [bool])
     requires { component_count components.numbers.now ≤ length flags.old }
-    ensures { let cs = components.entry.numbers.now in Flags (component_count cs) (λ p. is_passive (component cs p).kind) flags.new }
+    ensures { let cs = components.entry.numbers.now in Flags (component_count cs) (λ p. is_passive rules (component cs p).kind) flags.new }
 {
     for p in 0..components.count() {
-        flags[p] = is_passive(components.kind(p));
+        flags[p] = is_passive(rules, components.kind(p));
     }
 }
 

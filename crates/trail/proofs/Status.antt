@@ -75,5 +75,5 @@ module _ (cs ps fs : List ℤ) (scene : Scene cs ps) (p port : ℕ) where
       let way = reach_onward (marked (immediate_sources cs ps p port)) from.3 last in
       (from.0 ∷ way.0, and_true _ _ from.2 way.1)
 
-  pub status_trail : (status_of cs ps fs p port ≡ 0) ↔ ((l : List ℕ) × MemberTrail l)
-  status_trail = (λ e. fed_trail (zero_fed cs ps fs p port e), λ t. fed_zero cs ps fs p port (trail_fed t.0 t.1))
+  pub status_trail : (rules : ℕ) → (status_of rules cs ps fs p port ≡ 0) ↔ ((l : List ℕ) × MemberTrail l)
+  status_trail rules = (λ e. fed_trail (zero_fed cs ps fs p port rules e), λ t. fed_zero cs ps fs p port rules (trail_fed t.0 t.1))

@@ -53,8 +53,8 @@ row_at : (place : Option ℕ) → row_refusal place ≡ Ok tt → (p : ℕ) × (
 row_at (Some p) e = (p, refl)
 row_at None e = absurd (refused_not e)
 
-status_at : (cs ps fs : List ℤ) (port p : ℕ) → status_refusal cs ps fs port (Some p) ≡ Ok tt → status_of cs ps fs p port ≡ 0
-status_at cs ps fs port p e = eqb-true (status_of cs ps fs p port) 0 (zero_status (eqb (status_of cs ps fs p port) 0) e)
+status_at : (rules : ℕ) (cs ps fs : List ℤ) (port p : ℕ) → status_refusal rules cs ps fs port (Some p) ≡ Ok tt → status_of rules cs ps fs p port ≡ 0
+status_at rules cs ps fs port p e = eqb-true (status_of rules cs ps fs p port) 0 (zero_status (eqb (status_of rules cs ps fs p port) 0) e)
 
 -- a trail is not empty
 some_trail : (cs ps fs : List ℤ) (id port : ℕ) (l : List ℕ) → port_trail cs ps fs id port l ≡ true → 0 < length l
@@ -65,88 +65,88 @@ some_trail cs ps fs id port (x ∷ l) e = omega arith
 -- ---- where there is a trail
 
 module _ (cs ps fs : List ℤ) (scene : Scene cs ps) (id port p : ℕ) (row : row_place cs id port ≡ Some p) where
-  trail_zero : (l : List ℕ) → port_trail cs ps fs id port l ≡ true → status_of cs ps fs p port ≡ 0
-  trail_zero l e =
+  trail_zero : (rules : ℕ) (l : List ℕ) → port_trail cs ps fs id port l ≡ true → status_of rules cs ps fs p port ≡ 0
+  trail_zero rules l e =
       let is = (row_found cs id port row).id_is in
-      (status_trail cs ps fs scene p port).1 (map (smaller_ids cs) l, trail_found (finding cs ps fs scene p port id is) l e)
+      (status_trail cs ps fs scene p port rules).1 (map (smaller_ids cs) l, trail_found (finding cs ps fs scene p port id is) l e)
 
-  zero_trail : status_of cs ps fs p port ≡ 0 → (l : List ℕ) × (port_trail cs ps fs id port l ≡ true)
-  zero_trail e =
+  zero_trail : (rules : ℕ) → status_of rules cs ps fs p port ≡ 0 → (l : List ℕ) × (port_trail cs ps fs id port l ≡ true)
+  zero_trail rules e =
       let is = (row_found cs id port row).id_is in
-      let t = (status_trail cs ps fs scene p port).0 e in
+      let t = (status_trail cs ps fs scene p port rules).0 e in
       (map (first_name cs) t.0, trail_to (naming cs ps fs scene (first_name cs) (first_names cs scene.distinct) p port id is) t.0 t.1)
 
   exists : TrailExists cs ps fs id port p
   exists = record {
-    status = (λ t. trail_zero t.0 t.1, zero_trail);
-    reported = (
-      λ t. subst (λ (s : ℕ). HasRow id port s (input_rows cs ps fs)) (trail_zero t.0 t.1) (row_there cs ps fs id port p row),
-      λ h. zero_trail (row_status cs ps fs id port p row scene.distinct 0 h),
+    status = λ rules. (λ t. trail_zero rules t.0 t.1, zero_trail rules);
+    reported = λ rules. (
+      λ t. subst (λ (s : ℕ). HasRow id port s (input_rows rules cs ps fs)) (trail_zero rules t.0 t.1) (row_there rules cs ps fs id port p row),
+      λ h. zero_trail rules (row_status rules cs ps fs id port p row scene.distinct 0 h),
     );
   }
 
-pub trail_exists : (cs ps fs : List ℤ) (id port p : ℕ) → liveness_lists cs ps fs true ≡ Ok tt → row_place cs id port ≡ Some p → TrailExists cs ps fs id port p
-trail_exists cs ps fs id port p lists row = exists cs ps fs (scene_of_lem (liveness_accept cs ps fs true lists)) id port p row
+pub trail_exists : (rules : ℕ) (cs ps fs : List ℤ) (id port p : ℕ) → liveness_lists rules cs ps fs true ≡ Ok tt → row_place cs id port ≡ Some p → TrailExists cs ps fs id port p
+trail_exists rules cs ps fs id port p lists row = exists cs ps fs (scene_of_lem (liveness_accept rules cs ps fs true lists)) id port p row
 
 -- ---- the check
 
 -- by what its checks say
-checking_is : {cs ps fs : List ℤ} {id port : ℕ} {l : List ℕ} → check_refusal cs ps fs id port ≡ Ok tt → (r : Result Bool Refusal)
-    → Checking cs ps fs id port l r → r ≡ Ok (port_trail cs ps fs id port l)
+checking_is : {rules : ℕ} {cs ps fs : List ℤ} {id port : ℕ} {l : List ℕ} → check_refusal rules cs ps fs id port ≡ Ok tt → (r : Result Bool Refusal)
+    → Checking rules cs ps fs id port l r → r ≡ Ok (port_trail cs ps fs id port l)
 checking_is accepts (Ok b) c = ap Ok c.by.accepts
 checking_is accepts (Err refusal) c = absurd (let e = c.by.answer ∙ accepts in refused_not e)
 
-pub checking_laws : {cs ps fs : List ℤ} {id port : ℕ} {l : List ℕ} {b : Bool} → Checking cs ps fs id port l (Ok b) → CheckingLaws cs ps fs id port l b
-checking_laws {cs} {ps} {fs} {id} {port} {l} c = record {
+pub checking_laws : {rules : ℕ} {cs ps fs : List ℤ} {id port : ℕ} {l : List ℕ} {b : Bool} → Checking rules cs ps fs id port l (Ok b) → CheckingLaws rules cs ps fs id port l b
+checking_laws {rules} {cs} {ps} {fs} {id} {port} {l} c = record {
   all_trails = c.by.accepts;
   is_trail = λ a. sym c.by.accepts ∙ a;
-  status = λ a. (row.0, row.1, trail_zero cs ps fs scene id port row.0 row.1 l (sym c.by.accepts ∙ a));
+  status = λ a. (row.0, row.1, trail_zero cs ps fs scene id port row.0 row.1 rules l (sym c.by.accepts ∙ a));
   present = λ a. all_at (λ y. has_component cs y ≡ true) l (trail_present cs ps fs scene (feeds_into ps id port) l (sym c.by.accepts ∙ a));
 }
   where
-    parts : (liveness_lists cs ps fs true ≡ Ok tt) × (row_refusal (row_place cs id port) ≡ Ok tt)
-    parts = both_accept (liveness_lists cs ps fs true) (row_refusal (row_place cs id port)) (sym c.by.answer)
+    parts : (liveness_lists rules cs ps fs true ≡ Ok tt) × (row_refusal (row_place cs id port) ≡ Ok tt)
+    parts = both_accept (liveness_lists rules cs ps fs true) (row_refusal (row_place cs id port)) (sym c.by.answer)
 
     row : (p : ℕ) × (row_place cs id port ≡ Some p)
     row = row_at (row_place cs id port) parts.1
 
     scene : Scene cs ps
-    scene = scene_of_lem (liveness_accept cs ps fs true parts.0)
+    scene = scene_of_lem (liveness_accept rules cs ps fs true parts.0)
 
 -- ---- the finder
 
-module _ {cs ps fs : List ℤ} {id port : ℕ} {trail₀ trail' : List ℕ} {count : ℕ} (f : Finding cs ps fs id port trail₀ trail' (Ok count)) where
+module _ {rules : ℕ} {cs ps fs : List ℤ} {id port : ℕ} {trail₀ trail' : List ℕ} {count : ℕ} (f : Finding rules cs ps fs id port trail₀ trail' (Ok count)) where
   abbrev enough : Bool
   enough = room_for (component_count cs) 1 (length trail₀)
 
-  parts : (liveness_lists cs ps fs enough ≡ Ok tt) × (port_refusal cs ps fs port (row_place cs id port) ≡ Ok tt)
-  parts = both_accept (liveness_lists cs ps fs enough) (port_refusal cs ps fs port (row_place cs id port)) (sym f.by.answer)
+  parts : (liveness_lists rules cs ps fs enough ≡ Ok tt) × (port_refusal rules cs ps fs port (row_place cs id port) ≡ Ok tt)
+  parts = both_accept (liveness_lists rules cs ps fs enough) (port_refusal rules cs ps fs port (row_place cs id port)) (sym f.by.answer)
 
-  port_parts : (row_refusal (row_place cs id port) ≡ Ok tt) × (status_refusal cs ps fs port (row_place cs id port) ≡ Ok tt)
-  port_parts = both_accept (row_refusal (row_place cs id port)) (status_refusal cs ps fs port (row_place cs id port)) parts.1
+  port_parts : (row_refusal (row_place cs id port) ≡ Ok tt) × (status_refusal rules cs ps fs port (row_place cs id port) ≡ Ok tt)
+  port_parts = both_accept (row_refusal (row_place cs id port)) (status_refusal rules cs ps fs port (row_place cs id port)) parts.1
 
   -- the check's refusals accept too
-  check_accepts : check_refusal cs ps fs id port ≡ Ok tt
+  check_accepts : check_refusal rules cs ps fs id port ≡ Ok tt
   check_accepts =
-      let room = (liveness_accept cs ps fs enough parts.0).scene.lengths.room in
-      let lists : liveness_lists cs ps fs true ≡ Ok tt = ap (liveness_lists cs ps fs) (sym room) ∙ parts.0 in
+      let room = (liveness_accept rules cs ps fs enough parts.0).scene.lengths.room in
+      let lists : liveness_lists rules cs ps fs true ≡ Ok tt = ap (liveness_lists rules cs ps fs) (sym room) ∙ parts.0 in
       ap (λ (c : Result ⊤ Refusal). c or_else row_refusal (row_place cs id port)) lists ∙ port_parts.0
 
   laid_is : BestLaid cs ps fs id port trail₀ trail' count
   laid_is = f.by.found
 
-  pub finding_laws : FindingLaws cs ps fs id port trail₀ trail' count
+  pub finding_laws : FindingLaws rules cs ps fs id port trail₀ trail' count
   finding_laws =
       let row = row_at (row_place cs id port) port_parts.0 in
-      let zero : status_of cs ps fs row.0 port ≡ 0 =
-      status_at cs ps fs port row.0 (subst (λ (w : Option ℕ). status_refusal cs ps fs port w ≡ Ok tt) row.1 port_parts.1) in
+      let zero : status_of rules cs ps fs row.0 port ≡ 0 =
+      status_at rules cs ps fs port row.0 (subst (λ (w : Option ℕ). status_refusal rules cs ps fs port w ≡ Ok tt) row.1 port_parts.1) in
       let l = laid_is in
       let laws = trail_laws (is_drive_id cs fs) (feeds_next ps) (feeds_into ps id port) l.best in
       record {
         place = row.0;
         row = row.1;
         status = zero;
-        reported = subst (λ (s : ℕ). HasRow id port s (input_rows cs ps fs)) zero (row_there cs ps fs id port row.0 row.1);
+        reported = subst (λ (s : ℕ). HasRow id port s (input_rows rules cs ps fs)) zero (row_there rules cs ps fs id port row.0 row.1);
         found = l.found;
         trail_left = l.trail_left;
         count_is = l.count_is;
@@ -154,7 +154,7 @@ module _ {cs ps fs : List ℤ} {id port : ℕ} {trail₀ trail' : List ℕ} {cou
         some = omega (arith, l.count_is, some_trail cs ps fs id port l.found l.best.accepted);
         few = omega (arith, l.count_is, l.few);
         present = all_at (λ y. has_component cs y ≡ true) l.found
-            (trail_present cs ps fs (scene_of_lem (liveness_accept cs ps fs enough parts.0)) (feeds_into ps id port) l.found l.best.accepted);
+            (trail_present cs ps fs (scene_of_lem (liveness_accept rules cs ps fs enough parts.0)) (feeds_into ps id port) l.found l.best.accepted);
         one_drive = laws.one_drive;
         distinct = laws.distinct;
         accepted = λ r c. checking_is check_accepts r c ∙ ap Ok l.best.accepted;
@@ -163,18 +163,18 @@ module _ {cs ps fs : List ℤ} {id port : ℕ} {trail₀ trail' : List ℕ} {cou
       }
 
 -- where the lists are accepted and the port has a row, the finder answers exactly if the analysis has that row with status 0
-pub found_exactly : {cs ps fs : List ℤ} {id port : ℕ} {trail₀ trail' : List ℕ} {r : Result ℕ Refusal} → Finding cs ps fs id port trail₀ trail' r
-    → finder_lists cs ps fs (length trail₀) ≡ Ok tt → (p : ℕ) → row_place cs id port ≡ Some p
-    → (checked r ≡ Ok tt) ↔ HasRow id port 0 (input_rows cs ps fs)
-found_exactly {cs} {ps} {fs} {id} {port} {trail₀} {trail'} {r} f lists p row = (go r f, λ has. f.by.answer ∙ accepted has)
+pub found_exactly : {rules : ℕ} {cs ps fs : List ℤ} {id port : ℕ} {trail₀ trail' : List ℕ} {r : Result ℕ Refusal} → Finding rules cs ps fs id port trail₀ trail' r
+    → finder_lists rules cs ps fs (length trail₀) ≡ Ok tt → (p : ℕ) → row_place cs id port ≡ Some p
+    → (checked r ≡ Ok tt) ↔ HasRow id port 0 (input_rows rules cs ps fs)
+found_exactly {rules} {cs} {ps} {fs} {id} {port} {trail₀} {trail'} {r} f lists p row = (go r f, λ has. f.by.answer ∙ accepted has)
   where
-    go : (r : Result ℕ Refusal) → Finding cs ps fs id port trail₀ trail' r → checked r ≡ Ok tt → HasRow id port 0 (input_rows cs ps fs)
+    go : (r : Result ℕ Refusal) → Finding rules cs ps fs id port trail₀ trail' r → checked r ≡ Ok tt → HasRow id port 0 (input_rows rules cs ps fs)
     go (Ok count) f e = (finding_laws f).reported
     go (Err refusal) f e = absurd (refused_not e)
 
-    accepted : HasRow id port 0 (input_rows cs ps fs) → finder_refusal cs ps fs id port (length trail₀) ≡ Ok tt
+    accepted : HasRow id port 0 (input_rows rules cs ps fs) → finder_refusal rules cs ps fs id port (length trail₀) ≡ Ok tt
     accepted has =
-        let scene = scene_of_lem (liveness_accept cs ps fs (room_for (component_count cs) 1 (length trail₀)) lists) in
-        ap (λ (c : Result ⊤ Refusal). c or_else port_refusal cs ps fs port (row_place cs id port)) lists
-        ∙ ap (port_refusal cs ps fs port) row
-        ∙ status_some cs ps fs p port (row_status cs ps fs id port p row scene.distinct 0 has)
+        let scene = scene_of_lem (liveness_accept rules cs ps fs (room_for (component_count cs) 1 (length trail₀)) lists) in
+        ap (λ (c : Result ⊤ Refusal). c or_else port_refusal rules cs ps fs port (row_place cs id port)) lists
+        ∙ ap (port_refusal rules cs ps fs port) row
+        ∙ status_some rules cs ps fs p port (row_status rules cs ps fs id port p row scene.distinct 0 has)

@@ -97,25 +97,25 @@ abbrev pub not_driven : Refusal
 not_driven = record { fault = Fault.NotDriven; list = None; item = 0 }
 
 -- the refusals of a port, by its status
-status_none : (cs ps fs : List ℤ) (p port : ℕ) → (status_of cs ps fs p port ≡ 0 → ⊥) → status_refusal cs ps fs port (Some p) ≡ Err not_driven
-status_none cs ps fs p port no_zero = ap (λ (b : Bool). refuse Fault.NotDriven None (too_short b)) (ne_eqb (status_of cs ps fs p port) 0 no_zero)
+status_none : (rules : ℕ) (cs ps fs : List ℤ) (p port : ℕ) → (status_of rules cs ps fs p port ≡ 0 → ⊥) → status_refusal rules cs ps fs port (Some p) ≡ Err not_driven
+status_none rules cs ps fs p port no_zero = ap (λ (b : Bool). refuse Fault.NotDriven None (too_short b)) (ne_eqb (status_of rules cs ps fs p port) 0 no_zero)
 
-pub status_some : (cs ps fs : List ℤ) (p port : ℕ) → status_of cs ps fs p port ≡ 0 → status_refusal cs ps fs port (Some p) ≡ Ok tt
-status_some cs ps fs p port zero_status = ap (λ (b : Bool). refuse Fault.NotDriven None (too_short b)) (eq-eqb (status_of cs ps fs p port) 0 zero_status)
+pub status_some : (rules : ℕ) (cs ps fs : List ℤ) (p port : ℕ) → status_of rules cs ps fs p port ≡ 0 → status_refusal rules cs ps fs port (Some p) ≡ Ok tt
+status_some rules cs ps fs p port zero_status = ap (λ (b : Bool). refuse Fault.NotDriven None (too_short b)) (eq-eqb (status_of rules cs ps fs p port) 0 zero_status)
 
-module _ {cs ps : List ℤ} (fs : List ℤ) {keys : List ℕ} (scene : Scene cs ps) (t : IdTable cs keys)
+module _ (rules : ℕ) {cs ps : List ℤ} (fs : List ℤ) {keys : List ℕ} (scene : Scene cs ps) (t : IdTable cs keys)
     (p port : ℕ) {id : ℕ} (is : (component cs p).id ≡ id) (way : List ℕ) where
   pub finding_none : FoundWay cs ps fs p port way None → {trail : List ℕ} {r : Result ℕ Refusal} → r ≡ Err not_driven
-      → FindingBy (status_refusal cs ps fs port (Some p)) cs ps fs id port trail trail r
+      → FindingBy (status_refusal rules cs ps fs port (Some p)) cs ps fs id port trail trail r
   finding_none none {trail} {r} e =
-      let refusal = status_none cs ps fs p port (λ z. let l = (status_trail cs ps fs scene p port).0 z in false≢true (sym (none l.0) ∙ l.1)) in
+      let refusal = status_none rules cs ps fs p port (λ z. let l = (status_trail cs ps fs scene p port rules).0 z in false≢true (sym (none l.0) ∙ l.1)) in
       rw (e, refusal) (record { answer = refl; found = tt; unchanged = refl })
 
   pub finding_some : {count : ℕ} → FoundWay cs ps fs p port way (Some count) → count ≤ length way → {trail trail' : List ℕ}
-      → trail' ≡ laid (map (id_of keys) (take count way)) trail → FindingBy (status_refusal cs ps fs port (Some p)) cs ps fs id port trail trail' (Ok count)
+      → trail' ≡ laid (map (id_of keys) (take count way)) trail → FindingBy (status_refusal rules cs ps fs port (Some p)) cs ps fs id port trail trail' (Ok count)
   finding_some {count} (few, best) room {trail} {trail'} left =
       let long : length (map (id_of keys) (take count way)) ≡ count = length-map (take count way) (id_of keys) ∙ length-take-le count way room in
-      rw (status_some cs ps fs p port ((status_trail cs ps fs scene p port).1 (take count way, best.accepted)))
+      rw (status_some rules cs ps fs p port ((status_trail cs ps fs scene p port rules).1 (take count way, best.accepted)))
       (record {
         answer = refl;
         found = record {

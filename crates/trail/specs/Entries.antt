@@ -22,27 +22,27 @@ abbrev pub row_refusal : Option ℕ → Result ⊤ Refusal
 row_refusal place = refuse Fault.NoVerdictRow None (too_short (is_found place))
 
 -- the row's status is 0
-abbrev pub status_zero : List ℤ → List ℤ → List ℤ → ℕ → Option ℕ → Bool
-status_zero cs ps fs port (Some p) = eqb (status_of cs ps fs p port) 0
-status_zero cs ps fs port None = false
+abbrev pub status_zero : ℕ → List ℤ → List ℤ → List ℤ → ℕ → Option ℕ → Bool
+status_zero rules cs ps fs port (Some p) = eqb (status_of rules cs ps fs p port) 0
+status_zero rules cs ps fs port None = false
 
 -- 10: it isn't
-abbrev pub status_refusal : List ℤ → List ℤ → List ℤ → ℕ → Option ℕ → Result ⊤ Refusal
-status_refusal cs ps fs port place = refuse Fault.NotDriven None (too_short (status_zero cs ps fs port place))
+abbrev pub status_refusal : ℕ → List ℤ → List ℤ → List ℤ → ℕ → Option ℕ → Result ⊤ Refusal
+status_refusal rules cs ps fs port place = refuse Fault.NotDriven None (too_short (status_zero rules cs ps fs port place))
 
 -- the numbers of the finder past those of the lists
-abbrev pub port_refusal : List ℤ → List ℤ → List ℤ → ℕ → Option ℕ → Result ⊤ Refusal
-port_refusal cs ps fs port place = row_refusal place or_else status_refusal cs ps fs port place
+abbrev pub port_refusal : ℕ → List ℤ → List ℤ → List ℤ → ℕ → Option ℕ → Result ⊤ Refusal
+port_refusal rules cs ps fs port place = row_refusal place or_else status_refusal rules cs ps fs port place
 
 -- those of the lists: a place of the lent list is one number
-abbrev pub finder_lists : List ℤ → List ℤ → List ℤ → ℕ → Result ⊤ Refusal
-finder_lists cs ps fs places = liveness_lists cs ps fs (room_for (component_count cs) 1 places)
+abbrev pub finder_lists : ℕ → List ℤ → List ℤ → List ℤ → ℕ → Result ⊤ Refusal
+finder_lists rules cs ps fs places = liveness_lists rules cs ps fs (room_for (component_count cs) 1 places)
 
-abbrev pub finder_refusal : List ℤ → List ℤ → List ℤ → ℕ → ℕ → ℕ → Result ⊤ Refusal
-finder_refusal cs ps fs id port places = finder_lists cs ps fs places or_else port_refusal cs ps fs port (row_place cs id port)
+abbrev pub finder_refusal : ℕ → List ℤ → List ℤ → List ℤ → ℕ → ℕ → ℕ → Result ⊤ Refusal
+finder_refusal rules cs ps fs id port places = finder_lists rules cs ps fs places or_else port_refusal rules cs ps fs port (row_place cs id port)
 
-abbrev pub check_refusal : List ℤ → List ℤ → List ℤ → ℕ → ℕ → Result ⊤ Refusal
-check_refusal cs ps fs id port = liveness_lists cs ps fs true or_else row_refusal (row_place cs id port)
+abbrev pub check_refusal : ℕ → List ℤ → List ℤ → List ℤ → ℕ → ℕ → Result ⊤ Refusal
+check_refusal rules cs ps fs id port = liveness_lists rules cs ps fs true or_else row_refusal (row_place cs id port)
 
 -- ---- the finder
 
@@ -60,8 +60,8 @@ pub record FindingBy (checks : Result ⊤ Refusal) (cs ps fs : List ℤ) (id por
   pub found : IfOk r (BestLaid cs ps fs id port trail trail')
   pub unchanged : OnErr r (trail' ≡ trail)
 
-pub record Finding (cs ps fs : List ℤ) (id port : ℕ) (trail trail' : List ℕ) (r : Result ℕ Refusal) : Type 0 where
-  pub by : FindingBy (finder_refusal cs ps fs id port (length trail)) cs ps fs id port trail trail' r
+pub record Finding (rules : ℕ) (cs ps fs : List ℤ) (id port : ℕ) (trail trail' : List ℕ) (r : Result ℕ Refusal) : Type 0 where
+  pub by : FindingBy (finder_refusal rules cs ps fs id port (length trail)) cs ps fs id port trail trail' r
 
 -- ---- the check
 
@@ -69,5 +69,5 @@ pub record CheckingBy (checks : Result ⊤ Refusal) (cs ps fs : List ℤ) (id po
   pub answer : checked r ≡ checks
   pub accepts : IfOk r (λ accepted. accepted ≡ port_trail cs ps fs id port trail)
 
-pub record Checking (cs ps fs : List ℤ) (id port : ℕ) (trail : List ℕ) (r : Result Bool Refusal) : Type 0 where
-  pub by : CheckingBy (check_refusal cs ps fs id port) cs ps fs id port trail r
+pub record Checking (rules : ℕ) (cs ps fs : List ℤ) (id port : ℕ) (trail : List ℕ) (r : Result Bool Refusal) : Type 0 where
+  pub by : CheckingBy (check_refusal rules cs ps fs id port) cs ps fs id port trail r

@@ -28,21 +28,21 @@ pub record TrailLaws (drive : ℕ → Bool) (edge : Edges) (feeds : ℕ → Bool
 -- ---- of lists that the checks accept, and a port that has a row, of the component at a place
 
 pub record TrailExists (cs ps fs : List ℤ) (id port place : ℕ) : Type 0 where
-  -- there is a trail exactly if the row's status is 0
-  pub status : ((l : List ℕ) × (port_trail cs ps fs id port l ≡ true)) ↔ (status_of cs ps fs place port ≡ 0)
+  -- there is a trail exactly if the row's status is 0, by whatever rules: a trail knows of none
+  pub status : (rules : ℕ) → ((l : List ℕ) × (port_trail cs ps fs id port l ≡ true)) ↔ (status_of rules cs ps fs place port ≡ 0)
   -- and so exactly if the whole analysis has the row with that status
-  pub reported : ((l : List ℕ) × (port_trail cs ps fs id port l ≡ true)) ↔ HasRow id port 0 (input_rows cs ps fs)
+  pub reported : (rules : ℕ) → ((l : List ℕ) × (port_trail cs ps fs id port l ≡ true)) ↔ HasRow id port 0 (input_rows rules cs ps fs)
 
 -- ---- of the entries
 
 -- of an accepted call of the finder
-pub record FindingLaws (cs ps fs : List ℤ) (id port : ℕ) (trail trail' : List ℕ) (count : ℕ) : Type 0 where
+pub record FindingLaws (rules : ℕ) (cs ps fs : List ℤ) (id port : ℕ) (trail trail' : List ℕ) (count : ℕ) : Type 0 where
   -- the port has a verdict row, of the component at this place, and its status is 0
   pub place : ℕ
   pub row : row_place cs id port ≡ Some place
-  pub status : status_of cs ps fs place port ≡ 0
+  pub status : status_of rules cs ps fs place port ≡ 0
   -- the whole analysis has that row
-  pub reported : HasRow id port 0 (input_rows cs ps fs)
+  pub reported : HasRow id port 0 (input_rows rules cs ps fs)
   -- the trail, at the front of the lent list
   pub found : List ℕ
   pub trail_left : trail' ≡ laid found trail
@@ -55,15 +55,15 @@ pub record FindingLaws (cs ps fs : List ℤ) (id port : ℕ) (trail trail' : Lis
   pub one_drive : (k : ℕ) → 0 < k → k < length found → is_drive_id cs fs (get_or found k 0) ≡ false
   pub distinct : (i j : ℕ) → i < j → j < length found → get_or found i 0 ≡ get_or found j 0 → ⊥
   -- the check accepts it
-  pub accepted : (r : Result Bool Refusal) → Checking cs ps fs id port found r → r ≡ Ok true
+  pub accepted : (r : Result Bool Refusal) → Checking rules cs ps fs id port found r → r ≡ Ok true
   -- and each list that the check accepts is at least as long, and of equal length not smaller
-  pub shortest : (m : List ℕ) → Checking cs ps fs id port m (Ok true) → length found ≤ length m
-  pub least : (m : List ℕ) → Checking cs ps fs id port m (Ok true) → length m ≡ length found → NotAfter found m
+  pub shortest : (m : List ℕ) → Checking rules cs ps fs id port m (Ok true) → length found ≤ length m
+  pub least : (m : List ℕ) → Checking rules cs ps fs id port m (Ok true) → length m ≡ length found → NotAfter found m
 
 -- of an accepted call of the check: it accepts the trails and no other list, and only where the row has status 0
-pub record CheckingLaws (cs ps fs : List ℤ) (id port : ℕ) (trail : List ℕ) (accepted : Bool) : Type 0 where
+pub record CheckingLaws (rules : ℕ) (cs ps fs : List ℤ) (id port : ℕ) (trail : List ℕ) (accepted : Bool) : Type 0 where
   pub all_trails : accepted ≡ port_trail cs ps fs id port trail
   pub is_trail : accepted ≡ true → port_trail cs ps fs id port trail ≡ true
-  pub status : accepted ≡ true → (p : ℕ) × (row_place cs id port ≡ Some p) × (status_of cs ps fs p port ≡ 0)
+  pub status : accepted ≡ true → (p : ℕ) × (row_place cs id port ≡ Some p) × (status_of rules cs ps fs p port ≡ 0)
   -- each id is that of a component
   pub present : accepted ≡ true → (k : ℕ) → k < length trail → has_component cs (get_or trail k 0) ≡ true

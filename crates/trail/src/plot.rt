@@ -100,7 +100,7 @@ fn trail_port(plot: &Plot, id: u64, port: u64, trail: &mut [u64]) -> Result<usiz
     requires { let cs = plot.now.components.now in (component_count cs ≤ length trail.old)
         × ((p : ℕ) × (p < component_count cs) × ((component cs p).id ≡ id)) }
     ensures { let l = plot.now in (p : ℕ) → p < component_count l.components.now → (component l.components.now p).id ≡ id →
-        FindingBy (status_refusal l.components.now l.ports.now l.frontiers.now port (Some p))
+        FindingBy (status_refusal l.rules l.components.now l.ports.now l.frontiers.now port (Some p))
         l.components.now l.ports.now l.frontiers.now id port trail.old trail.new result }
 {
     let mut way = [0usize; COMPONENTS];
@@ -122,7 +122,7 @@ pub(crate) fn trail_plot(
 ) -> Result<usize, Refusal>
     requires { component_count plot.now.components.now ≤ length trail.old }
     ensures { let l = plot.now in
-        FindingBy (port_refusal l.components.now l.ports.now l.frontiers.now port (row_place l.components.now id port))
+        FindingBy (port_refusal l.rules l.components.now l.ports.now l.frontiers.now port (row_place l.components.now id port))
         l.components.now l.ports.now l.frontiers.now id port trail.old trail.new result }
 {
     row_place(plot.keys, plot.component_list(), id, port).ok_or(Refusal {

@@ -8,5 +8,5 @@ use Rattle.capi.proofs.dustroute_groups.Goals as goal
 pub pack_refusal-requires : goal.pack_refusal-requires
 pack_refusal-requires c =
     let args = c.args in
-    let small : Small (groups_whole args.components.now args.connections.now) = whole_fits args.components.now args.connections.now in
+    let small : Small (groups_whole c.rules_of-rules.result args.components.now args.connections.now) = whole_fits c.rules_of-rules.result args.components.now args.connections.now in
     rw (sym c.whole_groups.ensures ∙ c.in-Err.is) at small

@@ -16,19 +16,19 @@ use Rattle.driven.proofs.is_driven.Goals.{After-liveness_lists}
 
 -- the answer of the checks, by the definition
 says : (c : After-liveness_lists)
-    → c.liveness_lists.result ≡ query_refusal c.args.components.now c.args.ports.now c.args.frontiers.now (length c.args.stack.now)
+    → c.liveness_lists.result ≡ query_refusal c.rules_of-rules.result c.args.components.now c.args.ports.now c.args.frontiers.now (length c.args.stack.now)
 says c =
     c.liveness_lists.ensures.lists.answer
-    ∙ ap (liveness_lists c.args.components.now c.args.ports.now c.args.frontiers.now) c.room_for-enough.ensures
+    ∙ ap (liveness_lists c.rules_of-rules.result c.args.components.now c.args.ports.now c.args.frontiers.now) c.room_for-enough.ensures
 
 -- ---- where they accept
 module _ (c : After-liveness_lists) (was : c.liveness_lists.result ≡ Ok tt) where
-  accepted : query_refusal c.args.components.now c.args.ports.now c.args.frontiers.now (length c.args.stack.now) ≡ Ok tt
+  accepted : query_refusal c.rules_of-rules.result c.args.components.now c.args.ports.now c.args.frontiers.now (length c.args.stack.now) ≡ Ok tt
   accepted = sym (says c) ∙ was
 
-  live : LivenessScene c.args.components.now c.args.ports.now c.args.frontiers.now
+  live : LivenessScene c.rules_of-rules.result c.args.components.now c.args.ports.now c.args.frontiers.now
       (room_for (component_count c.args.components.now) 2 (length c.args.stack.now))
-  live = liveness_accept _ _ _ _ accepted
+  live = liveness_accept _ _ _ _ _ accepted
 
   room : 2 * component_count c.args.components.now ≤ length c.args.stack.now
   room = omega (arith, leb-true (component_count c.args.components.now) (length c.args.stack.now / 2) live.scene.lengths.room)

@@ -7,7 +7,9 @@ use native.Mathlib.Omega.{arith}
 use lib.ListN.{length}
 use lib.Seq.{length-take-le}
 use borrow.Author.Tests.{leb-true}
+use mir.Facts.{to_z-of_z}
 use Rattle.lists.specs.Records.{component_count}
+use Rattle.lists.specs.Rules.{rules_of}
 use Rattle.checks.specs.Refusals.{room_for, liveness_lists, query_refusal}
 use Rattle.checks.proofs.Accepted.{LivenessScene, liveness_accept}
 use Rattle.liveness.proofs.Answers.{scene_of_lem}
@@ -17,19 +19,19 @@ use Rattle.inputs.proofs.required_input.Goals.{After-liveness_lists}
 
 -- the answer of the checks, by the definition
 says : (c : After-liveness_lists)
-    → c.liveness_lists.result ≡ query_refusal c.args.components.now c.args.ports.now c.args.frontiers.now (length c.args.stack.now)
+    → c.liveness_lists.result ≡ query_refusal c.rules_of-rules.result c.args.components.now c.args.ports.now c.args.frontiers.now (length c.args.stack.now)
 says c =
     c.liveness_lists.ensures.lists.answer
-    ∙ ap (liveness_lists c.args.components.now c.args.ports.now c.args.frontiers.now) c.room_for-enough.ensures
+    ∙ ap (liveness_lists c.rules_of-rules.result c.args.components.now c.args.ports.now c.args.frontiers.now) c.room_for-enough.ensures
 
 -- ---- where they accept
 module _ (c : After-liveness_lists) (was : c.liveness_lists.result ≡ Ok tt) where
-  accepted : query_refusal c.args.components.now c.args.ports.now c.args.frontiers.now (length c.args.stack.now) ≡ Ok tt
+  accepted : query_refusal c.rules_of-rules.result c.args.components.now c.args.ports.now c.args.frontiers.now (length c.args.stack.now) ≡ Ok tt
   accepted = sym (says c) ∙ was
 
-  live : LivenessScene c.args.components.now c.args.ports.now c.args.frontiers.now
+  live : LivenessScene c.rules_of-rules.result c.args.components.now c.args.ports.now c.args.frontiers.now
       (room_for (component_count c.args.components.now) 2 (length c.args.stack.now))
-  live = liveness_accept _ _ _ _ accepted
+  live = liveness_accept _ _ _ _ _ accepted
 
   room : 2 * component_count c.args.components.now ≤ length c.args.stack.now
   room = omega (arith, leb-true (component_count c.args.components.now) (length c.args.stack.now / 2) live.scene.lengths.room)
@@ -49,7 +51,10 @@ invariant_of-plot c =
     record { accepted = record { scene = scene; table = left.lists.table was; ends = left.ends was } }
 
 pub returns : goal.returns
-returns c = answered c.args.id (accepted (goal.at.returns c).After-liveness_lists c.in_ok-liveness_lists.was) c.query_plot.ensures
+returns c =
+    let known = c.rules_of-rules.ensures ∙ ap rules_of (to_z-of_z c.ranges.rules) in
+    let left = answered c.args.id (accepted (goal.at.returns c).After-liveness_lists c.in_ok-liveness_lists.was) c.query_plot.ensures in
+    rw known at left
 
 pub slice_bounds-keys-end : goal.slice_bounds-keys-end
 slice_bounds-keys-end c = long (goal.at.slice_bounds-keys-end c).After-liveness_lists c.in_ok-liveness_lists.was

@@ -9,7 +9,9 @@ use native.Mathlib.Omega.{arith}
 use lib.ListN.{length}
 use lib.Seq.{length-take-le}
 use borrow.Author.Tests.{leb-true}
+use mir.Facts.{to_z-of_z}
 use Rattle.lists.specs.Records.{component_count}
+use Rattle.lists.specs.Rules.{rules_of}
 use Rattle.checks.specs.Refusals.{room_for, liveness_lists}
 use Rattle.lists.proofs.Search.{both}
 use Rattle.checks.proofs.Accepted.{LivenessScene, liveness_accept, room_places}
@@ -23,21 +25,21 @@ use Rattle.lighting.proofs.light_regions.Goals.{After-liveness_lists}
 
 -- the answer of the checks, by the definition
 says : (c : After-liveness_lists) → c.liveness_lists.result
-    ≡ light_refusal c.args.components.now c.args.ports.now c.args.frontiers.now (length c.args.regions.now) (length c.args.stack.now)
+    ≡ light_refusal c.rules_of-rules.result c.args.components.now c.args.ports.now c.args.frontiers.now (length c.args.regions.now) (length c.args.stack.now)
 says c =
     let a = c.args in
     c.liveness_lists.ensures.lists.answer
-    ∙ ap (λ (b : Bool). liveness_lists a.components.now a.ports.now a.frontiers.now b) (rw (c.room_for.ensures, c.room_for-2.ensures) refl)
+    ∙ ap (λ (b : Bool). liveness_lists c.rules_of-rules.result a.components.now a.ports.now a.frontiers.now b) (rw (c.room_for.ensures, c.room_for-2.ensures) refl)
 
 -- ---- where they accept
 module _ (c : After-liveness_lists) (was : c.liveness_lists.result ≡ Ok tt) where
-  accepted : light_refusal c.args.components.now c.args.ports.now c.args.frontiers.now (length c.args.regions.now) (length c.args.stack.now)
+  accepted : light_refusal c.rules_of-rules.result c.args.components.now c.args.ports.now c.args.frontiers.now (length c.args.regions.now) (length c.args.stack.now)
       ≡ Ok tt
   accepted = sym (says c) ∙ was
 
-  live : LivenessScene c.args.components.now c.args.ports.now c.args.frontiers.now
+  live : LivenessScene c.rules_of-rules.result c.args.components.now c.args.ports.now c.args.frontiers.now
       (light_room c.args.components.now (length c.args.regions.now) (length c.args.stack.now))
-  live = liveness_accept _ _ _ _ accepted
+  live = liveness_accept _ _ _ _ _ accepted
 
   scene : Scene c.args.components.now c.args.ports.now
   scene = scene_of_lem live
@@ -69,7 +71,9 @@ pub returns : goal.returns
 returns c =
     let now = (goal.at.returns c).After-liveness_lists in
     let was = c.in_ok-liveness_lists.was in
-    lit_accepted (accepted now was) (scene now was) c.light_plot.ensures
+    let known = c.rules_of-rules.ensures ∙ ap rules_of (to_z-of_z c.ranges.rules) in
+    let left = lit_accepted (accepted now was) (scene now was) c.light_plot.ensures in
+    rw known at left
 
 pub slice_bounds-keys-end : goal.slice_bounds-keys-end
 slice_bounds-keys-end c = long (goal.at.slice_bounds-keys-end c).After-liveness_lists c.in_ok-liveness_lists.was

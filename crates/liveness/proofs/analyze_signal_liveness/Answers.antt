@@ -8,8 +8,10 @@ use Prim.Native.Nat.{◌*◌, ◌/◌, ◌≤◌}
 use native.Mathlib.Omega.{arith}
 use lib.ListN.{length}
 use lib.Seq.{length-take-le}
+use mir.Facts.{to_z-of_z}
 use borrow.Author.Tests.{leb-true}
 use Rattle.lists.specs.Records.{component_count}
+use Rattle.lists.specs.Rules.{rules_of}
 use Rattle.checks.specs.Refusals.{room_for, liveness_room, liveness_lists, liveness_refusal}
 use Rattle.lists.proofs.Search.{both}
 use Rattle.checks.proofs.Accepted.{LivenessScene, liveness_accept, room_places}
@@ -20,15 +22,15 @@ use Rattle.liveness.proofs.analyze_signal_liveness.Goals.{After-liveness_lists}
 
 -- the answer of the checks, by the definition
 says : (c : After-liveness_lists) → c.liveness_lists.result
-    ≡ liveness_refusal c.args.components.now c.args.ports.now c.args.frontiers.now (length c.args.regions.now) (length c.args.sources.now)
+    ≡ liveness_refusal c.rules_of-rules.result c.args.components.now c.args.ports.now c.args.frontiers.now (length c.args.regions.now) (length c.args.sources.now)
     (length c.args.inputs.now) (length c.args.stack.now)
 says c =
     let a = c.args in
-    c.liveness_lists.ensures.lists.answer ∙ ap (λ (b : Bool). liveness_lists a.components.now a.ports.now a.frontiers.now b) c.room_for_rows-enough.ensures
+    c.liveness_lists.ensures.lists.answer ∙ ap (λ (b : Bool). liveness_lists c.rules_of-rules.result a.components.now a.ports.now a.frontiers.now b) c.room_for_rows-enough.ensures
 
 -- ---- where they accept
 module _ (c : After-liveness_lists) (was : c.liveness_lists.result ≡ Ok tt) where
-  accepted : liveness_refusal c.args.components.now c.args.ports.now c.args.frontiers.now (length c.args.regions.now)
+  accepted : liveness_refusal c.rules_of-rules.result c.args.components.now c.args.ports.now c.args.frontiers.now (length c.args.regions.now)
       (length c.args.sources.now) (length c.args.inputs.now) (length c.args.stack.now)
       ≡ Ok tt
   accepted = sym (says c) ∙ was
@@ -36,8 +38,8 @@ module _ (c : After-liveness_lists) (was : c.liveness_lists.result ≡ Ok tt) wh
   abbrev rooms : Bool
   rooms = liveness_room c.args.components.now (length c.args.regions.now) (length c.args.sources.now) (length c.args.inputs.now) (length c.args.stack.now)
 
-  live : LivenessScene c.args.components.now c.args.ports.now c.args.frontiers.now rooms
-  live = liveness_accept _ _ _ _ accepted
+  live : LivenessScene c.rules_of-rules.result c.args.components.now c.args.ports.now c.args.frontiers.now rooms
+  live = liveness_accept _ _ _ _ _ accepted
 
   scene : Scene c.args.components.now c.args.ports.now
   scene = scene_of_lem live
@@ -77,7 +79,9 @@ pub returns : goal.returns
 returns c =
     let now = (goal.at.returns c).After-liveness_lists in
     let was = c.in_ok-liveness_lists.was in
-    analyzed_accepted (accepted now was) (scene now was) c.analyze.ensures
+    let known = c.rules_of-rules.ensures ∙ ap rules_of (to_z-of_z c.ranges.rules) in
+    let left = analyzed_accepted (accepted now was) (scene now was) c.analyze.ensures in
+    rw known at left
 
 pub slice_bounds-keys-end : goal.slice_bounds-keys-end
 slice_bounds-keys-end c = long (goal.at.slice_bounds-keys-end c).After-liveness_lists c.in_ok-liveness_lists.was

@@ -1,14 +1,16 @@
 -- `reach_table::slow_regions` meets its contract: the checks first, and where they accept the reach table, by the table of ids that they
 -- left. Assumes nothing.
 use Rattle.std.specs.Prelude.{Ok}
-use mathlib.Core.Path.{◌≡◌, sym, ◌∙◌}
+use mathlib.Core.Path.{◌≡◌, sym, ap, ◌∙◌}
 use mathlib.Core.Bool.{◌&&◌}
 use Prim.Native.Nat.{◌*◌, ◌/◌, ◌≤◌}
 use native.Mathlib.Omega.{arith}
 use lib.ListN.{length}
 use lib.Seq.{length-take-le}
 use borrow.Author.Tests.{leb-true}
+use mir.Facts.{to_z-of_z}
 use Rattle.lists.specs.Records.{component_count}
+use Rattle.lists.specs.Rules.{rules_of}
 use Rattle.lists.proofs.Search.{both}
 use Rattle.checks.specs.Refusals.{room_for}
 use Rattle.checks.proofs.Accepted.{LivenessScene, liveness_accept, room_places}
@@ -20,19 +22,19 @@ use Rattle.reach_table.proofs.slow_regions.Goals.{After-liveness_lists}
 
 -- the answer of the checks, by the definition
 says : (c : After-liveness_lists) → c.liveness_lists.result
-    ≡ table_refusal c.args.components.now c.args.ports.now c.args.frontiers.now (length c.args.square.now) (length c.args.regions.now) (length c.args.stack.now)
+    ≡ table_refusal c.rules_of-rules.result c.args.components.now c.args.ports.now c.args.frontiers.now (length c.args.square.now) (length c.args.regions.now) (length c.args.stack.now)
 says c =
     rw (c.room_for_square.ensures, c.room_for.ensures, c.room_for-2.ensures) at c.liveness_lists.ensures.lists.answer
 
 -- ---- where they accept
 module _ (c : After-liveness_lists) (was : c.liveness_lists.result ≡ Ok tt) where
-  accepted : table_refusal c.args.components.now c.args.ports.now c.args.frontiers.now (length c.args.square.now) (length c.args.regions.now)
+  accepted : table_refusal c.rules_of-rules.result c.args.components.now c.args.ports.now c.args.frontiers.now (length c.args.square.now) (length c.args.regions.now)
       (length c.args.stack.now) ≡ Ok tt
   accepted = sym (says c) ∙ was
 
-  live : LivenessScene c.args.components.now c.args.ports.now c.args.frontiers.now
+  live : LivenessScene c.rules_of-rules.result c.args.components.now c.args.ports.now c.args.frontiers.now
       (table_room c.args.components.now (length c.args.square.now) (length c.args.regions.now) (length c.args.stack.now))
-  live = liveness_accept _ _ _ _ accepted
+  live = liveness_accept _ _ _ _ _ accepted
 
   -- room in the slices that are lent
   rooms : (component_count c.args.components.now * component_count c.args.components.now ≤ length c.args.square.now)
@@ -94,5 +96,7 @@ pub returns : goal.returns
 returns c =
     let was = c.in_ok-liveness_lists.was in
     let s = (goal.at.returns c).After-liveness_lists in
-    tabled_accepted c.args.square.now c.args.regions.now c.args.stack.now (accepted s was) (scene_of_lem (live s was)) c.table_plot.auto.stack
-    c.table_plot.ensures
+    let known = c.rules_of-rules.ensures ∙ ap rules_of (to_z-of_z c.ranges.rules) in
+    let left = tabled_accepted c.args.square.now c.args.regions.now c.args.stack.now (accepted s was) (scene_of_lem (live s was)) c.table_plot.auto.stack
+    c.table_plot.ensures in
+    rw known at left

@@ -15,8 +15,8 @@ use Rattle.trail.proofs.check_trail.Goals.{After-liveness_lists}
 
 -- ---- where the checks accept
 module _ (c : After-liveness_lists) (was : c.liveness_lists.result ≡ Ok tt) where
-  live : LivenessScene c.args.components.now c.args.ports.now c.args.frontiers.now true
-  live = liveness_accept _ _ _ _ (sym c.liveness_lists.ensures.lists.answer ∙ was)
+  live : LivenessScene c.rules_of-rules.result c.args.components.now c.args.ports.now c.args.frontiers.now true
+  live = liveness_accept _ _ _ _ _ (sym c.liveness_lists.ensures.lists.answer ∙ was)
 
   -- the table of ids at the front of the keys
   long : component_count c.args.components.now ≤ length c.liveness_lists.new.keys

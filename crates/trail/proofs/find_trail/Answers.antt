@@ -17,19 +17,19 @@ use Rattle.trail.proofs.find_trail.Goals.{After-liveness_lists}
 
 -- the answer of the checks, by the definition
 says : (c : After-liveness_lists)
-    → c.liveness_lists.result ≡ finder_lists c.args.components.now c.args.ports.now c.args.frontiers.now (length c.args.trail.now)
+    → c.liveness_lists.result ≡ finder_lists c.rules_of-rules.result c.args.components.now c.args.ports.now c.args.frontiers.now (length c.args.trail.now)
 says c =
     c.liveness_lists.ensures.lists.answer
-    ∙ ap (liveness_lists c.args.components.now c.args.ports.now c.args.frontiers.now) c.room_for-enough.ensures
+    ∙ ap (liveness_lists c.rules_of-rules.result c.args.components.now c.args.ports.now c.args.frontiers.now) c.room_for-enough.ensures
 
 -- ---- where they accept
 module _ (c : After-liveness_lists) (was : c.liveness_lists.result ≡ Ok tt) where
-  accepted : finder_lists c.args.components.now c.args.ports.now c.args.frontiers.now (length c.args.trail.now) ≡ Ok tt
+  accepted : finder_lists c.rules_of-rules.result c.args.components.now c.args.ports.now c.args.frontiers.now (length c.args.trail.now) ≡ Ok tt
   accepted = sym (says c) ∙ was
 
-  live : LivenessScene c.args.components.now c.args.ports.now c.args.frontiers.now
+  live : LivenessScene c.rules_of-rules.result c.args.components.now c.args.ports.now c.args.frontiers.now
       (room_for (component_count c.args.components.now) 1 (length c.args.trail.now))
-  live = liveness_accept _ _ _ _ accepted
+  live = liveness_accept _ _ _ _ _ accepted
 
   room : component_count c.args.components.now ≤ length c.args.trail.now
   room = omega (arith, leb-true (component_count c.args.components.now) (length c.args.trail.now / 1) live.scene.lengths.room)

@@ -13,4 +13,4 @@ small_as {a} {b} e h = subst (λ (x : Result ⊤ Refusal). Small x) (sym e) h
 pub pack-requires : goal.pack-requires
 pack-requires c =
     let args = c.args in
-    small_as c.liveness_lists.ensures.lists.answer (liveness_small args.components.now args.ports.now args.frontiers.now false)
+    small_as c.liveness_lists.ensures.lists.answer (liveness_small args.rules args.components.now args.ports.now args.frontiers.now false)

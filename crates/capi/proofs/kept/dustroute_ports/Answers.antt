@@ -5,7 +5,9 @@ use mathlib.Core.Path.{◌≡◌, sym, ap, ◌∙◌}
 use mathlib.Core.List.{[]}
 use Prim.Native.Nat.{ℕ, ◌*◌, ◌≤◌}
 use native.Mathlib.Omega.{arith}
+use mir.Facts.{to_z-of_z}
 use lib.ListN.{length}
+use Rattle.lists.specs.Rules.{rules_of}
 use Rattle.lists.specs.Limits.{connection_limit}
 use Rattle.checks.specs.Refusals.{ports_refusal}
 use Rattle.lists.specs.declared.Refusal.{Refusal}
@@ -19,15 +21,15 @@ use Rattle.capi.proofs.kept.dustroute_ports.Goals as goal
 use Rattle.capi.proofs.kept.dustroute_ports.Goals.{After-port_connections}
 
 abbrev refusal : After-port_connections → Result ⊤ Refusal
-refusal c = ports_refusal c.args.components.now c.args.connections.now (length c.args.ports.now)
+refusal c = ports_refusal (rules_of c.args.rules) c.args.components.now c.args.connections.now (length c.args.ports.now)
 
 -- what an answer says of the checks
 when-kept : (c : After-port_connections) (m : ℕ) → c.port_connections.result ≡ Ok m
-    → (refusal c ≡ Ok tt) × (m ≡ kept_count c.args.components.now c.args.connections.now)
-when-kept c m e = kept_accepted (refusal c) _ m (ap answer_of (sym e) ∙ c.port_connections.ensures.answer)
+    → (refusal c ≡ Ok tt) × (m ≡ kept_count (rules_of c.args.rules) c.args.components.now c.args.connections.now)
+when-kept c m e = kept_accepted (refusal c) _ m (ap answer_of (sym e) ∙ (rw (to_z-of_z c.ranges.rules) at c.port_connections.ensures).answer)
 
 when-refused : (c : After-port_connections) (x : Refusal) → c.port_connections.result ≡ Err x → RefusedAs (refusal c) x
-when-refused c x e = refused_as (refusal c) _ x (ap answer_of (sym e) ∙ c.port_connections.ensures.answer)
+when-refused c x e = refused_as (refusal c) _ x (ap answer_of (sym e) ∙ (rw (to_z-of_z c.ranges.rules) at c.port_connections.ensures).answer)
 
 -- few enough rows
 few : (c : After-port_connections) (m : ℕ) → c.port_connections.result ≡ Ok m → m ≤ connection_limit
@@ -35,21 +37,21 @@ few c m e =
     let w = when-kept c m e in
     let cs = c.args.components.now in
     let ps = c.args.connections.now in
-    omega (arith, w.1, kept_few cs ps, (grouping_accept cs ps [] _ w.0).connections.few)
+    omega (arith, w.1, kept_few (rules_of c.args.rules) cs ps, (grouping_accept (rules_of c.args.rules) cs ps [] _ w.0).connections.few)
 
 pub overflow_mul-result : goal.overflow_mul-result
 overflow_mul-result c = omega (arith, few (goal.at.overflow_mul-result c).After-port_connections _ c.in-Ok.is)
 
 pub pack_refusal-requires : goal.pack_refusal-requires
 pack_refusal-requires c =
-    (when-refused (goal.at.pack_refusal-requires c).After-port_connections _ c.in-Err.is).small (grouping_small c.args.components.now c.args.connections.now [] _)
+    (when-refused (goal.at.pack_refusal-requires c).After-port_connections _ c.in-Err.is).small (grouping_small (rules_of c.args.rules) c.args.components.now c.args.connections.now [] _)
 
 pub returns-in-Ok : goal.returns-in-Ok
 returns-in-Ok c =
     let (ok, count) = when-kept (goal.at.returns-in-Ok c).After-port_connections _ c.in-Ok.is in
-    by_lists _ _ _ (rw ok (ap (λ (n : ℕ). 65536 * n) count)) c.port_connections.ensures.left
+    by_lists _ _ _ _ (rw ok (ap (λ (n : ℕ). 65536 * n) count)) (rw (to_z-of_z c.ranges.rules) at c.port_connections.ensures).left
 
 pub returns-in-Err : goal.returns-in-Err
 returns-in-Err c =
     let refused = when-refused (goal.at.returns-in-Err c).After-port_connections _ c.in-Err.is in
-    by_lists _ _ _ (c.pack_refusal.ensures ∙ refused.packs _) c.port_connections.ensures.left
+    by_lists _ _ _ _ (c.pack_refusal.ensures ∙ refused.packs _) (rw (to_z-of_z c.ranges.rules) at c.port_connections.ensures).left

@@ -3,6 +3,8 @@ use Rattle.std.specs.Prelude.{⊤, Result, Ok, Err}
 use Rattle.lists.specs.declared.Refusal.{Refusal}
 use mathlib.Core.Path.{refl, sym, subst}
 use native.Mathlib.Omega.{arith}
+use mir.Facts.{to_z-of_z}
+use Rattle.lists.specs.Rules.{rules_of}
 use Rattle.checks.specs.Refusals.{Small}
 use Rattle.capi.proofs.WaySmall.{finder_small, count_few}
 use Rattle.capi.proofs.the_way.dustroute_trail.Goals as goal
@@ -10,8 +12,8 @@ use Rattle.capi.proofs.the_way.dustroute_trail.Goals as goal
 pub pack_refusal-requires : goal.pack_refusal-requires
 pack_refusal-requires c =
     let a = c.args in
-    let refused = rw c.in-Err.is at c.find_trail.ensures.by.answer in
-    subst (λ (x : Result ⊤ Refusal). Small x) (sym refused) (finder_small a.components.now a.ports.now a.frontiers.now a.id a.port _)
+    let refused = (rw (to_z-of_z c.ranges.rules, c.in-Err.is) at c.find_trail.ensures).by.answer in
+    subst (λ (x : Result ⊤ Refusal). Small x) (sym refused) (finder_small (rules_of a.rules) a.components.now a.ports.now a.frontiers.now a.id a.port _)
 
 pub overflow_mul-result : goal.overflow_mul-result
 overflow_mul-result c =
@@ -19,7 +21,7 @@ overflow_mul-result c =
     omega (arith, few)
 
 pub returns-in-Err : goal.returns-in-Err
-returns-in-Err c = record { found = Err c.in-Err.refusal; finding = rw c.in-Err.is at c.find_trail.ensures; answer = c.pack_refusal.ensures }
+returns-in-Err c = record { found = Err c.in-Err.refusal; finding = rw (to_z-of_z c.ranges.rules, c.in-Err.is) at c.find_trail.ensures; answer = c.pack_refusal.ensures }
 
 pub returns-in-Ok : goal.returns-in-Ok
-returns-in-Ok c = record { found = Ok c.in-Ok.count; finding = rw c.in-Ok.is at c.find_trail.ensures; answer = refl }
+returns-in-Ok c = record { found = Ok c.in-Ok.count; finding = rw (to_z-of_z c.ranges.rules, c.in-Ok.is) at c.find_trail.ensures; answer = refl }

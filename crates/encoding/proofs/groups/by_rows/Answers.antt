@@ -20,10 +20,10 @@ use Rattle.encoding.proofs.Answers.{refused_by, Counted, counted, Room, accepted
 use Rattle.encoding.proofs.groups.by_rows.Goals as goal
 
 -- the lists, the rows before and after, and what was found
-module _ {cs ps : List ℤ} {nets nets' fragments fragments' : List ℕ} {r : Result Counts Refusal} (g : Grouped cs ps nets nets' fragments fragments' r) where
+module _ {rules : ℕ} {cs ps : List ℤ} {nets nets' fragments fragments' : List ℕ} {r : Result Counts Refusal} (g : Grouped rules cs ps nets nets' fragments fragments' r) where
   -- the checks of the lists, and how many components there are
   abbrev checked : Result ⊤ Refusal
-  checked = grouping_refusal cs ps (length nets) (length fragments)
+  checked = grouping_refusal rules cs ps (length nets) (length fragments)
 
   abbrev count : ℕ
   count = component_count cs
@@ -38,7 +38,7 @@ module _ {cs ps : List ℤ} {nets nets' fragments fragments' : List ℕ} {r : Re
     accepted = counted checked _ _ _ (sym is ∙ g.answer)
 
     room : Room cs (length nets) (length fragments)
-    room = accepted_room _ _ _ _ accepted.accepted
+    room = accepted_room _ _ _ _ _ accepted.accepted
 
     net_rows : length nets' ≡ length nets → (count ≤ length nets') × (length (take count nets') ≡ count)
     net_rows same =
@@ -58,24 +58,24 @@ module _ {cs ps : List ℤ} {nets nets' fragments fragments' : List ℕ} {r : Re
 
 pub pack_refusal-requires : goal.pack_refusal-requires
 pack_refusal-requires c =
-    let small : Small (checked c.from_parts.ensures) = grouping_small _ _ _ _ in
-    rw (refused c.from_parts.ensures c.in-Err.is) at small
+    let small : Small (checked c.from_lists.ensures) = grouping_small _ _ _ _ _ in
+    rw (refused c.from_lists.ensures c.in-Err.is) at small
 
 pub slice_bounds-encode-end : goal.slice_bounds-encode-end
-slice_bounds-encode-end c = (net_rows c.from_parts.ensures c.in-Ok.is c.from_parts.auto.nets).0
+slice_bounds-encode-end c = (net_rows c.from_lists.ensures c.in-Ok.is c.from_lists.auto.nets).0
 
 pub slice_bounds-encode-end-in-Ok : goal.slice_bounds-encode-end-in-Ok
-slice_bounds-encode-end-in-Ok c = sym (net_rows c.from_parts.ensures c.in-Ok.is c.from_parts.auto.nets).1
+slice_bounds-encode-end-in-Ok c = sym (net_rows c.from_lists.ensures c.in-Ok.is c.from_lists.auto.nets).1
 
 pub slice_bounds-encode-end-in-Ok-2 : goal.slice_bounds-encode-end-in-Ok-2
-slice_bounds-encode-end-in-Ok-2 c = (fragment_rows c.from_parts.ensures c.in-Ok.is c.from_parts.auto.fragments).0
+slice_bounds-encode-end-in-Ok-2 c = (fragment_rows c.from_lists.ensures c.in-Ok.is c.from_lists.auto.fragments).0
 
 pub slice_bounds-encode-end-in-Ok-3 : goal.slice_bounds-encode-end-in-Ok-3
-slice_bounds-encode-end-in-Ok-3 c = sym (fragment_rows c.from_parts.ensures c.in-Ok.is c.from_parts.auto.fragments).1
+slice_bounds-encode-end-in-Ok-3 c = sym (fragment_rows c.from_lists.ensures c.in-Ok.is c.from_lists.auto.fragments).1
 
 pub pack_counts-requires : goal.pack_counts-requires
 pack_counts-requires c =
-    let g = c.from_parts.ensures in
+    let g = c.from_lists.ensures in
     let cs = c.args.components.now in
     let ps = c.args.connections.now in
     let n = count g in (
@@ -85,6 +85,6 @@ pack_counts-requires c =
 
 pub returns-in-Ok : goal.returns-in-Ok
 returns-in-Ok c =
-    let g = c.from_parts.ensures in
+    let g = c.from_lists.ensures in
     accepted_laid _ _ _ _ _ _ _ _ _ _ _ (accepted g c.in-Ok.is) c.encode.ensures (nets_are g c.in-Ok.is)
     c.encode-in-Ok.ensures (fragments_are g c.in-Ok.is) c.pack_counts.ensures

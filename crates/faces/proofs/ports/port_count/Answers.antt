@@ -10,8 +10,8 @@ use Rattle.faces.proofs.ports.port_count.Goals as goal
 use Rattle.faces.proofs.ports.port_count.Goals.{After-ports_for-ports}
 
 -- the places have the ports of the definition
-all : (c : After-ports_for-ports) → length (ports_in c.ports_for-ports.result) ≡ length (ports_for c.args.kind c.args.facing c.args.support c.args.conducts)
-all c = ap length (ports_back c.ports_for-ports.result (ports_for c.args.kind c.args.facing c.args.support c.args.conducts) c.ports_for-ports.ensures)
+all : (c : After-ports_for-ports) → length (ports_in c.ports_for-ports.result) ≡ length (ports_for c.args.rules c.args.kind c.args.facing c.args.support c.args.conducts)
+all c = ap length (ports_back c.ports_for-ports.result (ports_for c.args.rules c.args.kind c.args.facing c.args.support c.args.conducts) c.ports_for-ports.ensures)
 
 pub returns-in_default : goal.returns-in_default
 returns-in_default c =

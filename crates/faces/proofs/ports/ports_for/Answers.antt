@@ -1,53 +1,15 @@
--- `faces::ports::ports_for` meets its contract: each arm's ports are those of its blocks.
+-- `faces::ports::ports_for` meets its contract: the blank ports where the component is unread, else those by its facing.
 -- Assumes nothing.
-use mathlib.Core.Path.{ap, refl, ◌∙◌}
-use Prim.Native.Nat.{ℕ}
-use native.Mathlib.Omega.{arith}
-use borrow.Author.Tests.{ne_eqb}
-use Rattle.faces.specs.Ports.{repeater_ports, torch_ports, piston_ports, ports_for}
-use Rattle.faces.specs.Rows.{places_of}
-use Rattle.faces.proofs.Runs.{no_kind}
-use Rattle.faces.proofs.Blocks.{repeater_block, lever_block, solid_block}
+use mathlib.Core.Path.{sym, ◌∙◌}
+use Rattle.faces.proofs.Unread.{blank_for, facing_for}
 use Rattle.faces.proofs.ports.ports_for.Goals as goal
 
-pub returns-in-RedstoneWire : goal.returns-in-RedstoneWire
-unfolding ports_for
-returns-in-RedstoneWire c = rw (← c.in-Ok.ensures, c.in-RedstoneWire.is) c.wire_ports.ensures
-
-pub returns-in-RedstoneTorch : goal.returns-in-RedstoneTorch
-unfolding ports_for
-returns-in-RedstoneTorch c =
-    rw (← c.in-Ok.ensures, c.in-RedstoneTorch.is) (c.torch_ports.ensures ∙ ap (λ (f : ℕ). places_of (torch_ports f)) c.unless-in-RedstoneTorch.ensures)
-
-pub returns-in-Piston : goal.returns-in-Piston
-unfolding ports_for
-returns-in-Piston c =
-    rw (← c.in-Ok.ensures, c.in-Piston.is) (c.piston_ports.ensures ∙ ap (λ (f : ℕ). places_of (piston_ports f)) c.unless-in-Piston.ensures)
-
-pub returns-in-Air : goal.returns-in-Air
-unfolding ports_for
-returns-in-Air c = rw (← c.in-Ok.ensures, c.in-Air.is) refl
-
-pub returns-in-Repeater : goal.returns-in-Repeater
-returns-in-Repeater c =
+pub returns-then-is_unread : goal.returns-then-is_unread
+returns-then-is_unread c =
     let a = c.args in
-    rw (← c.in-Ok.ensures, repeater_block a.facing a.support a.conducts c.in-Ok.block c.in-Repeater.is)
-    (c.repeater_ports.ensures ∙ ap (λ (f : ℕ). places_of (repeater_ports f)) c.unless.ensures)
+    rw (blank_for a.rules a.kind a.facing a.support a.conducts (sym c.is_unread.ensures ∙ c.if-is_unread.true)) c.blank_ports.ensures
 
-pub returns-in-Lever : goal.returns-in-Lever
-returns-in-Lever c =
+pub returns : goal.returns
+returns c =
     let a = c.args in
-    rw (← c.in-Ok.ensures, lever_block a.facing a.support a.conducts c.in-Ok.block c.in-Lever.is) c.lever_ports.ensures
-
-pub returns-then-conducts-eq1 : goal.returns-then-conducts-eq1
-returns-then-conducts-eq1 c =
-    let a = c.args in
-    rw (← c.in-Ok.ensures, solid_block a.facing a.support a.conducts c.in-Ok.block c.in-Solid.is, c.if-conducts-eq1.true) c.solid_ports.ensures
-
-pub returns-else-conducts-eq1 : goal.returns-else-conducts-eq1
-returns-else-conducts-eq1 c =
-    let a = c.args in
-    rw (← c.in-Ok.ensures, solid_block a.facing a.support a.conducts c.in-Ok.block c.in-Solid.is, ne_eqb _ 1 c.if-conducts-eq1.false) refl
-
-pub returns-in_default : goal.returns-in_default
-returns-in_default c = let a = c.args in rw (no_kind a.kind a.facing a.support a.conducts (omega (arith, c.in_default.ensures.1))) refl
+    rw (facing_for a.rules a.kind a.facing a.support a.conducts (sym c.is_unread.ensures ∙ c.if-is_unread.false)) c.ports_by_facing.ensures

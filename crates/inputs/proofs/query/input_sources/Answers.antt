@@ -53,15 +53,15 @@ walk_is : (s : Start) (m : ℕ) → m ≤ connection_limit → {fed backward : L
     → length fed ≡ length {A = ℕ} (take m (replicate connection_limit 0))
     → length backward ≡ length {A = ℕ} (take m (replicate connection_limit 0))
     → length flags ≡ length (take (nodes s) (replicate component_limit false))
-    → Walkable (cs s) s.args.plot.now.ports.now s.args.plot.now.frontiers.now fed backward flags
-    → Walkable (cs s) s.args.plot.now.ports.now s.args.plot.now.frontiers.now (take m (fed ++ keys_rest m)) (take m (backward ++ keys_rest m))
+    → Walkable s.args.plot.now.rules (cs s) s.args.plot.now.ports.now s.args.plot.now.frontiers.now fed backward flags
+    → Walkable s.args.plot.now.rules (cs s) s.args.plot.now.ports.now s.args.plot.now.frontiers.now (take m (fed ++ keys_rest m)) (take m (backward ++ keys_rest m))
     (take (nodes s) (flags ++ flags_rest s))
 walk_is s m few {fed} {backward} {flags} e f g w =
     walk_as (front _ fed (keys_rest m) (keys_long m few fed e)) (front _ backward (keys_rest m) (keys_long m few backward f))
     (front _ flags (flags_rest s) (flags_long s flags g)) w
 
 slot_at : (s : Start) {m : ℕ} {fed backward : List ℕ} {flags : List Bool} → m ≡ member_of (cs s) s.args.p
-    → Walkable (cs s) s.args.plot.now.ports.now s.args.plot.now.frontiers.now fed backward flags
+    → Walkable s.args.plot.now.rules (cs s) s.args.plot.now.ports.now s.args.plot.now.frontiers.now fed backward flags
     → SlotOf (cs s) s.args.plot.now.ports.now s.args.p s.args.port fed (slot m s.args.port)
 slot_at s e w =
     record {
@@ -79,7 +79,7 @@ row_sources-requires c =
     let m = member_is s (c.member_of.ensures (cs s) s.args.plot.now.accepted.table) (rw c.component_list.ensures at c.id.ensures.0) in
     let walk = walk_is s c.count-m.result c.count-m.ensures.1 w.auto.fed w.auto.backward w.auto.inferred w.ensures.0 in
     record {
-      by_index = (cs s, a.plot.now.ports.now, a.plot.now.frontiers.now, a.p, a.port, (walk, slot_at s m walk));
+      by_index = (a.plot.now.rules, cs s, a.plot.now.ports.now, a.plot.now.frontiers.now, a.p, a.port, (walk, slot_at s m walk));
       inferred_in_bounds = (
         omega (
           arith,
@@ -99,7 +99,7 @@ returns c =
     let w = c.walk_tables in
     let m = member_is s (c.member_of.ensures (cs s) s.args.plot.now.accepted.table) (rw c.component_list.ensures at c.id.ensures.0) in
     let walk = walk_is s c.count-m.result c.count-m.ensures.1 w.auto.fed w.auto.backward w.auto.inferred w.ensures.0 in
-    let sources = c.row_sources.ensures (cs s) a.plot.now.ports.now a.plot.now.frontiers.now a.p a.port walk (slot_at s m walk) in
+    let sources = c.row_sources.ensures a.plot.now.rules (cs s) a.plot.now.ports.now a.plot.now.frontiers.now a.p a.port walk (slot_at s m walk) in
     record {
       answer = refl;
       numbers = refl;

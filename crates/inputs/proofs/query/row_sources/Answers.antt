@@ -21,12 +21,12 @@ nodes s = length s.args.inferred.now
 
 -- the scene and its port
 abbrev walk : (s : Start)
-    → Walkable s.requires.by_index.0 s.requires.by_index.1 s.requires.by_index.2 s.args.fed.now s.args.backward.now s.args.inferred.now
-walk s = s.requires.by_index.5.0
+    → Walkable s.requires.by_index.0 s.requires.by_index.1 s.requires.by_index.2 s.requires.by_index.3 s.args.fed.now s.args.backward.now s.args.inferred.now
+walk s = s.requires.by_index.6.0
 
 abbrev asked : (s : Start)
-    → SlotOf s.requires.by_index.0 s.requires.by_index.1 s.requires.by_index.3 s.requires.by_index.4 s.args.fed.now s.args.slot
-asked s = s.requires.by_index.5.1
+    → SlotOf s.requires.by_index.1 s.requires.by_index.2 s.requires.by_index.4 s.requires.by_index.5 s.args.fed.now s.args.slot
+asked s = s.requires.by_index.6.1
 
 small : (s : Start) → nodes s ≤ component_limit
 small s = omega (arith, walk_nodes (walk s), (asked s).fed_scene.scene.components.few)
@@ -36,8 +36,8 @@ lent s = length-take-le _ _ (small s)
 
 -- nothing feeds the slot
 pub returns-then-is_empty : goal.returns-then-is_empty
-returns-then-is_empty c cs ps fs p port w q =
-    (none_fed w q c.slot_keys-keys.ensures (eqb-true _ 0 (sym c.is_empty.ensures ∙ c.if-is_empty.true)) (c.none.ensures cs ps fs port), c.requires.inferred_in_bounds.1)
+returns-then-is_empty c rules cs ps fs p port w q =
+    (none_fed w q c.slot_keys-keys.ensures (eqb-true _ 0 (sym c.is_empty.ensures ∙ c.if-is_empty.true)) (c.none.ensures rules cs ps fs port), c.requires.inferred_in_bounds.1)
 
 -- the flags of the nodes, lent from the front of an array
 abbrev rest : Start → List Bool
@@ -71,7 +71,7 @@ upstream_inputs-requires c =
     }
 
 pub returns : goal.returns
-returns c cs ps fs p port w q =
+returns c rules cs ps fs p port w q =
     let s = (goal.at.returns c).Start in
     let u = c.upstream_inputs in
     let given = rw (lent s) at c.immediate_flags.ensures c.args.fed.now c.args.slot c.slot_keys-keys.ensures in (

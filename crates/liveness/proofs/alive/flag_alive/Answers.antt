@@ -92,7 +92,7 @@ carry_marks-requires c =
     }
 
 pub returns : goal.returns
-returns c fs driven inferred =
+returns c rules fs driven inferred =
     let p = c.args.plot.now in
     let cs = p.plot.components.now in
     let ps = p.plot.ports.now in
@@ -113,7 +113,7 @@ returns c fs driven inferred =
           (by_labels r (carry keys (marked c.copy_from_slice.new.self)) carried.ensures.0) marks;
       potential_is = potential_is cs ps (few r) r.scene.ends pairs fs (carried.auto.out_b ∙ room.potential_room)
           (by_labels r (carry keys (marked possible.new.possible)) carried.ensures.1)
-          (regions_front r) driven inferred joined;
+          rules (regions_front r) driven inferred joined;
     }
 
 pub slice_bounds-possible_regions-end : goal.slice_bounds-possible_regions-end

@@ -112,6 +112,6 @@ returns c ps backward region_of r =
     let s = (goal.at.returns c).Start in
     let p = r.prepared in
     let all = labels_long r.scene p in
-    fed_is r.scene p.tables.source_members p.tables.sink_members p.tables.forward_keys p.labels_are p.members_are (rest s)
+    fed_is r.scene p.tables.source_members p.tables.sink_members p.tables.forward_keys p.labels_are p.members_are c.args.rules (rest s)
     c.passive_flags.ensures
     (long s c.gather.new.out c.gather.auto.out ∙ all) (gathered_same all (gathered_front c.args.members.now (omega (arith, all, p.members_are.long)) c.gather.ensures)) c.requires.fed_len c.flag_outside.ensures

@@ -38,5 +38,5 @@ returns c ps fs r driven =
       long = c.infer.ensures.long;
       at = λ q h.
           c.infer.ensures.at q h
-          ∙ inferred_is r.scene r.prepared fs driven (c.outside_regions.ensures ps a.backward.keys.now a.region_at.now r) q h;
+          ∙ inferred_is r.scene r.prepared a.rules fs driven (c.outside_regions.ensures ps a.backward.keys.now a.region_at.now r) q h;
     }

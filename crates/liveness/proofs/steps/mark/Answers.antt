@@ -5,7 +5,7 @@ use Rattle.liveness.proofs.steps.mark.Goals as goal
 pub returns : goal.returns
 returns c =
     let e = c.flag_inputs.ensures in
-    let a = c.flag_alive.ensures c.args.plot.now.plot.frontiers.now e.region_flags e.inferred_flags in
+    let a = c.flag_alive.ensures c.args.plot.now.plot.rules c.args.plot.now.plot.frontiers.now e.region_flags e.inferred_flags in
     record {
       frontier_flags = e.frontier_flags;
       inferred_flags = e.inferred_flags;

@@ -33,6 +33,9 @@ use Rattle.liveness.proofs.steps.report.Goals as goal
 use Rattle.liveness.proofs.steps.report.Goals.{Start}
 
 -- ---- the prepared scene
+abbrev rules : Start → ℕ
+rules s = s.args.plot.now.plot.rules
+
 abbrev cs : Start → List ℤ
 cs s = s.args.plot.now.plot.components.now
 
@@ -111,7 +114,7 @@ put_sources-requires c =
     let s = (goal.at.put_sources-requires c).Start in
     let e = c.mark.ensures in rw c.component_list-listed.ensures record {
       components_in_bounds = (e.frontier_flags.long, e.inferred_flags.long);
-      inferred_alone = (inferred_alone (cs s) (ps s) (fs s) e.frontier_flags e.inferred_flags, c.requires.rows_room.sources_room);
+      inferred_alone = (inferred_alone (rules s) (cs s) (ps s) (fs s) e.frontier_flags e.inferred_flags, c.requires.rows_room.sources_room);
     }
 
 pub write_verdicts-requires : goal.write_verdicts-requires
@@ -150,15 +153,15 @@ returns c =
     (λ q h. get_or-take (nodes s) c.args.plot.now.region_at.now q 0 (omega (arith, regions_lent s))
     ∙ p.regions_are.at q (omega (arith, regions_lent s, all s)))
     ∙ ap (tabulate (region_of_place (cs s) (ps s))) (regions_lent s ∙ all s) in
-    let source-rows : sources_below (cs s) c.mark.new.on_frontier c.mark.new.inferred n ≡ source_rows_below (cs s) (ps s) (fs s) n =
-    sources_are (cs s) (ps s) (fs s) e.frontier_flags e.inferred_flags n (omega arith) in
+    let source-rows : sources_below (cs s) c.mark.new.on_frontier c.mark.new.inferred n ≡ source_rows_below (rules s) (cs s) (ps s) (fs s) n =
+    sources_are (rules s) (cs s) (ps s) (fs s) e.frontier_flags e.inferred_flags n (omega arith) in
     let live : take (nodes s) (c.mark.new.drive ++ rest s) ≡ drive (cs s) (ps s) (fs s) = marks_front s c.mark.new.drive
     c.mark.auto.drive ∙ e.drive_is in
-    let may : take (nodes s) (c.mark.new.potential ++ rest s) ≡ potential (cs s) (ps s) (fs s) = marks_front s c.mark.new.potential
+    let may : take (nodes s) (c.mark.new.potential ++ rest s) ≡ potential (rules s) (cs s) (ps s) (fs s) = marks_front s c.mark.new.potential
     c.mark.auto.potential ∙ e.potential_is in
     let rows_put = rw c.component_list-listed.ensures at c.put_sources.ensures in
-    let verdict-rows = (rw (c.component_list-listed.ensures, c.port_list.ensures) at c.write_verdicts.ensures) (fs s) record { drive_is = live; potential_is = may } in
-    let analysis : AnalysisOf (cs s) (ps s) (fs s) c.answer.result = record {
+    let verdict-rows = (rw (c.component_list-listed.ensures, c.port_list.ensures) at c.write_verdicts.ensures) (rules s) (fs s) record { drive_is = live; potential_is = may } in
+    let analysis : AnalysisOf (rules s) (cs s) (ps s) (fs s) c.answer.result = record {
       region_count_lem = a.regions_is ∙ c.args.plot.now.counted;
       source_count = ap (λ (k : ℕ). k * 2) a.sources_is ∙ rows_put.count ∙ ap length source-rows;
       input_count = ap (λ (k : ℕ). k * 3) a.inputs_is ∙ verdict-rows.count;
@@ -172,7 +175,7 @@ returns c =
     } in
     record {
       answer = refl;
-      numbers = numbers_are (cs s) (ps s) (fs s) (Ok c.answer.result) refl analysis;
+      numbers = numbers_are (rules s) (cs s) (ps s) (fs s) (Ok c.answer.result) refl analysis;
       analysis = analysis;
       regions_left = c.put_regions.ensures ∙ ap (λ (l : List ℕ). laid l c.args.regions.now) region_rows_lem;
       sources_left = rows_put.is ∙ ap (λ (l : List ℕ). laid l c.args.sources.now) source-rows;

@@ -4,4 +4,4 @@ use Rattle.scene.proofs.Writes.{Laid}
 use Rattle.scene.proofs.connections.keep_all.Given as goal
 
 abbrev pub invariant-loop-k : goal.invariant-loop-k
-invariant-loop-k l = Laid l.components.numbers.now l.connections.numbers.now l.initial.out l.out l.count l.k
+invariant-loop-k l = Laid l.rules l.components.numbers.now l.connections.numbers.now l.initial.out l.out l.count l.k

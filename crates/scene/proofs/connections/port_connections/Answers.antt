@@ -1,7 +1,8 @@
 -- `scene::connections::port_connections` meets its contract: the checks decide, and leave the table of ids for the work.
 -- Assumes nothing.
 use Rattle.std.specs.Prelude.{Ok}
-use mathlib.Core.Path.{◌≡◌, sym, ◌∙◌}
+use mathlib.Core.Path.{◌≡◌, sym, ap, ◌∙◌}
+use mir.Facts.{to_z-of_z}
 use mathlib.Core.List.{[]}
 use Prim.Native.Nat.{◌/◌, ◌≤◌}
 use native.Mathlib.Omega.{arith}
@@ -10,14 +11,23 @@ use lib.Seq.{length-take-le}
 use borrow.Author.Tests.{leb-true}
 use Rattle.lists.specs.Limits.{kept_width}
 use Rattle.lists.specs.Records.{component_count, connection_count}
+use Rattle.lists.specs.Rules.{rules_of}
+use Rattle.checks.specs.Refusals.{grouping_lists}
 use Rattle.checks.proofs.Accepted.{GroupingScene, grouping_accept}
 use Rattle.scene.proofs.connections.port_connections.Goals as goal
 use Rattle.scene.proofs.connections.port_connections.Goals.{After-grouping_lists}
 
+-- the answer of the checks, of the rules number without its sign
+answer : (c : After-grouping_lists) → c.grouping_lists.result
+    ≡ grouping_lists (rules_of c.args.rules) c.args.components.now c.args.connections.now [] c.room_for-enough.result
+answer c =
+    let known = c.rules_of-rules.ensures ∙ ap rules_of (to_z-of_z c.ranges.rules) in
+    c.grouping_lists.ensures.answer ∙ rw known
+
 -- a scene that the checks accept
 accepted : (c : After-grouping_lists) → c.grouping_lists.result ≡ Ok tt
-    → GroupingScene c.args.components.now c.args.connections.now [] c.room_for-enough.result
-accepted c e = grouping_accept _ _ _ _ (sym c.grouping_lists.ensures.answer ∙ e)
+    → GroupingScene (rules_of c.args.rules) c.args.components.now c.args.connections.now [] c.room_for-enough.result
+accepted c e = grouping_accept _ _ _ _ _ (sym (answer c) ∙ e)
 
 -- has room in the keys for its table of ids
 few : (c : After-grouping_lists) → c.grouping_lists.result ≡ Ok tt → component_count c.args.components.now ≤ length c.grouping_lists.new.keys

@@ -6,4 +6,4 @@ use Rattle.signals.specs.Flags.{Flags}
 use Rattle.signals.proofs.inferred.passive_flags.Given as goal
 
 abbrev pub invariant-loop-p : goal.invariant-loop-p
-invariant-loop-p l = Flags l.p (λ j. is_passive (component l.components.numbers.now j).kind) l.flags
+invariant-loop-p l = Flags l.p (λ j. is_passive l.rules (component l.components.numbers.now j).kind) l.flags

@@ -23,4 +23,4 @@ returns c =
     let found : c.row_place.result ≡ Some c.in_ok-ok_or.field-0 = grind arith in
     let e = sym (looked (goal.at.returns c).After-row_place) ∙ found in
     let row = row_found c.args.plot.now.components.now c.args.id c.args.port e in
-    finding_found c.args.id e (c.trail_port.ensures c.in_ok-ok_or.field-0 row.below row.id_is)
+    finding_found c.args.plot.now.rules c.args.id e (c.trail_port.ensures c.in_ok-ok_or.field-0 row.below row.id_is)

@@ -25,7 +25,7 @@ returns-in_err-count c p low is =
     let l = c.args.plot.now in
     let none : c.member_way.result ≡ None = c.in_err-count.ensures.ok_part in
     let back : c.from_residual.result ≡ Err c.in_err-count.field-0.0 = search rules in
-    finding_none l.frontiers.now l.accepted.scene l.accepted.table p c.args.port is c.member_way.new.way
+    finding_none l.rules l.frontiers.now l.accepted.scene l.accepted.table p c.args.port is c.member_way.new.way
     (subst (λ (f : Option ℕ). FoundWay l.components.now l.ports.now l.frontiers.now p c.args.port c.member_way.new.way f) none (c.member_way.ensures p is))
     (back ∙ c.in_err-count.ensures.value ∙ ap (λ (f : Option ℕ). ok_or f not_driven) none)
 
@@ -46,4 +46,4 @@ returns c p low is =
     let some : c.member_way.result ≡ Some c.in_ok-count.count = grind arith in
     let way = found (goal.at.returns c).After-member_way some p is in
     let few : c.in_ok-count.count ≤ length c.member_way.new.way = omega (arith, way.0, c.member_way.auto.way, l.accepted.scene.components.few) in
-    finding_some l.frontiers.now l.accepted.scene l.accepted.table p c.args.port is c.member_way.new.way way few c.write_ids.ensures
+    finding_some l.rules l.frontiers.now l.accepted.scene l.accepted.table p c.args.port is c.member_way.new.way way few c.write_ids.ensures

@@ -24,10 +24,10 @@ cs s = s.args.self.now.components.now
 
 -- a scene that the tables are of
 abbrev ReadyScene : Start → Type 0
-ReadyScene s = let a = s.args.self.now in (ps fs : List ℤ) × Ready (cs s) ps fs a.fed.now a.labels.now a.upstream.now
+ReadyScene s = let a = s.args.self.now in (rules : ℕ) × (ps fs : List ℤ) × Ready rules (cs s) ps fs a.fed.now a.labels.now a.upstream.now
 
 within : (s : Start) → ReadyScene s → Components (cs s)
-within s r = r.2.fed_scene.scene.components
+within s r = r.3.fed_scene.scene.components
 
 pub member_of-requires : goal.member_of-requires
 member_of-requires c =
@@ -46,13 +46,13 @@ slot_sources-requires c =
     let a = c.args.self.now in
     let row = row_found (cs s) c.args.id c.args.port (sym (rw c.component_list.ensures at c.row_place.ensures) ∙ c.in-Some.is) in
     ∥∥₁_elim a.ready (hlevel props) (λ (r : ReadyScene s).
-    let q = slot_asked (row_slot r.2.fed_scene row (c.member_of.ensures (cs s) a.table)) (length a.labels.now) (ready_nodes r.2) in record {
+    let q = slot_asked (row_slot r.3.fed_scene row (c.member_of.ensures (cs s) a.table)) (length a.labels.now) (ready_nodes r.3) in record {
       ascending = (q.0.0, (q.0.1, q.1.0));
-      indices = (ready_labels r.2, omega (arith, ready_nodes r.2, (within s r).few));
+      indices = (ready_labels r.3, omega (arith, ready_nodes r.3, (within s r).few));
     })
 
 pub returns-in-Some : goal.returns-in-Some
-returns-in-Some c ps fs r =
+returns-in-Some c rules ps fs r =
     let a = c.args.self.now in
     let found = sym (rw c.component_list.ensures at c.row_place.ensures) ∙ c.in-Some.is in
     sets_at c.args.id found
@@ -60,9 +60,9 @@ returns-in-Some c ps fs r =
     c.slot_sources.ensures)
 
 pub returns-in-None : goal.returns-in-None
-returns-in-None c ps fs r =
+returns-in-None c rules ps fs r =
     sets_at c.args.id (sym (rw c.component_list.ensures at c.row_place.ensures) ∙ c.in-None.is)
-    (c.none.ensures c.args.self.now.components.now ps fs c.args.port)
+    (c.none.ensures rules c.args.self.now.components.now ps fs c.args.port)
 
 pub overflow_mul-member_of : goal.overflow_mul-member_of
 overflow_mul-member_of c =

@@ -11,7 +11,7 @@ use Rattle.scene.proofs.connections.Scene.keep.Goals as goal
 
 pub row-requires : goal.row-requires
 row-requires c =
-    let ends = linked c.args.self.now.components.numbers.now (connection c.args.self.now.connections.numbers.now c.args.k) _ _
+    let ends = linked c.args.self.now.rules c.args.self.now.components.numbers.now (connection c.args.self.now.connections.numbers.now c.args.k) _ _
     (sym c.link_of.ensures.ports ∙ ap ports_by c.in-Some.is) in record {
       k_bound = c.requires.k_bound;
       port_bounds = (ends.source_port_of, ends.sink_port_of);

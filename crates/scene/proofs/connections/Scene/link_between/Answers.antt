@@ -18,18 +18,18 @@ use Rattle.scene.proofs.connections.Scene.link_between.Goals.{In_ok-face}
 between : (c : In_ok-face) (facing : ℕ) → facing ≡ opposite (face_code c.in_ok-face.face)
     → let source = component c.args.self.now.components.numbers.now c.args.a in
     let sink = component c.args.self.now.components.numbers.now c.args.b in
-    ports_between source sink c.args.kind
-    ≡ both_ports (select_port (ports_of source) (face_code c.in_ok-face.face) true c.args.kind) (select_port (ports_of sink) facing false c.args.kind)
+    ports_between c.args.self.now.rules source sink c.args.kind
+    ≡ both_ports (select_port (ports_of c.args.self.now.rules source) (face_code c.in_ok-face.face) true c.args.kind) (select_port (ports_of c.args.self.now.rules sink) facing false c.args.kind)
 between c facing d =
     let face = c.in_ok-face.face in
-    between_some (component c.args.self.now.components.numbers.now c.args.a) (component c.args.self.now.components.numbers.now c.args.b) c.args.kind (face_code face) facing
+    between_some c.args.self.now.rules (component c.args.self.now.components.numbers.now c.args.a) (component c.args.self.now.components.numbers.now c.args.b) c.args.kind (face_code face) facing
     (sym (ap face_number c.in_ok-face.was) ∙ c.step-step.ensures.face) (λ n. omega (arith, (code_range face).0)) d
 
 pub returns-in_err-face-clause-ports : goal.returns-in_err-face-clause-ports
 returns-in_err-face-clause-ports c =
     let source = component c.args.self.now.components.numbers.now c.args.a in
     let sink = component c.args.self.now.components.numbers.now c.args.b in
-    rw (c.from_residual.ensures, between_none source sink c.args.kind (sym c.step-step.ensures.face ∙ ap face_number c.in_err-face.was))
+    rw (c.from_residual.ensures, between_none c.args.self.now.rules source sink c.args.kind (sym c.step-step.ensures.face ∙ ap face_number c.in_err-face.was))
 
 pub returns-in_err-source_port-clause-ports : goal.returns-in_err-source_port-clause-ports
 returns-in_err-source_port-clause-ports c =

@@ -11,6 +11,7 @@ use Rattle.scene.proofs.connections.Scene.port_at.Goals as goal
 
 pub returns : goal.returns
 returns c =
-    let ports = ports_of (component c.args.self.now.components.numbers.now c.args.k) in
-    let e : ports_in c.ports_for-ports.result ≡ ports = ports_back c.ports_for-ports.result ports (cc) in
+    let ports = ports_of c.args.self.now.rules (component c.args.self.now.components.numbers.now c.args.k) in
+    let e : ports_in c.ports_for-ports.result ≡ ports = ports_back c.ports_for-ports.result ports
+    (rw (c.kind.ensures, c.facing.ensures, c.support.ensures, c.conducts.ensures) at c.ports_for-ports.ensures) in
     rw c.from.ensures at c.select_port.ensures ∙ ap (λ (l : List Port). select_port l (face_code c.args.face) c.args.outgoing c.args.kind) e

@@ -1,4 +1,4 @@
--- `circuit::from_parts` meets its contract: the checks first, and where they accept the groups, by the places of ids that they left.
+-- `circuit::from_lists` meets its contract: the checks first, and where they accept the groups, by the places of ids that they left.
 -- Assumes nothing.
 use Rattle.std.specs.Prelude.{Result, Ok, Err}
 use Rattle.std.proofs.Common.{rules}
@@ -15,8 +15,8 @@ use Rattle.checks.specs.Refusals.{room_for, room_for_groups, grouping_refusal}
 use Rattle.lists.proofs.Search.{both}
 use Rattle.checks.proofs.Accepted.{GroupingScene, grouping_accept, room_places}
 use Rattle.circuit.specs.declared.Counts.{Counts}
-use Rattle.circuit.proofs.from_parts.Goals as goal
-use Rattle.circuit.proofs.from_parts.Goals.{After-grouping_lists}
+use Rattle.circuit.proofs.from_lists.Goals as goal
+use Rattle.circuit.proofs.from_lists.Goals.{After-grouping_lists}
 
 same_counts : {r : Counts} {nets fragments : ℕ} → r.nets ≡ nets → r.fragments ≡ fragments → ◌≡◌ {A = Result Counts Refusal} (Ok r) (Ok (record { nets = nets; fragments = fragments }))
 same_counts {r} e f = rw (← e, ← f)
@@ -25,7 +25,7 @@ same_counts {r} e f = rw (← e, ← f)
 answer : (c : After-grouping_lists)
     →
     c.grouping_lists.result
-    ≡ grouping_refusal c.args.components.now c.args.connections.now (length c.args.nets.now) (length c.args.fragments.now)
+    ≡ grouping_refusal c.args.rules c.args.components.now c.args.connections.now (length c.args.nets.now) (length c.args.fragments.now)
 answer c =
     c.grouping_lists.ensures.answer
     ∙ rw c.room_for_groups-enough.ensures
@@ -36,12 +36,12 @@ enough c =
 
 -- an accepted scene
 accepted : (c : After-grouping_lists) → c.grouping_lists.result ≡ Ok tt
-    → grouping_refusal c.args.components.now c.args.connections.now (length c.args.nets.now) (length c.args.fragments.now) ≡ Ok tt
+    → grouping_refusal c.args.rules c.args.components.now c.args.connections.now (length c.args.nets.now) (length c.args.fragments.now) ≡ Ok tt
 accepted c e = sym (answer c) ∙ e
 
 scene : (c : After-grouping_lists) → c.grouping_lists.result ≡ Ok tt
-    → GroupingScene c.args.components.now c.args.connections.now [] (enough c)
-scene c e = grouping_accept _ _ _ _ (accepted c e)
+    → GroupingScene c.args.rules c.args.components.now c.args.connections.now [] (enough c)
+scene c e = grouping_accept _ _ _ _ _ (accepted c e)
 
 room : (c : After-grouping_lists) → c.grouping_lists.result ≡ Ok tt
     → (component_count c.args.components.now ≤ length c.args.nets.now)
