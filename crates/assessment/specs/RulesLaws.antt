@@ -3,10 +3,12 @@
 --     NoLamp, SameUnder, RulesAgree          without a lamp nothing depends on the number
 --     LampsAlike                             nor under two numbers by which a lamp is the same
 --     driving_rows, SameButInferred          whatever the components: the rows that may differ are those of inferred inputs
+--     RulesDiffer                            and with a lamp they do
 -- `drive`, the regions with their numbers, `holds_drive`, `is_cyclic` and `fed_by` do not take the number: they are the same under each.
--- The theorems are `rules_agree`, `lamps_alike` and `same_but_inferred` of proofs/RulesLaws.antt. No contract rests on them.
+-- The theorems are `rules_agree`, `lamps_alike`, `same_but_inferred` and `rules_differ` of proofs/RulesLaws.antt and LampPlot.antt. No contract
+-- rests on them.
 -- Assumes nothing: these are statements.
-use Rattle.std.specs.Prelude.{ℕ, ◌<◌, ◌≡◌, false, cond, List, [], ◌∷◌, ◌↔◌, eqb, ℤ}
+use Rattle.std.specs.Prelude.{pos, ℕ, ◌<◌, ◌≡◌, false, cond, List, [], ◌∷◌, ◌↔◌, eqb, ℤ}
 use Rattle.lists.specs.Rules.{lamps_pass}
 use Rattle.lists.specs.Records.{component, component_count}
 use Rattle.signals.specs.Regions.{lamp, fed_from_outside, is_inferred}
@@ -48,3 +50,23 @@ pub record SameDriven (a b : ℕ) (cs ps fs : List ℤ) : Type 0 where
 
 abbrev pub SameButInferred : Type 0
 SameButInferred = (a b : ℕ) (cs ps fs : List ℤ) → SameDriven a b cs ps fs
+
+-- ---- "so a wire fed only by a lamp may be an inferred input": Lamp 1 at 0,0,0, RedstoneWire 2 at 1,0,0 and Repeater 3 at 2,0,0 facing 2, other
+-- fields 0; the lamp feeds the wire, and the wire the repeater's port 1
+
+abbrev pub lamp_wire_repeater : List ℤ
+lamp_wire_repeater =
+    pos 1 ∷ pos 0 ∷ pos 0 ∷ pos 0 ∷ pos 11 ∷ pos 0 ∷ pos 0 ∷ pos 0
+    ∷ pos 2 ∷ pos 1 ∷ pos 0 ∷ pos 0 ∷ pos 0 ∷ pos 0 ∷ pos 0 ∷ pos 0
+    ∷ pos 3 ∷ pos 2 ∷ pos 0 ∷ pos 0 ∷ pos 1 ∷ pos 2 ∷ pos 0 ∷ pos 0 ∷ []
+
+abbrev pub onward : List ℤ
+onward = pos 1 ∷ pos 0 ∷ pos 2 ∷ pos 0 ∷ pos 0 ∷ pos 2 ∷ pos 0 ∷ pos 3 ∷ pos 1 ∷ pos 0 ∷ []
+
+pub record RulesDiffer : Type 0 where
+  -- by rules 1 nothing is a source, and the repeater has status 3
+  pub sources_1 : source_rows 1 lamp_wire_repeater onward [] ≡ []
+  pub inputs_1 : input_rows 1 lamp_wire_repeater onward [] ≡ 3 ∷ 1 ∷ 3 ∷ []
+  -- by rules 2 the wire is an inferred input, and the repeater has status 1
+  pub sources_2 : source_rows 2 lamp_wire_repeater onward [] ≡ 2 ∷ 3 ∷ []
+  pub inputs_2 : input_rows 2 lamp_wire_repeater onward [] ≡ 3 ∷ 1 ∷ 1 ∷ []
