@@ -6,7 +6,7 @@ mod typed;
 
 use std::collections::BTreeMap;
 
-use dustroute::{Refusal, liveness, reach_table};
+use dustroute::{Refusal, Rules, liveness, reach_table};
 use scenes::damage::{garbage, pair, single};
 use scenes::limits::{COMPONENT, PORT_CONNECTION, SUPPORT};
 use scenes::random::Random;
@@ -16,6 +16,7 @@ use typed::Lists;
 mod raw {
     unsafe extern "C" {
         pub fn dustroute_reach_table(
+            rules: i64,
             components: *const i64,
             components_len: usize,
             ports: *const i64,
@@ -31,6 +32,9 @@ mod raw {
         ) -> u64;
     }
 }
+
+/// Nothing depends on them.
+const RULES: Rules = Rules::Two;
 
 /// What an accepted call must leave alone.
 const DIRT: u8 = 0xa5;
@@ -67,6 +71,7 @@ impl Slices {
         // borrows keep those that are written apart.
         unsafe {
             raw::dustroute_reach_table(
+                RULES.number(),
                 scene.components.as_ptr(),
                 scene.components.len(),
                 scene.ports.as_ptr(),
@@ -162,7 +167,7 @@ impl Met {
             ..scene.clone()
         };
         let lists = Lists::of(&scene).unwrap_or_else(|| panic!("{case}: no lists"));
-        let found = liveness(&lists.components, &lists.ports, &lists.frontiers);
+        let found = liveness(RULES, &lists.components, &lists.ports, &lists.frontiers);
         let found = found.unwrap_or_else(|refusal| panic!("{case}: {refusal}"));
         let regions = found.components.iter().map(|it| it.region as u64);
         regions.collect()
@@ -173,7 +178,13 @@ impl Met {
         let short = lengths.iter().zip(enough(scene)).any(|(is, of)| *is < of);
         // In the restatement of the query the stack alone is lent.
         let stack = if short { 0 } else { usize::MAX };
-        let wanted = refusals::query(&scene.components, &scene.ports, &scene.frontiers, stack);
+        let Scene {
+            components,
+            ports,
+            frontiers,
+            ..
+        } = scene;
+        let wanted = refusals::query(RULES.number(), components, ports, frontiers, stack);
         let Some(wanted) = wanted else {
             let more = lengths[1] - enough(scene)[1];
             assert_eq!(lengths, enough(scene).map(|it| it + more), "{case}");
@@ -371,7 +382,7 @@ fn the_typed_table_is_the_square() {
             let Some(lists) = Lists::of(&scene) else {
                 continue;
             };
-            let table = reach_table(&lists.components, &lists.ports, &lists.frontiers);
+            let table = reach_table(RULES, &lists.components, &lists.ports, &lists.frontiers);
             let table = table.unwrap_or_else(|refusal| panic!("{case}: {refusal}"));
             let square = searched(&scene);
             let ids: Vec<_> = lists.components.iter().map(|it| it.id).collect();
@@ -405,8 +416,8 @@ fn the_typed_refusal_is_that_of_liveness() {
                     continue;
                 };
                 let [table, whole]: [Option<Refusal>; 2] = [
-                    reach_table(&lists.components, &lists.ports, &lists.frontiers).err(),
-                    liveness(&lists.components, &lists.ports, &lists.frontiers).err(),
+                    reach_table(RULES, &lists.components, &lists.ports, &lists.frontiers).err(),
+                    liveness(RULES, &lists.components, &lists.ports, &lists.frontiers).err(),
                 ];
                 assert_eq!(table, whole, "{} seed {seed}, {damage:?}", profile.name());
                 refused += usize::from(whole.is_some());
@@ -421,7 +432,7 @@ fn the_typed_refusal_is_that_of_liveness() {
 fn no_components_no_places() {
     let mut met = Met::default();
     met.accepted(&Scene::default(), 0, "nothing");
-    let table = reach_table(&[], &[], &[]).unwrap_or_default();
+    let table = reach_table(RULES, &[], &[], &[]).unwrap_or_default();
     assert_eq!((table.count, table.regions.len()), (0, 0));
     assert_eq!(table.to_string(), "   region\n");
 }

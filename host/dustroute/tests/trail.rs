@@ -7,7 +7,7 @@ mod typed;
 use std::collections::{BTreeMap, BTreeSet};
 
 use dustroute::{
-    ComponentId, Liveness, PortConnection, PortRef, RequiredInputStatus, SignalSourceKind,
+    ComponentId, Liveness, PortConnection, PortRef, RequiredInputStatus, Rules, SignalSourceKind,
     TransferKind, check_trail, liveness, trail,
 };
 use scenes::damage::{garbage, pair, single};
@@ -18,6 +18,7 @@ use typed::Lists;
 mod raw {
     unsafe extern "C" {
         pub fn dustroute_trail(
+            rules: i64,
             components: *const i64,
             components_len: usize,
             ports: *const i64,
@@ -31,6 +32,7 @@ mod raw {
         ) -> u64;
 
         pub fn dustroute_check_trail(
+            rules: i64,
             components: *const i64,
             components_len: usize,
             ports: *const i64,
@@ -44,6 +46,7 @@ mod raw {
         ) -> u64;
 
         pub fn dustroute_driven(
+            rules: i64,
             components: *const i64,
             components_len: usize,
             ports: *const i64,
@@ -60,6 +63,9 @@ mod raw {
     }
 }
 
+/// No way depends on them.
+const RULES: Rules = Rules::Two;
+
 /// What stands in a lent list before a call.
 const DIRT: u64 = 0xdead_beef_0bad_f00d;
 
@@ -73,6 +79,7 @@ fn find(scene: &Scene, [id, port]: [u64; 2], trail: &mut [u64]) -> u64 {
     // SAFETY: each pointer is to a whole slice of the length beside it.
     unsafe {
         raw::dustroute_trail(
+            RULES.number(),
             components.as_ptr(),
             components.len(),
             ports.as_ptr(),
@@ -97,6 +104,7 @@ fn check(scene: &Scene, [id, port]: [u64; 2], trail: &[u64]) -> u64 {
     // SAFETY: each pointer is to a whole slice of the length beside it.
     unsafe {
         raw::dustroute_check_trail(
+            RULES.number(),
             components.as_ptr(),
             components.len(),
             ports.as_ptr(),
@@ -119,6 +127,7 @@ fn refusal_of_driven(scene: &Scene, [id, port]: [u64; 2]) -> u64 {
     // SAFETY: each pointer is to a whole slice of the length beside it.
     let answer = unsafe {
         raw::dustroute_driven(
+            RULES.number(),
             scene.components.as_ptr(),
             scene.components.len(),
             scene.ports.as_ptr(),
@@ -357,7 +366,7 @@ impl Runs {
             }
             return;
         };
-        let Ok(whole) = liveness(&lists.components, &lists.ports, &lists.frontiers) else {
+        let Ok(whole) = liveness(RULES, &lists.components, &lists.ports, &lists.frontiers) else {
             return self.hold_refusal(scene, [1, 1], case);
         };
         let plot = Plot::of(&lists.ports, &whole);
@@ -498,7 +507,7 @@ fn hold_least(runs: &mut Runs, scene: &Scene, ids: &[u64], lists: &[Vec<u64>], c
     let Some(typed) = Lists::of(scene) else {
         panic!("{case} cannot be typed");
     };
-    let Ok(whole) = liveness(&typed.components, &typed.ports, &typed.frontiers) else {
+    let Ok(whole) = liveness(RULES, &typed.components, &typed.ports, &typed.frontiers) else {
         panic!("{case} is refused");
     };
     let plot = Plot::of(&typed.ports, &whole);
@@ -619,13 +628,13 @@ fn typed_trails_are_the_same() {
                 frontiers,
                 ..
             } = &lists;
-            let Ok(whole) = liveness(components, ports, frontiers) else {
+            let Ok(whole) = liveness(RULES, components, ports, frontiers) else {
                 panic!("{} seed {seed} is refused", profile.name());
             };
             for row in whole.inputs.iter().take(10) {
                 let mut ids = vec![DIRT; components.len()];
                 let answer = find(&scene, of(row.input), &mut ids);
-                let found = trail(components, ports, frontiers, row.input);
+                let found = trail(RULES, components, ports, frontiers, row.input);
                 match found {
                     Err(refusal) => {
                         assert_eq!(u64::from(refusal.reason.number()) + 256 * 3, answer)
@@ -634,7 +643,8 @@ fn typed_trails_are_the_same() {
                         let numbers: Vec<u64> = way.iter().copied().map(number).collect();
                         assert_eq!(answer, 65_536 * way.len() as u64);
                         assert_eq!(ids.get(..way.len()), Some(numbers.as_slice()));
-                        let checked = check_trail(components, ports, frontiers, row.input, &way);
+                        let checked =
+                            check_trail(RULES, components, ports, frontiers, row.input, &way);
                         assert_eq!(checked, Ok(true));
                     }
                 }
