@@ -213,8 +213,9 @@ impl Asked {
     /// kept, and where it refuses the given list with 7 its item is the first
     /// that was dropped.
     pub fn hold_all(&mut self, scene: &Scene, case: &dyn Fn() -> String) {
+        let rules = self.rules();
         let cleared = self.hold(scene, Room::enough(scene), case);
-        let given = analyzed(self.rules(), scene);
+        let given = analyzed(rules, scene);
         let refused = Refusal::of(given);
         self.analyses += 1;
         let Some(cleared) = cleared else {
@@ -223,7 +224,7 @@ impl Asked {
         };
         let again = self.hold(&cleared, Room::enough(&cleared), case);
         assert_eq!(again.map(|it| it.ports).as_ref(), Some(&cleared.ports));
-        let taken = analyzed(self.rules(), &cleared);
+        let taken = analyzed(rules, &cleared);
         self.analyses += 1;
         assert_eq!(Refusal::of(taken), None, "{}: {scene}", case());
         let (_, items) = restated(scene);
