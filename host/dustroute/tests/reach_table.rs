@@ -1,99 +1,19 @@
 //! The slow region finder held to a breadth-first search from each component,
 //! and its regions to those of `liveness`.
 
+mod squares;
 #[expect(dead_code, reason = "the grouping connections have no part in it")]
 mod typed;
 
 use std::collections::BTreeMap;
 
-use dustroute::{Refusal, Rules, liveness, reach_table};
+use dustroute::{Refusal, liveness, reach_table};
 use scenes::damage::{garbage, pair, single};
 use scenes::limits::{COMPONENT, PORT_CONNECTION, SUPPORT};
 use scenes::random::Random;
 use scenes::{Profile, Scene, exhaustive, refusals};
+use squares::{RULES, Slices, enough};
 use typed::Lists;
-
-mod raw {
-    unsafe extern "C" {
-        pub fn dustroute_reach_table(
-            rules: i64,
-            components: *const i64,
-            components_len: usize,
-            ports: *const i64,
-            ports_len: usize,
-            frontiers: *const i64,
-            frontiers_len: usize,
-            square: *mut u8,
-            square_len: usize,
-            regions: *mut u64,
-            regions_len: usize,
-            stack: *mut usize,
-            stack_len: usize,
-        ) -> u64;
-    }
-}
-
-/// Nothing depends on them.
-const RULES: Rules = Rules::Two;
-
-/// What an accepted call must leave alone.
-const DIRT: u8 = 0xa5;
-const DIRTY: u64 = u64::from_ne_bytes([DIRT; 8]);
-
-/// The slices of a call, of so many places each, with a place before and after
-/// which is not lent.
-#[derive(Clone, Eq, PartialEq)]
-struct Slices {
-    square: Vec<u8>,
-    regions: Vec<u64>,
-    stack: Vec<usize>,
-}
-
-impl Slices {
-    fn dirty([square, regions, stack]: [usize; 3]) -> Self {
-        Self {
-            square: vec![DIRT; square + 2],
-            regions: vec![DIRTY; regions + 2],
-            stack: vec![DIRTY as usize; stack + 2],
-        }
-    }
-
-    fn lent<T>(slice: &mut [T]) -> &mut [T] {
-        let end = slice.len() - 1;
-        &mut slice[1..end]
-    }
-
-    fn call(&mut self, scene: &Scene) -> u64 {
-        let square = Self::lent(&mut self.square);
-        let regions = Self::lent(&mut self.regions);
-        let stack = Self::lent(&mut self.stack);
-        // SAFETY: each pointer is to a slice of the length beside it, and the
-        // borrows keep those that are written apart.
-        unsafe {
-            raw::dustroute_reach_table(
-                RULES.number(),
-                scene.components.as_ptr(),
-                scene.components.len(),
-                scene.ports.as_ptr(),
-                scene.ports.len(),
-                scene.frontiers.as_ptr(),
-                scene.frontiers.len(),
-                square.as_mut_ptr(),
-                square.len(),
-                regions.as_mut_ptr(),
-                regions.len(),
-                stack.as_mut_ptr(),
-                stack.len(),
-            )
-        }
-    }
-}
-
-/// How many places each slice must have.
-fn enough(scene: &Scene) -> [usize; 3] {
-    let side = scene.components.len() / COMPONENT;
-    [side * side, side, 2 * side]
-}
 
 /// The request restated, without a table: from each component a breadth-first
 /// search along the connections that are no support, by list place.
