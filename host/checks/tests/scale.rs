@@ -40,11 +40,10 @@ fn liveness() {
     let mut alive = Alive::asking_every(16);
     Run::asked_for().each("liveness", |scene, seed, case| {
         let mut lists = LivenessLists::of(scene);
-        let random = &mut Random::new(seed);
-        if random.once_in(4) {
+        if seed % 4 == 3 {
             lists.rules = 2;
         }
-        if random.once_in(2) {
+        if Random::new(seed).once_in(2) {
             let kept = oracle::ports(&scene.components, &scene.connections);
             lists.ports = scenes::bytes::of(kept.as_flattened());
         }
@@ -81,7 +80,7 @@ fn refusals() {
             let variants = lent.variants();
             lent = variants[random.below(variants.len())];
         }
-        let rules = random.pick(&[1, 1, 2, 3]);
+        let rules = [1, 1, 2, 3][usize::try_from(seed % 4).unwrap_or(0)];
         tally.refusals_by(rules, &scene, &lent, &case);
         match random.below(3) {
             0 => groups.call(&ByteLists::of(&scene), &case),

@@ -31,6 +31,11 @@ fn on_profiles(mut check: impl FnMut(&Lists, &mut Random, &str)) {
     }
 }
 
+/// They go round with the lists.
+const fn rules(lists: &Lists) -> Rules {
+    Rules::ALL[lists.components.len() % 2]
+}
+
 /// Mostly a component's, else any.
 fn any_id(lists: &Lists, random: &mut Random) -> ComponentId {
     let ids: Vec<ComponentId> = lists.components.iter().map(|it| it.id).collect();
@@ -155,7 +160,7 @@ fn what_changes_is_what_is_proved() {
             frontiers,
             ..
         } = lists;
-        let rules = Rules::ALL[random.below(2)];
+        let rules = rules(lists);
         let Ok(before) = liveness(rules, components, ports, frontiers) else {
             panic!("{case} is refused");
         };
@@ -212,7 +217,7 @@ fn what_is_joined_is_what_was_apart() {
     let (mut asked, mut joined, mut repeats, mut full) = (0, [0; 3], 0, 0);
     on_profiles(|lists, random, case| {
         let (components, connections) = (&lists.components, &lists.connections);
-        let rules = Rules::ALL[random.below(2)];
+        let rules = rules(lists);
         let Ok(before) = groups(rules, components, connections) else {
             panic!("{case} is refused");
         };
