@@ -100,7 +100,7 @@ module _ (x y z : ℕ) (text : List ℕ) {a a' b b' c c' : List ℤ} {r : Result
 -- the same lists are printed
 same_printed : {rules rules' : ℕ} {cs cs' ps ps' fs fs' : List ℤ} {out out' : List ℕ} {r : Result ℕ Refusal} → rules ≡ rules' → cs ≡ cs' → ps ≡ ps' → fs ≡ fs'
     → PrintedBy (lists_checked rules cs ps fs (length out)) (report_of rules cs ps fs) out out' r
-    → PrintedBy (lists_checked rules' cs' ps' fs' (length out)) (report_of cs' ps' fs') out out' r
+    → PrintedBy (lists_checked rules' cs' ps' fs' (length out)) (report_of rules' cs' ps' fs') out out' r
 same_printed d e f g p = rw (d, e, f, g) at p
 
 -- the work lists were cleared after the lists at their fronts were printed

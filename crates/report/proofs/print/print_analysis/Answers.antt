@@ -15,7 +15,7 @@ use Rattle.lists.proofs.Table.{table_long}
 use Rattle.scene.specs.Kept.{sloped_rows}
 use Rattle.liveness.specs.Scene.{Scene}
 use Rattle.liveness.specs.declared.Analysis.{Analysis}
-use Rattle.report.specs.Report.{all_rows}
+use Rattle.report.specs.Report.{all_rows, unread_ids}
 use Rattle.report.specs.Printing.{component_row_by, region_row_by, Analyzed}
 use Rattle.report.specs.Entry.{fits, PrintedBy}
 use Rattle.report.proofs.Scenes.{front_is, nets_long, fragments_long, regions_long, regions_few, slopes_few}
@@ -98,6 +98,8 @@ returns c ps fs groups ready found =
     (rw c.component_list-listed.ensures at c.fill_components.ensures) in
     let connections-are : take (6 * length a.groups.now.slopes.now) c.fill_connections.new.rows ≡ rows =
     front_is rows _ (c.fill_connections.ensures rows groups.sloped) _ (omega (arith, groups.sloped.long)) in
+    let ids-are = front_is (unread_ids a.asked.now.rules cs (component_count cs)) _
+    (rw c.component_list-listed.ensures at c.fill_unread-blank.ensures.is) _ (rw c.component_list-listed.ensures at c.fill_unread-blank.ensures.count) in
     let regions-are = regions_are f.cyclic.words f.has_drive.words f.regions _ c.fill_regions.ensures in
     subst (λ (t : List ℕ). PrintedBy (fits t (length a.out.now)) t a.out.now called.new.out called.result)
     (assembled a.asked.now.rules cs ps fs ready.fed_scene.scene.distinct groups found components-are connections-are regions-are ids-are)
