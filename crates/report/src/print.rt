@@ -66,7 +66,7 @@ fn put_whole(out: &mut [u8], asked: &Asked, rows: &TextRows) -> usize
     ensures { let a = asked.now in let t = rows.now in
         (ps fs : List ℤ) → AskedOf a ps fs →
         let text = whole_text a.rules a.components.now ps fs
-            t.components.now t.kept.now t.regions.now t.sources.now t.inputs.now t.unread.now in
+        t.components.now t.kept.now t.regions.now t.sources.now t.inputs.now t.unread.now in
         Printed 0 text out.old out.new result }
 {
     let a = put_accepted(out, 0);
@@ -83,7 +83,7 @@ fn print_rows(asked: &Asked, rows: &TextRows, out: &mut [u8]) -> Result<usize, R
     ensures { let a = asked.now in let t = rows.now in
         (ps fs : List ℤ) → AskedOf a ps fs →
         let text = whole_text a.rules a.components.now ps fs
-            t.components.now t.kept.now t.regions.now t.sources.now t.inputs.now t.unread.now in
+        t.components.now t.kept.now t.regions.now t.sources.now t.inputs.now t.unread.now in
         PrintedBy (fits text (length out.old)) text out.old out.new result }
 {
     let length = put_whole(&mut [], asked, rows);

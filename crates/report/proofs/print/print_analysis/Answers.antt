@@ -13,6 +13,7 @@ use Rattle.lists.specs.Ids.{IdTable}
 use Rattle.lists.specs.Slices.{laid}
 use Rattle.lists.proofs.Table.{table_long}
 use Rattle.scene.specs.Kept.{sloped_rows}
+use Rattle.assessment.specs.Rows.{Scanned}
 use Rattle.liveness.specs.Scene.{Scene}
 use Rattle.liveness.specs.declared.Analysis.{Analysis}
 use Rattle.report.specs.Report.{all_rows, unread_ids}
@@ -86,6 +87,10 @@ regions_are : (cyclic drive : List ℕ) (n : ℕ) (old : List ℕ) {rows : List 
     → take (2 * n) rows ≡ all_rows (region_row_by cyclic drive) n
 regions_are cyclic drive n old e = front_is (all_rows (region_row_by cyclic drive) n) old e (2 * n) (sym (region_pairs cyclic drive n))
 
+ids_are : (rules : ℕ) (cs : List ℤ) {old rows : List ℕ} {n : ℕ} → Scanned (unread_ids rules cs (component_count cs)) 1 old rows n
+    → take n rows ≡ unread_ids rules cs (component_count cs)
+ids_are rules cs {old} {rows} {n} s = front_is (unread_ids rules cs (component_count cs)) old s.is n (omega (arith, s.count))
+
 pub returns : goal.returns
 returns c ps fs groups ready found =
     let called = c.print_rows in
@@ -98,8 +103,7 @@ returns c ps fs groups ready found =
     (rw c.component_list-listed.ensures at c.fill_components.ensures) in
     let connections-are : take (6 * length a.groups.now.slopes.now) c.fill_connections.new.rows ≡ rows =
     front_is rows _ (c.fill_connections.ensures rows groups.sloped) _ (omega (arith, groups.sloped.long)) in
-    let ids-are = front_is (unread_ids a.asked.now.rules cs (component_count cs)) _
-    (rw c.component_list-listed.ensures at c.fill_unread-blank.ensures.is) _ (rw c.component_list-listed.ensures at c.fill_unread-blank.ensures.count) in
+    let ids-are = ids_are a.asked.now.rules cs (rw c.component_list-listed.ensures at c.fill_unread-blank.ensures) in
     let regions-are = regions_are f.cyclic.words f.has_drive.words f.regions _ c.fill_regions.ensures in
     subst (λ (t : List ℕ). PrintedBy (fits t (length a.out.now)) t a.out.now called.new.out called.result)
     (assembled a.asked.now.rules cs ps fs ready.fed_scene.scene.distinct groups found components-are connections-are regions-are ids-are)
