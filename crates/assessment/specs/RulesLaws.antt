@@ -9,8 +9,7 @@
 --     UnreadRows, RowsUnread                 those rows: of a Repeater or Comparator none, of a Piston its four
 -- `drive`, the regions with their numbers, `holds_drive`, `is_cyclic` and `fed_by` do not take the number: they are the same under each.
 -- The theorems are `marks_agree`, `ports_agree`, `rules_agree`, `same_but_inferred` and `unread_rows` of proofs/RulesLaws.antt, `rules_differ` of
--- LampPlot.antt. No contract
--- rests on them.
+-- LampPlot.antt. No contract rests on them.
 -- Assumes nothing: these are statements.
 use Rattle.std.specs.Prelude.{pos, ℕ, ◌<◌, ◌≡◌, ◌⊎◌, true, false, cond, ◌&&◌, List, [], ◌∷◌, ◌↔◌, eqb, length, ℤ}
 use Rattle.lists.specs.Rules.{lamps_pass, blanks_unread}

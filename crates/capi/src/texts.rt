@@ -133,15 +133,9 @@ pub extern "C" fn dustroute_convert(
         frontiers.old frontiers.new out.old out.new result }
 {
     let room = out.len().min(BYTES);
-    let made = convert_sheet(
-        text,
-        components,
-        connections,
-        frontiers,
-        &mut out[..room],
-    );
+    let made = convert_sheet(text, components, connections, frontiers, &mut out[..room]);
     match made {
         Err(refusal) => pack_refusal(refusal),
-        Ok(count) => 65536 * count as u64,
+        Ok(bytes) => 65536 * bytes as u64,
     }
 }
