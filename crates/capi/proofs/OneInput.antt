@@ -44,7 +44,7 @@ module _ (rules : ℕ) (cs ps fs : List ℤ) (id port : ℕ) (met stack : List �
 
   pub accepted_driven : (met' stack' : List ℕ) (r : ℕ) (answer : DrivenInput)
       → driven_refusal rules cs ps fs id port (length met) (length stack) ≡ Ok tt
-      → WordsOfSet answer.met.words → PortDriven cs ps fs (row_place cs id port) port answer
+      → WordsOfSet answer.met.words → PortDriven cs ps fs (row_place rules cs id port) port answer
       → met' ≡ laid answer.met.words met → stack' ≡ cleared stack → r ≡ 65536 * as_nat answer.driven
       → DrivenByLists rules cs ps fs id port met met' stack stack' r
   accepted_driven met' stack' r answer e w d set zero count =

@@ -2,37 +2,43 @@
 -- than an answer can tell.
 --     line_small, read_small, report_small, convert_small     the item of each entry's refusal
 --     counts_few                                              the counts of a sheet
+--     head_refused, head_without_room                         the refusal of a sheet for whose head there is no room
+--     by_head, by_refusal, by_sheet                           the lists of a sheet: without that room, refused, and read
 --     by_report, by_convert                                   the entry on a buffer, from what was written into its front
 -- Assumes nothing.
 use Rattle.std.specs.Prelude.{⊤, Result, Ok, Err, None}
 use Rattle.std.proofs.lemmas.List.{take_min}
 use mathlib.Core.Path.{◌≡◌, refl, sym, ap, ◌∙◌}
-use mathlib.Core.Bool.{Bool, true, false}
+use mathlib.Core.Bool.{Bool, true, false, ◌&&◌}
 use mathlib.Core.List.{List, [], ◌∷◌, ◌++◌}
-use Prim.Native.Nat.{ℕ, zero, suc, ◌≤◌, min}
+use Prim.Native.Nat.{ℕ, zero, suc, ◌+◌, ◌*◌, ◌/◌, ◌≤◌, min}
 use native.Mathlib.Omega.{arith}
-use lib.ListN.{length, take, drop, drop_of_length-le}
+use lib.ListN.{length, take, drop, set, drop_of_length-le}
 use lib.IntN.{ℤ}
+use borrow.Author.Tests.{leb-true}
 use Rattle.lists.specs.declared.Fault.{Fault}
 use Rattle.lists.specs.declared.Refusal.{Refusal}
 use Rattle.lists.specs.declared.Section.TheVariants.{Components, Connections, Frontiers}
 use Rattle.lists.specs.Limits.{component_limit, connection_limit, frontier_limit}
 use Rattle.lists.specs.Rules.{rules_limit}
-use Rattle.checks.specs.Refusals.{refuse, too_short, ◌or_else◌, sheet_refusal, item_limit, Small}
+use Rattle.lists.specs.Slices.{laid}
+use Rattle.checks.specs.Refusals.{refuse, too_short, ◌or_else◌, room_for, sheet_refusal, item_limit, Small, packed}
+use Rattle.checks.proofs.Chain.{refused_not}
 use Rattle.checks.proofs.Small.{small_or_else, grouping_small}
 use Rattle.forms.specs.Sheet.{Parsed, Sheet, Faulty, parse}
 use Rattle.forms.specs.Writing.{sheet_text}
 use Rattle.forms.specs.Converter.{other, unless, turned}
 use Rattle.forms.specs.declared.Counts.{Counts}
+use Rattle.forms.specs.declared.Style.{Style}
 use Rattle.forms.proofs.Tables.{same_width}
 use Rattle.forms.proofs.Sheets.{parse_within}
 use Rattle.forms.proofs.SheetSmall.{ParsedSmall, parse_small}
-use Rattle.sheet.specs.Entry.{sheet_checked, reading_of, sheet_of, SheetRead}
+use Rattle.sheet.specs.Entry.{style_of, rules_of, enough_room, sheet_checked, reading_of, sheet_of, SheetRead}
 use Rattle.sheet.specs.Written.{answer_by}
 use Rattle.sheet.specs.declared.Sheet as read
 use Rattle.report.specs.Entry.{report_checked, Reported}
 use Rattle.convert.specs.Entry.{parsed_by, converted_fits, convert_checked, SheetConverted}
-use Rattle.capi.specs.Texts.{limits, text_number, ReportByText, ConvertByText}
+use Rattle.capi.specs.Texts.{sheet_refusal as head_checked, form_number, head_of, SheetByText, limits, text_number, ReportByText, ConvertByText}
 
 -- ---- checks
 
@@ -118,6 +124,105 @@ by_counts (Err x) sheet f e = let o : ◌≡◌ {A = ℕ} 0 1 = cc in absurd (om
 pub counts_few : (x y z : ℕ) (text : List ℕ) {a a' b b' c c' : List ℤ} {r : Result read.Sheet Refusal} {found : read.Sheet}
     → SheetRead (parse rules_limit x y z text) a a' b b' c c' r → r ≡ Ok found → Few found.counts
 counts_few x y z text s e = by_counts _ _ (parsed_few x y z text (parse rules_limit x y z text) refl) (sym s.answer ∙ e)
+
+-- ---- the lists of a sheet
+
+and_yes : (x : Bool) → x && true ≡ x
+and_yes true = refl
+and_yes false = refl
+
+and_no : (x : Bool) → x && false ≡ false
+and_no true = refl
+and_no false = refl
+
+-- with room for the head it is checked as when it is read
+with_room : (p : Parsed) (a b c d : ℕ) → room_for 1 2 d ≡ true → head_checked p a b c d ≡ sheet_checked p a b c
+with_room (Sheet style rules cs ps fs) a b c d e = rw (e, and_yes (enough_room cs ps fs a b c)) refl
+with_room (Faulty r) a b c d e = refl
+
+-- without it, it is refused whatever the work lists are
+data Refused (p : Parsed) (a b c d : ℕ) : Type 0 where
+  because : (x : Refusal) → head_checked p 0 0 0 0 ≡ Err x → head_checked p a b c d ≡ Err x → Refused p a b c d
+
+without_room : (p : Parsed) (a b c d : ℕ) → room_for 1 2 d ≡ false → Refused p a b c d
+without_room (Sheet style rules cs ps fs) a b c d e =
+    because (record { fault = Fault.ShortSlice; list = None; item = 0 }) (rw (and_no (enough_room cs ps fs 0 0 0)) refl) (rw (e, and_no (enough_room cs ps fs a b c)) refl)
+without_room (Faulty r) a b c d e = because r refl refl
+
+module _ {n : Counts} (i : n ≡ limits) (text : List ℕ) {r : ℕ} where
+  pub head_refused : {x : Refusal} → parse rules_limit n.components n.connections n.frontiers text ≡ Faulty x → r ≡ packed (Err x)
+      → r ≡ packed (head_checked (parsed_by text) 0 0 0 0)
+  head_refused {x} e h = let f : parsed_by text ≡ Faulty x = rw i at e in rw f h
+
+  pub head_without_room : {style : Style} {rules : ℕ} {cs ps fs : List ℤ}
+      → parse rules_limit n.components n.connections n.frontiers text ≡ Sheet style rules cs ps fs
+      → r ≡ packed (Err (record { fault = Fault.ShortSlice; list = None; item = 0 })) → r ≡ packed (head_checked (parsed_by text) 0 0 0 0)
+  head_without_room {style} {rules} {cs} {ps} {fs} e h =
+      let f : parsed_by text ≡ Sheet style rules cs ps fs = rw i at e in
+      rw (f, and_no (enough_room cs ps fs 0 0 0)) h
+
+refused_as : (checks : Result ⊤ Refusal) (sheet : read.Sheet) {x : Refusal} → reading_of checks sheet ≡ Err x → checks ≡ Err x
+refused_as (Ok tt) sheet e = let o : ◌≡◌ {A = ℕ} 0 1 = cc in absurd (omega arith)
+refused_as (Err y) sheet e = cc
+
+read_as : (checks : Result ⊤ Refusal) (sheet : read.Sheet) {found : read.Sheet} → reading_of checks sheet ≡ Ok found → (checks ≡ Ok tt) × (found ≡ sheet)
+read_as (Ok tt) sheet e = (refl, cc)
+read_as (Err y) sheet e = let o : ◌≡◌ {A = ℕ} 0 1 = cc in absurd (omega arith)
+
+set_two : (head : List ℕ) (x y : ℕ) → 1 ≤ length head / 2 → set (set head 0 x) 1 y ≡ x ∷ y ∷ drop 2 head
+set_two [] x y h = absurd (omega arith)
+set_two (k ∷ []) x y h = absurd (omega arith)
+set_two (k ∷ l ∷ head) x y h = refl
+
+head_is : (p : Parsed) (a b c : ℕ) (head : List ℕ) {x y : ℕ} → sheet_checked p a b c ≡ Ok tt → room_for 1 2 (length head) ≡ true
+    → x ≡ form_number (style_of p) → y ≡ rules_of p → set (set head 0 x) 1 y ≡ laid (head_of p) head
+head_is (Sheet style rules cs ps fs) a b c head {x} {y} good room e f = set_two head x y (leb-true 1 (length head / 2) room) ∙ rw (e, f) refl
+head_is (Faulty r) a b c head good room e f = absurd (refused_not good)
+
+module _ (text head : List ℕ) {a b c : List ℤ} {r : ℕ} where
+  pub by_head : room_for 1 2 (length head) ≡ false → r ≡ packed (head_checked (parsed_by text) 0 0 0 0) → SheetByText text a a b b c c head head r
+  by_head e h = go (without_room (parsed_by text) (length a) (length b) (length c) (length head) e)
+    where
+      go : Refused (parsed_by text) (length a) (length b) (length c) (length head) → SheetByText text a a b b c c head head r
+      go (because x f g) = record {
+        answer = rw g (rw f at h);
+        components_left = rw g refl;
+        connections_left = rw g refl;
+        frontiers_left = rw g refl;
+        head_left = rw g refl;
+      }
+
+  module _ (room : room_for 1 2 (length head) ≡ true) {n : Counts} (i : n ≡ limits) {a' b' c' : List ℤ} {found : Result read.Sheet Refusal} where
+    pub by_refusal : {x : Refusal} → SheetRead (parse rules_limit n.components n.connections n.frontiers text) a a' b b' c c' found
+        → found ≡ Err x → r ≡ packed (Err x) → SheetByText text a a' b b' c c' head head r
+    by_refusal {x} read e h =
+        let s : SheetRead (parsed_by text) a a' b b' c c' found = rw i at read in
+        let checks : Result ⊤ Refusal = sheet_checked (parsed_by text) (length a) (length b) (length c) in
+        let same = with_room (parsed_by text) (length a) (length b) (length c) (length head) room in
+        let g : checks ≡ Err x = refused_as checks (sheet_of (parsed_by text)) (sym s.answer ∙ e) in
+        record {
+          answer = rw (same, g) h;
+          components_left = rw same s.components_left;
+          connections_left = rw same s.connections_left;
+          frontiers_left = rw same s.frontiers_left;
+          head_left = rw (same, g) refl;
+        }
+
+    pub by_sheet : {sheet : read.Sheet} {x : ℕ} → SheetRead (parse rules_limit n.components n.connections n.frontiers text) a a' b b' c c' found
+        → found ≡ Ok sheet → x ≡ form_number sheet.style
+        → r ≡ 65536 * sheet.counts.components + 4294967296 * sheet.counts.connections + 281474976710656 * sheet.counts.frontiers
+        → SheetByText text a a' b b' c c' head (set (set head 0 x) 1 sheet.rules) r
+    by_sheet {sheet} {x} read e f h =
+        let s : SheetRead (parsed_by text) a a' b b' c c' found = rw i at read in
+        let same = with_room (parsed_by text) (length a) (length b) (length c) (length head) room in
+        let (good, is) = read_as (sheet_checked (parsed_by text) (length a) (length b) (length c)) (sheet_of (parsed_by text)) (sym s.answer ∙ e) in
+        record {
+          answer = rw (same, good) (rw is at h);
+          components_left = rw same s.components_left;
+          connections_left = rw same s.connections_left;
+          frontiers_left = rw same s.frontiers_left;
+          head_left = rw (same, good) (head_is (parsed_by text) (length a) (length b) (length c) head good room (rw is at f) (ap (λ m. m.rules) is));
+        }
 
 -- ---- the front of a buffer
 

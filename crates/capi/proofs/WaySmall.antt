@@ -27,14 +27,14 @@ status_small false = omega arith
 
 pub finder_small : (rules : ℕ) (cs ps fs : List ℤ) (id port places : ℕ) → Small (finder_refusal rules cs ps fs id port places)
 finder_small rules cs ps fs id port places =
-    let place = row_place cs id port in
+    let place = row_place rules cs id port in
     let room = room_for (component_count cs) 1 places in
     or_small (liveness_lists rules cs ps fs room) (port_refusal rules cs ps fs port place) (liveness_small rules cs ps fs room)
     (or_small (row_refusal place) (status_refusal rules cs ps fs port place) (row_small (is_found place)) (status_small (status_zero rules cs ps fs port place)))
 
 pub check_small : (rules : ℕ) (cs ps fs : List ℤ) (id port : ℕ) → Small (check_refusal rules cs ps fs id port)
 check_small rules cs ps fs id port =
-    let place = row_place cs id port in
+    let place = row_place rules cs id port in
     or_small (liveness_lists rules cs ps fs true) (row_refusal place) (liveness_small rules cs ps fs true) (row_small (is_found place))
 
 -- no trail has more ids than a plot has components
@@ -42,5 +42,5 @@ pub count_few : {rules : ℕ} {cs ps fs : List ℤ} {id port : ℕ} {trail trail
     → Finding rules cs ps fs id port trail trail' (Ok count) → count ≤ component_limit
 count_few {rules} {cs} {ps} {fs} {id} {port} {trail} f =
     let room = room_for (component_count cs) 1 (length trail) in
-    let lists = (both_accept (liveness_lists rules cs ps fs room) (port_refusal rules cs ps fs port (row_place cs id port)) (sym f.by.answer)).0 in
+    let lists = (both_accept (liveness_lists rules cs ps fs room) (port_refusal rules cs ps fs port (row_place rules cs id port)) (sym f.by.answer)).0 in
     omega (arith, f.by.found.few, f.by.found.count_is, (scene_of_lem (liveness_accept rules cs ps fs room lists)).components.few)

@@ -21,7 +21,7 @@ use Rattle.driven.specs.Driven.{upstream_from, driven_at}
 abbrev pub driven_refusal : ℕ → List ℤ → List ℤ → List ℤ → ℕ → ℕ → ℕ → ℕ → Result ⊤ Refusal
 driven_refusal rules cs ps fs id port met stack =
     liveness_lists rules cs ps fs (room_for 1 word_count met && room_for (component_count cs) 2 stack)
-    or_else refuse Fault.NoVerdictRow None (too_short (is_found (row_place cs id port)))
+    or_else refuse Fault.NoVerdictRow None (too_short (is_found (row_place rules cs id port)))
 
 -- a refusal's number, list and item, or 0 in the sixteen lowest bits and then 1 for yes, 0 for no
 abbrev pub driven_number : Result ⊤ Refusal → Bool → ℕ
@@ -29,12 +29,12 @@ driven_number (Ok tt) driven = 65536 * as_nat driven
 driven_number (Err refusal) driven = packed (Err refusal)
 
 -- `word_count` words: the members that the search from the port met
-abbrev pub met_words : List ℤ → List ℤ → List ℤ → ℕ → ℕ → List ℕ
-met_words cs ps fs id port =
-    words_of_set word_count (component_count cs) (at_place (λ p a. marked (upstream_from cs ps fs p port).met a) (row_place cs id port))
+abbrev pub met_words : ℕ → List ℤ → List ℤ → List ℤ → ℕ → ℕ → List ℕ
+met_words rules cs ps fs id port =
+    words_of_set word_count (component_count cs) (at_place (λ p a. marked (upstream_from cs ps fs p port).met a) (row_place rules cs id port))
 
 -- from a rules number, the lists, an id, a port and two lent slices
 pub record DrivenByLists (rules : ℕ) (cs ps fs : List ℤ) (id port : ℕ) (met met' stack stack' : List ℕ) (r : ℕ) : Type 0 where
-  pub answer : r ≡ driven_number (driven_refusal rules cs ps fs id port (length met) (length stack)) (driven_at cs ps fs port (row_place cs id port))
-  pub met_left : met' ≡ left_of (driven_refusal rules cs ps fs id port (length met) (length stack)) (met_words cs ps fs id port) met
+  pub answer : r ≡ driven_number (driven_refusal rules cs ps fs id port (length met) (length stack)) (driven_at cs ps fs port (row_place rules cs id port))
+  pub met_left : met' ≡ left_of (driven_refusal rules cs ps fs id port (length met) (length stack)) (met_words rules cs ps fs id port) met
   pub stack_left : stack' ≡ work_of (driven_refusal rules cs ps fs id port (length met) (length stack)) stack

@@ -1,7 +1,7 @@
 -- A sheet is refused at one of its lines, and these have room in a refusal's digits.
 use Rattle.lists.specs.Rules.{rules_limit}
 use Rattle.forms.proofs.SheetSmall.{parse_small}
-use Rattle.capi.proofs.TextLaws.{line_small}
+use Rattle.capi.proofs.TextLaws.{line_small, head_refused, head_without_room}
 use Rattle.capi.proofs.texts.refuse_head.Goals as goal
 
 pub pack_refusal-requires : goal.pack_refusal-requires
@@ -10,7 +10,9 @@ pack_refusal-requires c =
     line_small (parse_small rules_limit n.components n.connections n.frontiers c.args.text.now) c.in-Err.ensures
 
 pub returns-in-Err : goal.returns-in-Err
-returns-in-Err c = ?
+returns-in-Err c = head_refused c.limits.ensures c.args.text.now c.in-Err.ensures c.pack_refusal.ensures
 
 pub returns-in-Ok : goal.returns-in-Ok
-returns-in-Ok c = ?
+returns-in-Ok c =
+    let (cs, ps, fs, all, e) = c.in-Ok.ensures in
+    head_without_room c.limits.ensures c.args.text.now e c.pack_refusal-in-Ok.ensures
