@@ -63,7 +63,13 @@ pub extern "C" fn probe_grouping_refusal(
     ensures { result ≡ packed (grouping_refusal (rules_of rules) components.now connections.now nets fragments) }
 {
     let enough = room_for_groups(components.len() / COMPONENT, nets, fragments);
-    pack_grouping(rules_of(rules), components, connections, &connections[..0], enough)
+    pack_grouping(
+        rules_of(rules),
+        components,
+        connections,
+        &connections[..0],
+        enough,
+    )
 }
 
 #[unsafe(no_mangle)]
@@ -76,7 +82,13 @@ pub extern "C" fn probe_ports_refusal(
     ensures { result ≡ packed (ports_refusal (rules_of rules) components.now connections.now ports) }
 {
     let enough = room_for(connections.len() / CONNECTION, KEPT, ports);
-    pack_grouping(rules_of(rules), components, connections, &connections[..0], enough)
+    pack_grouping(
+        rules_of(rules),
+        components,
+        connections,
+        &connections[..0],
+        enough,
+    )
 }
 
 #[unsafe(no_mangle)]

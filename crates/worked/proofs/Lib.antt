@@ -6,6 +6,7 @@
 --     Staircase   wires up a step and down again
 --     Dropped     the worked sheet with a connection more that is dropped
 --     Printed     the worked sheet, from its bytes to those of its report
+--     LaterRules  plots under each rules number, and a sheet under rules 3
 --     Walks       small graphs
 mod Forests
 pub mod Worked
@@ -14,4 +15,5 @@ pub mod Lighting
 pub mod Staircase
 mod Dropped
 pub mod Printed
+pub mod LaterRules
 mod Walks

@@ -20,11 +20,11 @@ use Rattle.forms.specs.declared.Style.TheVariants.{Old, Short}
 use Rattle.forms.specs.Numbers.{digits_until, zero_until, magnitude_until, number_until}
 use Rattle.forms.specs.Form.{times, has_prefix, read_field, read_fields, lines_of}
 use Rattle.forms.specs.Sheet.{Parsed, Sheet, read_head, read_list, parse_lists, parse}
-use Rattle.sheet.specs.Entry.{components_of, connections_of, frontiers_of}
+use Rattle.sheet.specs.Entry.{rules_of, components_of, connections_of, frontiers_of}
 use Rattle.circuit.specs.Forest as forest
 use Rattle.circuit.specs.Groups.{roots_below, groups_of}
 use Rattle.circuit.specs.Topology.{net_kinds, fragment_kinds, joins, joins_of, nets_of, fragments_of}
-use Rattle.faces.specs.Ports.{opposite, face_or, neither, repeater_ports, ports_for}
+use Rattle.faces.specs.Ports.{opposite, face_or, neither, repeater_ports, ports_by_facing, ports_for}
 use Rattle.faces.specs.Select.{serves, select_port, transfer_of}
 use Rattle.faces.specs.Step.{facing_between, slope_between}
 use Rattle.scene.specs.Kept.{ports_between, rows_below, sloped_below}
@@ -61,12 +61,12 @@ example_fragments : fragments_of lever_and_repeater from_lever ≡ 0 ∷ 0 ∷ [
 unfolding first_from place_below forest.range forest.redirect forest.link forest.unite_roots forest.unite forest.unite_all roots_below groups_of joins graph.range
 example_fragments = ap (λ (f : forest.Forest). groups_of (forest.unite_all f (joins_of lever_and_repeater from_lever fragment_kinds)) 2) single_places_lem
 
-example_prints : report_of lever_and_repeater from_lever [] ≡ report_text
-unfolding count_below first_from tabulate place_below smaller_ids digits_then field_lines opposite face_or neither repeater_ports ports_for serves select_port transfer_of facing_between slope_between ports_between rows_below sloped_below graph.range graph.filter graph.each graph.next walk.visit walk.order walk.paint walk.label walk.labels walk.reached signals source_kind first_at is_on_frontier is_cyclic holds_drive fed_from_outside neighbours is_inferred members_where drive potential fed_by status_of port_rows verdict_rows sources_at source_rows_below is_immediate upstream is_inferred_for all_rows spaced member_id ids_below port_lines verdict_lines report_of
+example_prints : report_of 1 lever_and_repeater from_lever [] ≡ report_text
+unfolding count_below first_from tabulate place_below smaller_ids digits_then field_lines opposite face_or neither repeater_ports ports_by_facing ports_for serves select_port transfer_of facing_between slope_between ports_between rows_below sloped_below graph.range graph.filter graph.each graph.next walk.visit walk.order walk.paint walk.label walk.labels walk.reached signals source_kind first_at is_on_frontier is_cyclic holds_drive fed_from_outside neighbours is_inferred members_where drive potential fed_by status_of port_rows verdict_rows sources_at source_rows_below is_immediate upstream is_inferred_for all_rows spaced member_id ids_below port_lines verdict_lines report_of
 example_prints = simp (example_nets, example_fragments)
 
 -- `connections=` counts those kept
-example_drops : report_of lever_and_repeater and_support [] ≡ report_text
+example_drops : report_of 1 lever_and_repeater and_support [] ≡ report_text
 example_drops = dropped_uncounted ∙ example_prints
 
 lists_accepted : sheet_refusal 1 lever_and_repeater from_lever [] ≡ Ok tt
@@ -90,8 +90,8 @@ pub example_printed : (components components' connections connections' frontiers
 example_printed components components' connections connections' frontiers frontiers' out out' r a b c d left =
     (left.printed.answer ∙ ap₂ answer_by accepted text, left.printed.left ∙ ap₂ (λ (checks : Result ⊤ Refusal) (t : List ℕ). left_of checks t out) accepted text)
   where
-    text : report_of (components_of (program_parse sheet_text)) (connections_of (program_parse sheet_text)) (frontiers_of (program_parse sheet_text)) ≡ report_text
-    text = ap (λ (p : Parsed). report_of (components_of p) (connections_of p) (frontiers_of p)) example_reads ∙ example_prints
+    text : report_of (rules_of (program_parse sheet_text)) (components_of (program_parse sheet_text)) (connections_of (program_parse sheet_text)) (frontiers_of (program_parse sheet_text)) ≡ report_text
+    text = ap (λ (p : Parsed). report_of (rules_of p) (components_of p) (connections_of p) (frontiers_of p)) example_reads ∙ example_prints
 
     accepted : report_checked (program_parse sheet_text) (length components) (length connections) (length frontiers) (length out) ≡ Ok tt
     accepted = rw (example_reads, a, b, c, d, example_accepts)

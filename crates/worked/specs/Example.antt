@@ -49,5 +49,5 @@ pub record Example : Type 0 where
   pub short_reads : program_parse short_text ≡ Sheet Short 1 lever_and_repeater from_lever []
   pub accepts : report_checked (Sheet Old 1 lever_and_repeater from_lever []) 2048 3072 768 65536 ≡ Ok tt
   pub short_accepts : report_checked (Sheet Short 1 lever_and_repeater from_lever []) 2048 3072 768 65536 ≡ Ok tt
-  pub prints : report_of lever_and_repeater from_lever [] ≡ report_text
-  pub drops : report_of lever_and_repeater and_support [] ≡ report_text
+  pub prints : report_of 1 lever_and_repeater from_lever [] ≡ report_text
+  pub drops : report_of 1 lever_and_repeater and_support [] ≡ report_text

@@ -29,7 +29,7 @@ cleared_behind = along ++ feed 2 9 0
 
 -- what the checks of the liveness entries say, as one number: the refusal's number, then its list, then its item
 abbrev pub says : List ℤ → ℕ
-says ps = packed (liveness_lists row ps [] true)
+says ps = packed (liveness_lists 1 row ps [] true)
 
 pub record StraightRow : Type 0 where
   pub accepted : says along ≡ 0

@@ -4,3 +4,4 @@ pub mod Founding
 pub mod Lighting
 pub mod Staircase
 pub mod Example
+pub mod LaterRules

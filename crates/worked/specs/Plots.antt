@@ -4,7 +4,7 @@
 --     expected        what document 01 says, in the same order
 --     Worked          they agree
 -- "Ids are as named; unspecified fields 0." W2 is a scene of the grouping entry, W4 one of the ports entry; W6 to W12 are scenes of the liveness
--- entry, whose port connections have transfer 0.
+-- entry, whose port connections have transfer 0. All are under rules 1; LaterRules.antt has some under 2 and 3.
 -- Assumes nothing: these are definitions.
 use Rattle.std.specs.Prelude.{Option, Some, None}
 use Rattle.std.specs.Prelude.{ℕ, ◌/◌, ◌≡◌, true, false, List, [], ◌∷◌, ◌++◌, map, eqb, length, get_or, ℤ, pos, negsuc}
@@ -60,10 +60,10 @@ Answers = List (List ℕ)
 
 -- 0: the checks of the grouping and the ports entry accept the lists, and those of the liveness entry, given slices that are long enough
 abbrev pub grouping_checks : List ℤ → List ℤ → List ℕ
-grouping_checks cs ps = packed (grouping_lists cs ps [] true) ∷ []
+grouping_checks cs ps = packed (grouping_lists 1 cs ps [] true) ∷ []
 
 abbrev pub liveness_checks : List ℤ → List ℤ → List ℤ → List ℕ
-liveness_checks cs ps fs = packed (liveness_lists cs ps fs true) ∷ []
+liveness_checks cs ps fs = packed (liveness_lists 1 cs ps fs true) ∷ []
 
 -- the ids of the components that have a number, given the number of each
 abbrev pub ids_of : List ℤ → List ℕ → ℕ → List ℕ
@@ -96,9 +96,9 @@ abbrev pub w1 : Answers
 w1 =
     grouping_checks [] []
     ∷ liveness_checks [] [] []
-    ∷ (component_count [] ∷ net_count [] [] ∷ fragment_count [] [] ∷ kept_count [] [] ∷ region_count [] []
-    ∷ length (source_rows [] [] []) / 2 ∷ length (input_rows [] [] []) / 3 ∷ [])
-    ∷ report_of [] [] []
+    ∷ (component_count [] ∷ net_count [] [] ∷ fragment_count [] [] ∷ kept_count 1 [] [] ∷ region_count [] []
+    ∷ length (source_rows 1 [] [] []) / 2 ∷ length (input_rows 1 [] [] []) / 3 ∷ [])
+    ∷ report_of 1 [] [] []
     ∷ []
 
 -- W2 ids 0, 1, 2 listed so, Dust 2 to 0: nets {1}, {0,2}
@@ -120,19 +120,19 @@ east_torch =
 
 abbrev pub w4 : Answers
 w4 =
-    port_number (select_port (ports_for 3 0 2 0) 2 false 0)
-    ∷ port_number (select_port (ports_for 3 0 2 0) 2 true 0)
+    port_number (select_port (ports_for 1 3 0 2 0) 2 false 0)
+    ∷ port_number (select_port (ports_for 1 3 0 2 0) 2 true 0)
     ∷ grouping_checks east_torch (dust 1 2 ++ dust 2 1)
-    ∷ sloped_rows east_torch (dust 1 2 ++ dust 2 1)
+    ∷ sloped_rows 1 east_torch (dust 1 2 ++ dust 2 1)
     ∷ []
 
 -- W5 Repeater facing Up (5): Up, Down, four Controls, Support 6
 abbrev pub w5 : Answers
-w5 = map row_of (ports_for 1 5 0 0)
+w5 = map row_of (ports_for 1 1 5 0 0)
 
 -- W6 lone wire: inferred, not cyclic
 abbrev pub w6 : Answers
-w6 = liveness_checks (wire 0) [] [] ∷ cyclic (wire 0) [] ∷ source_rows (wire 0) [] [] ∷ []
+w6 = liveness_checks (wire 0) [] [] ∷ cyclic (wire 0) [] ∷ source_rows 1 (wire 0) [] [] ∷ []
 
 -- W7 wires 1 to 2 to 3 to 1: one cyclic region, none inferred
 abbrev pub ring : List ℤ
@@ -142,19 +142,19 @@ abbrev pub wires : List ℤ
 wires = wire 1 ++ wire 2 ++ wire 3
 
 abbrev pub w7 : Answers
-w7 = liveness_checks wires ring [] ∷ cyclic wires ring ∷ source_rows wires ring [] ∷ regions wires ring
+w7 = liveness_checks wires ring [] ∷ cyclic wires ring ∷ source_rows 1 wires ring [] ∷ regions wires ring
 
 -- W8 wire 1 to Repeater 2 port 1: status 1
 abbrev pub w8 : Answers
-w8 = liveness_checks (wire 1 ++ repeater 2) (feed 1 2 1) [] ∷ input_rows (wire 1 ++ repeater 2) (feed 1 2 1) [] ∷ []
+w8 = liveness_checks (wire 1 ++ repeater 2) (feed 1 2 1) [] ∷ input_rows 1 (wire 1 ++ repeater 2) (feed 1 2 1) [] ∷ []
 
 -- W9 Lamp 1 to wire 2: 2 not inferred; Solid instead: inferred
 abbrev pub w9 : Answers
 w9 =
     liveness_checks (lamp 1 ++ wire 2) (feed 1 2 0) []
-    ∷ source_rows (lamp 1 ++ wire 2) (feed 1 2 0) []
+    ∷ source_rows 1 (lamp 1 ++ wire 2) (feed 1 2 0) []
     ∷ liveness_checks (solid 1 ++ wire 2) (feed 1 2 0) []
-    ∷ source_rows (solid 1 ++ wire 2) (feed 1 2 0) []
+    ∷ source_rows 1 (solid 1 ++ wire 2) (feed 1 2 0) []
     ∷ []
 
 -- W10 2 to 1: region 0 is {2}
@@ -166,14 +166,14 @@ abbrev pub origin : List ℤ
 origin = pos 0 ∷ pos 0 ∷ pos 0 ∷ []
 
 abbrev pub w11 : Answers
-w11 = liveness_checks (lever 0) [] origin ∷ source_rows (lever 0) [] origin ∷ []
+w11 = liveness_checks (lever 0) [] origin ∷ source_rows 1 (lever 0) [] origin ∷ []
 
 -- W12 Repeaters 1 and 2 feeding each other's port 1: status 3 twice
 abbrev pub pair : List ℤ
 pair = repeater 1 ++ repeater 2
 
 abbrev pub w12 : Answers
-w12 = liveness_checks pair (feed 1 2 1 ++ feed 2 1 1) [] ∷ input_rows pair (feed 1 2 1 ++ feed 2 1 1) [] ∷ []
+w12 = liveness_checks pair (feed 1 2 1 ++ feed 2 1 1) [] ∷ input_rows 1 pair (feed 1 2 1 ++ feed 2 1 1) [] ∷ []
 
 -- ---- the list
 

@@ -38,7 +38,7 @@ pub record Climbs : Type 0 where
   pub out_of_range_level : slope_between (pos 0) (pos 30000000) (pos 0) (pos 0) (pos 30000001) (pos 0) ≡ 0
   -- source, source port, sink, sink port, transfer, slope
   pub rows :
-      sloped_rows up_and_down both_ways
+      sloped_rows 1 up_and_down both_ways
       ≡ 1 ∷ 1 ∷ 2 ∷ 3 ∷ 0 ∷ 1
       ∷ 2 ∷ 3 ∷ 1 ∷ 1 ∷ 0 ∷ 2
       ∷ 2 ∷ 1 ∷ 3 ∷ 3 ∷ 0 ∷ 0
@@ -47,7 +47,7 @@ pub record Climbs : Type 0 where
       ∷ 4 ∷ 3 ∷ 3 ∷ 1 ∷ 0 ∷ 1 ∷ []
   -- and without the slope
   pub kept :
-      kept_rows up_and_down both_ways
+      kept_rows 1 up_and_down both_ways
       ≡ 1 ∷ 1 ∷ 2 ∷ 3 ∷ 0
       ∷ 2 ∷ 3 ∷ 1 ∷ 1 ∷ 0
       ∷ 2 ∷ 1 ∷ 3 ∷ 3 ∷ 0

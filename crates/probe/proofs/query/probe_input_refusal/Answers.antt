@@ -2,6 +2,7 @@
 -- Assumes nothing.
 use Rattle.std.specs.Prelude.{⊤, Result}
 use Rattle.lists.specs.declared.Refusal.{Refusal}
+use mir.Facts.{to_z-of_z}
 use mathlib.Core.Path.{sym, ap, ◌∙◌, subst}
 use Rattle.lists.specs.Rules.{rules_of}
 use Rattle.checks.specs.Refusals.{Small, packed}
@@ -11,15 +12,18 @@ use Rattle.probe.proofs.query.probe_input_refusal.Goals as goal
 pub pack_refusal-requires : goal.pack_refusal-requires
 pack_refusal-requires c =
     let a = c.args in
-    let refused = rw c.in-Err.is at c.required_input.ensures.by.answer in
+    let said = rw (to_z-of_z c.ranges.rules) at c.required_input.ensures in
+    let refused = rw c.in-Err.is at said.by.answer in
     subst (λ (x : Result ⊤ Refusal). Small x) (sym refused) (input_small (rules_of a.rules) a.components.now a.ports.now a.frontiers.now a.id a.port _)
 
 pub returns-in-Ok : goal.returns-in-Ok
 returns-in-Ok c =
-    let accepted = rw c.in-Ok.is at c.required_input.ensures.by.answer in
-    record { value = ap packed accepted; stack_after = c.required_input.ensures.by.stack_left }
+    let said = rw (to_z-of_z c.ranges.rules) at c.required_input.ensures in
+    let accepted = rw c.in-Ok.is at said.by.answer in
+    record { value = ap packed accepted; stack_after = said.by.stack_left }
 
 pub returns-in-Err : goal.returns-in-Err
 returns-in-Err c =
-    let refused = rw c.in-Err.is at c.required_input.ensures.by.answer in
-    record { value = c.pack_refusal.ensures ∙ ap packed refused; stack_after = c.required_input.ensures.by.stack_left }
+    let said = rw (to_z-of_z c.ranges.rules) at c.required_input.ensures in
+    let refused = rw c.in-Err.is at said.by.answer in
+    record { value = c.pack_refusal.ensures ∙ ap packed refused; stack_after = said.by.stack_left }

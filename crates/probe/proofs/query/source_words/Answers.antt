@@ -6,6 +6,7 @@ use mathlib.Core.Path.{◌≡◌, refl, ◌∙◌}
 use mathlib.Core.Bool.{Bool, true, false, ◌&&◌}
 use mathlib.Core.List.{List}
 use Prim.Native.Nat.{ℕ}
+use mir.Facts.{to_z-of_z}
 use lib.Dec.{ltb}
 use lib.IntN.{ℤ}
 use Rattle.lists.specs.Records.{component_count}
@@ -38,11 +39,13 @@ module _ {checks : Result ⊤ Refusal} {rules : ℕ} {cs ps fs : List ℤ} {plac
 pub returns-clause-immediate : goal.returns-clause-immediate
 returns-clause-immediate c h =
     let a = c.args in
-    let sets = sets_or (c.none.ensures (rules_of a.rules) a.components.now a.ports.now a.frontiers.now a.port) c.required_input-answer.result c.required_input-answer.ensures.by in
+    let sets = sets_or (c.none.ensures (rules_of a.rules) a.components.now a.ports.now a.frontiers.now a.port) c.required_input-answer.result
+    (rw (to_z-of_z c.ranges.rules) at c.required_input-answer.ensures).by in
     record { words = _; set = rw c.unwrap_or-found.ensures sets.0; word = refl }
 
 pub returns-clause-inferred : goal.returns-clause-inferred
 returns-clause-inferred c h =
     let a = c.args in
-    let sets = sets_or (c.none.ensures (rules_of a.rules) a.components.now a.ports.now a.frontiers.now a.port) c.required_input-answer.result c.required_input-answer.ensures.by in
+    let sets = sets_or (c.none.ensures (rules_of a.rules) a.components.now a.ports.now a.frontiers.now a.port) c.required_input-answer.result
+    (rw (to_z-of_z c.ranges.rules) at c.required_input-answer.ensures).by in
     record { words = _; set = rw c.unwrap_or-found.ensures sets.1; word = refl }
