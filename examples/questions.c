@@ -2,7 +2,8 @@
  * The questions of one plot, in C: whether one input is driven, the way to it,
  * the regions in lighting order, and who reaches whom. The lists are numbers as
  * the host has them. Each slice lent has a number more than is asked for, dirty,
- * and each answer is held to what it must be.
+ * and each answer is held to what it must be, the same by the rules of either
+ * year.
  *
  *     cc -std=c99 -I include -o questions examples/questions.c target/staticlib/libcapi.a
  */
@@ -12,6 +13,8 @@
 #include "dustroute.h"
 
 #define FILLING 0xa5
+
+static int64_t rules;
 
 static int faults;
 
@@ -49,17 +52,17 @@ static void one_input(void)
     memset(work, FILLING, sizeof work);
     const uint64_t dirty = met[MET];
     uint64_t answer = dustroute_driven(
-        lever_and_repeater, 16, fed, 5, fed, 0, 2, 1, met, MET - 1, work, WORK + 1);
+        rules, lever_and_repeater, 16, fed, 5, fed, 0, 2, 1, met, MET - 1, work, WORK + 1);
     hold(DUSTROUTE_NUMBER(answer) == 2 && DUSTROUTE_LIST(answer) == 3, "2: no room for the set");
     answer = dustroute_driven(
-        lever_and_repeater, 16, fed, 5, fed, 0, 2, 1, met, MET + 1, work, WORK - 1);
+        rules, lever_and_repeater, 16, fed, 5, fed, 0, 2, 1, met, MET + 1, work, WORK - 1);
     hold(DUSTROUTE_NUMBER(answer) == 2 && DUSTROUTE_LIST(answer) == 3, "2: no room for the stack");
     answer = dustroute_driven(
-        lever_and_repeater, 16, fed, 5, fed, 0, 1, 1, met, MET + 1, work, WORK + 1);
+        rules, lever_and_repeater, 16, fed, 5, fed, 0, 1, 1, met, MET + 1, work, WORK + 1);
     hold(DUSTROUTE_NUMBER(answer) == 8 && DUSTROUTE_LIST(answer) == 3, "8: a lever has no verdict");
     hold(met[0] == dirty && met[MET - 1] == dirty && work[0] == (size_t)dirty, "nothing written");
     answer = dustroute_driven(
-        lever_and_repeater, 16, fed, 5, fed, 0, 2, 1, met, MET + 1, work, WORK + 1);
+        rules, lever_and_repeater, 16, fed, 5, fed, 0, 2, 1, met, MET + 1, work, WORK + 1);
     hold(DUSTROUTE_ACCEPTED(answer) && DUSTROUTE_COUNT(answer, 0) == 1, "the repeater is driven");
     hold(met[0] == 1 && met[MET - 1] == 0 && met[MET] == dirty, "the lever was met");
     for (size_t k = 0; k <= WORK; k++)
@@ -80,20 +83,20 @@ static void the_way(void)
     uint64_t way[5];
     memset(way, FILLING, sizeof way);
     const uint64_t dirty = way[4];
-    uint64_t answer = dustroute_trail(plot, 32, fed, 10, fed, 0, 2, 1, way, 3);
+    uint64_t answer = dustroute_trail(rules, plot, 32, fed, 10, fed, 0, 2, 1, way, 3);
     hold(DUSTROUTE_NUMBER(answer) == 2 && DUSTROUTE_LIST(answer) == 3, "2: no room for the trail");
-    answer = dustroute_trail(plot, 32, fed, 5, fed, 0, 2, 1, way, 5);
+    answer = dustroute_trail(rules, plot, 32, fed, 5, fed, 0, 2, 1, way, 5);
     hold(DUSTROUTE_NUMBER(answer) == 10 && DUSTROUTE_LIST(answer) == 3, "10: not driven");
     hold(way[0] == dirty && way[4] == dirty, "no trail written");
-    answer = dustroute_trail(plot, 32, fed, 10, fed, 0, 2, 1, way, 5);
+    answer = dustroute_trail(rules, plot, 32, fed, 10, fed, 0, 2, 1, way, 5);
     hold(DUSTROUTE_ACCEPTED(answer) && DUSTROUTE_COUNT(answer, 0) == 2, "two blocks lead there");
     hold(way[0] == 5 && way[1] == 9 && way[2] == dirty, "from the second lever");
-    answer = dustroute_check_trail(plot, 32, fed, 10, fed, 0, 2, 1, way, 2);
+    answer = dustroute_check_trail(rules, plot, 32, fed, 10, fed, 0, 2, 1, way, 2);
     hold(DUSTROUTE_ACCEPTED(answer) && DUSTROUTE_COUNT(answer, 0) == 1, "which is a way");
     way[0] = 7;
-    answer = dustroute_check_trail(plot, 32, fed, 10, fed, 0, 2, 1, way, 2);
+    answer = dustroute_check_trail(rules, plot, 32, fed, 10, fed, 0, 2, 1, way, 2);
     hold(DUSTROUTE_ACCEPTED(answer) && DUSTROUTE_COUNT(answer, 0) == 0, "from the first lever is none");
-    answer = dustroute_check_trail(plot, 32, fed, 10, fed, 0, 7, 1, way, 2);
+    answer = dustroute_check_trail(rules, plot, 32, fed, 10, fed, 0, 7, 1, way, 2);
     hold(DUSTROUTE_NUMBER(answer) == 8, "8: a lever has no verdict");
 }
 
@@ -116,17 +119,17 @@ static void two_levers(void)
     memset(work, FILLING, sizeof work);
     const uint64_t dirty = lit[SET];
     uint64_t answer = dustroute_light(
-        lamp_between, 24, fed, 10, fed, 0, region, COUNT + 1, lit, SET - 1, driven, SET + 1, work, WORK + 1);
+        rules, lamp_between, 24, fed, 10, fed, 0, region, COUNT + 1, lit, SET - 1, driven, SET + 1, work, WORK + 1);
     hold(DUSTROUTE_NUMBER(answer) == 2 && DUSTROUTE_LIST(answer) == 3, "2: no room for the lit regions");
     answer = dustroute_light(
-        lamp_between, 24, fed, 10, fed, 0, region, COUNT + 1, lit, SET + 1, driven, SET - 1, work, WORK + 1);
+        rules, lamp_between, 24, fed, 10, fed, 0, region, COUNT + 1, lit, SET + 1, driven, SET - 1, work, WORK + 1);
     hold(DUSTROUTE_NUMBER(answer) == 2 && DUSTROUTE_LIST(answer) == 3, "2: no room for what is driven");
     answer = dustroute_light(
-        lamp_between, 24, fed, 10, fed, 0, region, COUNT - 1, lit, SET + 1, driven, SET + 1, work, WORK + 1);
+        rules, lamp_between, 24, fed, 10, fed, 0, region, COUNT - 1, lit, SET + 1, driven, SET + 1, work, WORK + 1);
     hold(DUSTROUTE_NUMBER(answer) == 2 && DUSTROUTE_LIST(answer) == 3, "2: no room for the regions");
     hold(region[0] == dirty && lit[0] == dirty && driven[0] == dirty && work[0] == (size_t)dirty, "nothing lit");
     answer = dustroute_light(
-        lamp_between, 24, fed, 10, fed, 0, region, COUNT + 1, lit, SET + 1, driven, SET + 1, work, WORK + 1);
+        rules, lamp_between, 24, fed, 10, fed, 0, region, COUNT + 1, lit, SET + 1, driven, SET + 1, work, WORK + 1);
     hold(DUSTROUTE_ACCEPTED(answer) && DUSTROUTE_COUNT(answer, 0) == COUNT, "three regions");
     hold(region[0] + region[2] == 1 && region[1] == 2 && region[3] == dirty, "the lamp is the last to light");
     hold(lit[0] == 7 && lit[SET - 1] == 0 && lit[SET] == dirty, "every region is lit");
@@ -156,11 +159,11 @@ static void reach_table(void)
     memset(work, FILLING, sizeof work);
     const uint64_t dirty = region[SIDE];
     uint64_t answer = dustroute_reach_table(
-        row, 24, fed, 15, fed, 0, square, SQUARE - 1, region, SIDE + 1, work, WORK + 1);
+        rules, row, 24, fed, 15, fed, 0, square, SQUARE - 1, region, SIDE + 1, work, WORK + 1);
     hold(DUSTROUTE_NUMBER(answer) == 2 && DUSTROUTE_LIST(answer) == 3, "2: no room for the square");
     hold(is_filled(square, 0, sizeof square, FILLING) && region[0] == dirty, "nothing written");
     answer = dustroute_reach_table(
-        row, 24, fed, 15, fed, 0, square, SQUARE + 1, region, SIDE + 1, work, WORK + 1);
+        rules, row, 24, fed, 15, fed, 0, square, SQUARE + 1, region, SIDE + 1, work, WORK + 1);
     hold(DUSTROUTE_ACCEPTED(answer) && DUSTROUTE_COUNT(answer, 0) == 2, "two regions of a table");
     hold(memcmp(square, reached, SQUARE) == 0, "the wires have equal rows");
     hold(square[SQUARE] == FILLING, "rest of the square");
@@ -172,10 +175,12 @@ static void reach_table(void)
 int main(void)
 {
     setvbuf(stdout, NULL, _IONBF, 0);
-    one_input();
-    the_way();
-    two_levers();
-    reach_table();
+    for (rules = 1; rules <= 2; rules++) {
+        one_input();
+        the_way();
+        two_levers();
+        reach_table();
+    }
     if (faults == 0)
         printf("all answers are as they must be\n");
     return faults != 0;

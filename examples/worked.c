@@ -1,7 +1,8 @@
 /*
  * A host in C: a lever at the origin, and a repeater beside it that faces East
  * and that it feeds. Marks the plot by both entries and holds the answers to
- * what they must be, on that plot, on damaged copies and on a full plot.
+ * what they must be, on that plot, on damaged copies and on a full plot; by the
+ * rules of either year, which no plot here tells apart (examples/rules.c does).
  *
  *     cc -std=c99 -I include -o worked examples/worked.c target/staticlib/libcapi.a
  *
@@ -17,6 +18,8 @@
 #include "dustroute.h"
 
 #define FILLING 0xa5
+
+static int64_t rules;
 
 /* Lists, as bytes, with a record more than there may be. */
 static uint8_t components[(DUSTROUTE_COMPONENTS + 1) * DUSTROUTE_COMPONENT_BYTES];
@@ -99,7 +102,7 @@ static uint64_t grouped(size_t components_len, size_t connections_len)
 {
     fill();
     return dustroute_groups(
-        components, components_len, connections, connections_len,
+        rules, components, components_len, connections, connections_len,
         nets, sizeof nets, fragments, sizeof fragments);
 }
 
@@ -107,7 +110,7 @@ static uint64_t analyzed(size_t components_len, size_t ports_len, size_t frontie
 {
     fill();
     return dustroute_liveness(
-        components, components_len, ports, ports_len, frontiers, frontiers_len,
+        rules, components, components_len, ports, ports_len, frontiers, frontiers_len,
         regions, sizeof regions, sources, sizeof sources, inputs, sizeof inputs,
         sets, sizeof sets, stack, stack_len);
 }
@@ -202,12 +205,12 @@ static void cleared_up(void)
     const size_t length = put_all(components, row, 24);
     uint64_t answer = analyzed(length, put_all(ports, saved, 15), 0, sizeof stack);
     hold(is_refusal(answer, 7, 1, 2), "7: block 9 is gone");
-    answer = dustroute_clear(row, 24, saved, 15, row, 0, kept, KEPT - 1, dropped, DROPPED + 1);
+    answer = dustroute_clear(rules, row, 24, saved, 15, row, 0, kept, KEPT - 1, dropped, DROPPED + 1);
     hold(answer == (2 | 3 << 8), "2: no room for the kept");
-    answer = dustroute_clear(row, 24, saved, 15, row, 0, kept, KEPT + 1, dropped, DROPPED - 1);
+    answer = dustroute_clear(rules, row, 24, saved, 15, row, 0, kept, KEPT + 1, dropped, DROPPED - 1);
     hold(answer == (2 | 3 << 8), "2: no room for the dropped");
     hold(kept[0] == dirty && dropped[0] == (uint64_t)dirty, "nothing written");
-    answer = dustroute_clear(row, 24, saved, 15, row, 0, kept, KEPT + 1, dropped, DROPPED + 1);
+    answer = dustroute_clear(rules, row, 24, saved, 15, row, 0, kept, KEPT + 1, dropped, DROPPED + 1);
     hold(DUSTROUTE_ACCEPTED(answer), "cleared");
     hold(DUSTROUTE_COUNT(answer, 0) == 2 && DUSTROUTE_COUNT(answer, 1) == 1, "two kept, one dropped");
     hold(memcmp(kept, saved, 10 * sizeof *kept) == 0 && kept[10] == dirty, "the kept as they were");
@@ -233,12 +236,12 @@ static void up_and_down(void)
     int64_t row[ROWS + 1];
     memset(row, FILLING, sizeof row);
     const int64_t dirty = row[ROWS];
-    uint64_t answer = dustroute_ports(wires, 24, joined, 12, row, ROWS - 1);
+    uint64_t answer = dustroute_ports(rules, wires, 24, joined, 12, row, ROWS - 1);
     hold(answer == (2 | 3 << 8) && row[0] == dirty, "2: no room for the rows");
     const int64_t twice[] = {1, 2, 1, 1, 2, 1};
-    answer = dustroute_ports(wires, 24, twice, 6, row, ROWS + 1);
+    answer = dustroute_ports(rules, wires, 24, twice, 6, row, ROWS + 1);
     hold(answer == (6 | 1 << 8 | 1 << 16) && row[0] == dirty, "6: a connection twice");
-    answer = dustroute_ports(wires, 24, joined, 12, row, ROWS + 1);
+    answer = dustroute_ports(rules, wires, 24, joined, 12, row, ROWS + 1);
     hold(DUSTROUTE_ACCEPTED(answer) && DUSTROUTE_COUNT(answer, 0) == 3, "three connections kept");
     hold(memcmp(row, wanted, sizeof wanted) == 0, "up, down and down");
     for (size_t k = 18; k <= ROWS; k++)
@@ -318,7 +321,7 @@ static void hold_on_the_heap(uint64_t count, const int64_t *list, unsigned input
         lent(NULL, DUSTROUTE_FRAGMENTS_BYTES(count)),
     };
     uint64_t answer = dustroute_liveness(
-        slices[0], length, slices[1], fed_length, slices[2], 0,
+        rules, slices[0], length, slices[1], fed_length, slices[2], 0,
         slices[3], DUSTROUTE_REGIONS_BYTES(count),
         slices[4], DUSTROUTE_SOURCES_BYTES(count),
         slices[5], DUSTROUTE_INPUTS_BYTES(count),
@@ -328,7 +331,7 @@ static void hold_on_the_heap(uint64_t count, const int64_t *list, unsigned input
     const uint64_t region = get(slices[3], 0);
     hold(get(slices[6], 48 + region / 64) >> region % 64 & 1, "the lever's region on the heap");
     answer = dustroute_groups(
-        slices[0], length, slices[2], 0,
+        rules, slices[0], length, slices[2], 0,
         slices[8], DUSTROUTE_NETS_BYTES(count),
         slices[9], DUSTROUTE_FRAGMENTS_BYTES(count));
     hold(DUSTROUTE_ACCEPTED(answer) && DUSTROUTE_COUNT(answer, 0) == count, "groups on the heap");
@@ -355,16 +358,17 @@ int main(int count, char **arguments)
 {
     (void)arguments;
     setvbuf(stdout, NULL, _IONBF, 0);
-    if (count > 1) {
-        on_the_heap();
-    } else {
-        worked_groups();
-        worked_liveness();
-        refusals();
-        cleared_up();
-        up_and_down();
-        full_plot();
-    }
+    for (rules = 1; rules <= 2; rules++)
+        if (count > 1) {
+            on_the_heap();
+        } else {
+            worked_groups();
+            worked_liveness();
+            refusals();
+            cleared_up();
+            up_and_down();
+            full_plot();
+        }
     if (faults == 0)
         printf("all answers are as they must be\n");
     return faults != 0;

@@ -7,6 +7,19 @@
  * nothing but memcpy and memset. examples/worked.c is a whole host.
  *
  *
+ * RULES
+ *
+ * Every entry takes first the number of the rules by which a plot is marked:
+ *
+ *     1   those of the first school year, and of a sheet that names none: a wire
+ *         that only a RedstoneLamp feeds is no inferred input
+ *     2   lamps are passive, as a Solid is, where external feeds of a region are
+ *         sought: a wire that only a RedstoneLamp feeds may be an inferred input
+ *
+ * Only the answer of dustroute_liveness depends on it, and only in source rows of
+ * kind 3, in the second set, and between the statuses 1 and 3.
+ *
+ *
  * LISTS
  *
  * Every list and every answer is lent as bytes, eight to a number, lowest
@@ -51,7 +64,8 @@
  * its number in the eight lowest bits, the list in the next eight (0
  * components, 1 connections or ports, 2 frontiers, 3 none), and the item, from
  * 0, above these. The lowest number that applies is given, at its earliest
- * item, components before connections before frontiers.
+ * item, components before connections before frontiers; but 11 comes before all
+ * others.
  *
  *     1   a list over its limit, or not whole records; the item is the smaller
  *         of the limit and the count of whole records
@@ -65,6 +79,7 @@
  *         (dustroute_clear drops such connections)
  *     8   the port asked for has no verdict row; list 3, item 0
  *     10  the row's status is not 0; list 3, item 0
+ *     11  a number of rules other than 1 and 2; list 3, item 0
  *
  * 6 is of dustroute_groups and dustroute_ports alone, 7 of the others but
  * dustroute_clear; 8 is of dustroute_driven, dustroute_trail and
@@ -160,6 +175,24 @@ extern "C" {
 #endif
 
 /*
+ * The number of the interface, raised when arguments, sizes or meanings change.
+ * Each file that includes this header refers to the function, which a stale
+ * archive has not, so that it does not link. Without gcc or clang, or where they
+ * know no `retain` and unused sections are dropped, call it once instead.
+ */
+#define DUSTROUTE_INTERFACE 2
+uint64_t dustroute_interface_2(void);
+#if defined(__GNUC__)
+#if defined(__has_attribute)
+#if __has_attribute(retain)
+__attribute__((retain))
+#endif
+#endif
+__attribute__((used))
+static uint64_t (*const dustroute_interface_linked)(void) = dustroute_interface_2;
+#endif
+
+/*
  * The number of each component's net and fragment, in list order, one number
  * each. Nets join by kinds 0 to 4, fragments by kinds 0 to 8, either way. Both
  * are numbered from 0 without a gap.
@@ -167,6 +200,7 @@ extern "C" {
  * Counts: nets, fragments.
  */
 uint64_t dustroute_groups(
+    int64_t rules,
     const uint8_t *components, size_t components_len,
     const uint8_t *connections, size_t connections_len,
     uint8_t *nets, size_t nets_len,
@@ -186,6 +220,7 @@ uint64_t dustroute_groups(
  * Counts: rows.
  */
 uint64_t dustroute_ports(
+    int64_t rules,
     const int64_t *components, size_t components_len,
     const int64_t *connections, size_t connections_len,
     int64_t *ports, size_t ports_len);
@@ -215,6 +250,7 @@ uint64_t dustroute_ports(
  * Counts: regions, source rows, verdict rows.
  */
 uint64_t dustroute_liveness(
+    int64_t rules,
     const uint8_t *components, size_t components_len,
     const uint8_t *ports, size_t ports_len,
     const uint8_t *frontiers, size_t frontiers_len,
@@ -238,6 +274,7 @@ uint64_t dustroute_liveness(
  * Counts: 1 for yes, 0 for no.
  */
 uint64_t dustroute_driven(
+    int64_t rules,
     const int64_t *components, size_t components_len,
     const int64_t *ports, size_t ports_len,
     const int64_t *frontiers, size_t frontiers_len,
@@ -259,6 +296,7 @@ uint64_t dustroute_driven(
  * Counts: how many ids were written.
  */
 uint64_t dustroute_trail(
+    int64_t rules,
     const int64_t *components, size_t components_len,
     const int64_t *ports, size_t ports_len,
     const int64_t *frontiers, size_t frontiers_len,
@@ -274,6 +312,7 @@ uint64_t dustroute_trail(
  * Counts: 1 for yes, 0 for no.
  */
 uint64_t dustroute_check_trail(
+    int64_t rules,
     const int64_t *components, size_t components_len,
     const int64_t *ports, size_t ports_len,
     const int64_t *frontiers, size_t frontiers_len,
@@ -295,6 +334,7 @@ uint64_t dustroute_check_trail(
  * Counts: ports kept, ports dropped.
  */
 uint64_t dustroute_clear(
+    int64_t rules,
     const int64_t *components, size_t components_len,
     const int64_t *ports, size_t ports_len,
     const int64_t *frontiers, size_t frontiers_len,
@@ -318,6 +358,7 @@ uint64_t dustroute_clear(
  * Counts: regions.
  */
 uint64_t dustroute_light(
+    int64_t rules,
     const int64_t *components, size_t components_len,
     const int64_t *ports, size_t ports_len,
     const int64_t *frontiers, size_t frontiers_len,
@@ -343,6 +384,7 @@ uint64_t dustroute_light(
  * Count: regions.
  */
 uint64_t dustroute_reach_table(
+    int64_t rules,
     const int64_t *components, size_t components_len,
     const int64_t *ports, size_t ports_len,
     const int64_t *frontiers, size_t frontiers_len,

@@ -5,7 +5,7 @@
 --     UpRows                                the rows of what is upstream of each region
 --     Written, Devices, Required, RowLaws   the rows written are those of the document
 --     Ascends                               the source rows ascend
---     RulesLaws                             what the rules number changes
+--     RulesLaws, LampPlot                   what the rules number changes
 pub mod Positions
 pub mod Frontiers
 pub mod UpRows
@@ -19,3 +19,4 @@ pub mod RowLaws
 pub mod Reached
 pub mod Ascends
 pub mod RulesLaws
+pub mod LampPlot

@@ -8,17 +8,18 @@ use Rattle.blocks.specs.declared.Block.{Block}
 use Rattle.tables.specs.Pairs.{span}
 use Rattle.sets.specs.Members.{member_of}
 use Rattle.lines.specs.Text.{ascii}
-use Rattle.blocks.specs.Lines.{component_keys, connection_keys, region_keys, source_keys, input_keys, block}
+use Rattle.blocks.specs.Lines.{component_keys, connection_keys, region_keys, source_keys, input_keys, unread_keys, block}
 
 -- ---- blocks
 
--- by number, from 0; a number past the last one is the verdict rows
+-- by number, from 0; a number past these is the last
 abbrev pub block_numbered : ℕ → Block
 block_numbered zero = Block.Components
 block_numbered (suc zero) = Block.Connections
 block_numbered (suc (suc zero)) = Block.Regions
 block_numbered (suc (suc (suc zero))) = Block.Sources
-block_numbered (suc (suc (suc (suc n)))) = Block.Inputs
+block_numbered (suc (suc (suc (suc zero)))) = Block.Inputs
+block_numbered (suc (suc (suc (suc (suc n))))) = Block.Unread
 
 -- the keys of a block's rows
 abbrev pub block_keys : Block → List (List ℕ)
@@ -27,6 +28,7 @@ block_keys Block.Connections = connection_keys
 block_keys Block.Regions = region_keys
 block_keys Block.Sources = source_keys
 block_keys Block.Inputs = input_keys
+block_keys Block.Unread = unread_keys
 
 -- the key of its count
 abbrev pub count_name : Block → List ℕ
@@ -35,6 +37,7 @@ count_name Block.Connections = ascii "connections"
 count_name Block.Regions = ascii "regions"
 count_name Block.Sources = ascii "sources"
 count_name Block.Inputs = ascii "inputs"
+count_name Block.Unread = ascii "unread"
 
 abbrev pub block_text : Block → List ℕ → List ℕ
 block_text b rows = block (count_name b) (block_keys b) rows

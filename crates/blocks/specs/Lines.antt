@@ -1,6 +1,6 @@
 -- The lines of a report (document 01, "The sheet and the program", its worked example): the keys of each block, and texts as functions of
 -- the numbers that they print. Which numbers these are is said in crate `report`.
---     component_keys, .., input_keys     the keys of the five blocks' rows, in the order in which the blocks are printed
+--     component_keys, .., unread_keys    the keys of the six blocks' rows, in the order in which the blocks are printed
 --     field_key, field_lines           the lines of rows with given keys
 --     block                            a count, and a line for each number of its rows
 --     set_line, input_text               a line of ids; the lines of a verdict row
@@ -28,6 +28,9 @@ source_keys = ascii "id" ∷ ascii "kind" ∷ []
 
 abbrev pub input_keys : List (List ℕ)
 input_keys = ascii "device" ∷ ascii "port" ∷ ascii "status" ∷ []
+
+abbrev pub unread_keys : List (List ℕ)
+unread_keys = ascii "id" ∷ []
 
 -- ---- rows
 

@@ -33,6 +33,8 @@ const SOURCE_KEYS: [&[u8]; 2] = [b"id", b"kind"];
 
 const INPUT_KEYS: [&[u8]; 3] = [b"device", b"port", b"status"];
 
+const UNREAD_KEYS: [&[u8]; 1] = [b"id"];
+
 // The keys of a block's rows.
 fn block_keys(block: Block) -> &'static [&'static [u8]]
     ensures { map (λ k. k.now) result.now ≡ block_keys block }
@@ -43,6 +45,7 @@ fn block_keys(block: Block) -> &'static [&'static [u8]]
         Block::Regions => &REGION_KEYS,
         Block::Sources => &SOURCE_KEYS,
         Block::Inputs => &INPUT_KEYS,
+        Block::Unread => &UNREAD_KEYS,
     }
 }
 
@@ -71,6 +74,7 @@ fn count_key(block: Block) -> &'static [u8]
         Block::Regions => b"regions",
         Block::Sources => b"sources",
         Block::Inputs => b"inputs",
+        Block::Unread => b"unread",
     }
 }
 

@@ -24,9 +24,10 @@ pub enum Block {
     Regions,
     Sources,
     Inputs,
+    Unread,
 }
 
-// By number, from 0, in this order; any number past these is the verdict rows.
+// By number, from 0, in this order; any number past these is the last.
 impl From<u64> for Block {
     ghost from_gives = { λ number block. block ≡ block_numbered number };
 
@@ -36,7 +37,8 @@ impl From<u64> for Block {
             1 => Block::Connections,
             2 => Block::Regions,
             3 => Block::Sources,
-            _ => Block::Inputs,
+            4 => Block::Inputs,
+            _ => Block::Unread,
         }
     }
 }

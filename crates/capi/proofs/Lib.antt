@@ -7,4 +7,5 @@ mod Cleared
 mod LightLaws
 mod ReachTable
 mod KeptLaws
+mod TextLaws
 pub mod Laws

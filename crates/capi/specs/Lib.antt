@@ -7,3 +7,4 @@ pub mod Clear
 pub mod Light
 pub mod ReachTable
 pub mod Kept
+pub mod Texts

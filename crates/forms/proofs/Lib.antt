@@ -18,4 +18,5 @@ pub mod Texts
 pub mod Heads
 pub mod Finding
 pub mod Chain
+pub mod SheetSmall
 mod Examples

@@ -12,7 +12,7 @@ use Rattle.lists.specs.Limits.{component_width, connection_width, frontier_width
 use Rattle.checks.specs.Refusals.{refuse, ◌or_else◌}
 use Rattle.lists.specs.Rules.{rules_limit}
 use Rattle.forms.specs.Sheet.{Parsed, parse}
-use Rattle.sheet.specs.Entry.{components_of, connections_of, frontiers_of}
+use Rattle.sheet.specs.Entry.{rules_of, components_of, connections_of, frontiers_of}
 use Rattle.blocks.specs.Lines.{refusal_lines}
 use Rattle.report.specs.Report.{kept_list, report_of}
 use Rattle.report.specs.Demand.{RegionsPrinted}
@@ -50,9 +50,9 @@ program_checked text room =
     refuse Fault.ListLength None (too_long_sheet text)
     or_else report_checked (parsed_by text) (components * component_width) (connections * connection_width) (frontiers * frontier_width) room
 
--- the report of the lists that were read, where the stages accept
+-- the report of the rules and lists that were read, where the stages accept
 abbrev pub sheet_report : List ℕ → List ℕ
-sheet_report text = let p = parsed_by text in report_of (components_of p) (connections_of p) (frontiers_of p)
+sheet_report text = let p = parsed_by text in report_of (rules_of p) (components_of p) (connections_of p) (frontiers_of p)
 
 -- "A refusal prints `answer=`, `list=`, `item=`."
 abbrev pub printed_by : Result ⊤ Refusal → List ℕ → List ℕ
@@ -64,7 +64,8 @@ printed text = printed_by (program_checked text report_bytes) (sheet_report text
 
 -- demand 3 of the lists that were read, on the numbers that `out` begins with
 abbrev pub RegionsOfSheet : List ℕ → List ℕ → Type 0
-RegionsOfSheet text out = let cs = components_of (parsed_by text) in RegionsPrinted cs (kept_list cs (connections_of (parsed_by text))) out
+RegionsOfSheet text out =
+    let p = parsed_by text in RegionsPrinted (components_of p) (kept_list (rules_of p) (components_of p) (connections_of p)) out
 
 pub record ProgramPrinted (text out out' : List ℕ) (r : Result ℕ Refusal) : Type 0 where
   pub by : PrintedBy (program_checked text (length out)) (sheet_report text) out out' r

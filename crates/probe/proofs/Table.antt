@@ -24,8 +24,8 @@ use Rattle.probe.specs.Places.{IsPlace, count_among}
 
 -- the checks accept the components, and the keys begin with their table, of n ids
 pub record Tabled (cs : List ℤ) (keys : List ℕ) (n : ℕ) : Type 0 where
-  pub accepted : grouping_lists cs [] [] true ≡ Ok tt
-  pub scene : GroupingScene cs [] [] true
+  pub accepted : grouping_lists 1 cs [] [] true ≡ Ok tt
+  pub scene : GroupingScene 1 cs [] [] true
   pub count : n ≡ component_count cs
   pub table : IdTable cs (take n keys)
   pub few : n ≤ length keys
@@ -51,11 +51,11 @@ among : (checked : Result ⊤ Refusal) (cs : List ℤ) (n : ℕ) → count_among
 among (Ok u) cs n e = (refl, cc)
 among (Err refusal) cs n e = cc
 
-pub tabled : {cs : List ℤ} {keys : List ℕ} {r : Option ℕ} {n : ℕ} → r ≡ count_among (grouping_lists cs [] [] true) cs
+pub tabled : {cs : List ℤ} {keys : List ℕ} {r : Option ℕ} {n : ℕ} → r ≡ count_among (grouping_lists 1 cs [] [] true) cs
     → ((n : ℕ) → r ≡ Some n → IdTable cs (take n keys)) → length keys ≡ component_limit → r ≡ Some n → Tabled cs keys n
 tabled {cs} {keys} {r} {n} count table room e =
-    let a = among (grouping_lists cs [] [] true) cs n (sym count ∙ e) in
-    let scene = grouping_accept cs [] [] true a.0 in
+    let a = among (grouping_lists 1 cs [] [] true) cs n (sym count ∙ e) in
+    let scene = grouping_accept 1 cs [] [] true a.0 in
     let few : n ≤ length keys = omega (arith, scene.components.few, a.1) in
     record { accepted = a.0; scene = scene; count = a.1; table = table n e; few = few; long = length-take-le n keys few }
 

@@ -6,7 +6,7 @@ use Rattle.liveness.specs.Sets.{SetWhere, counted}
 use Rattle.inputs.specs.Query.{row_place, input_refusal, at_place}
 
 -- r is word k of the set of the members that pass the test at the component of the port asked for
-pub record WordOf (cs ps fs : List ℤ) (id port stack : ℕ) (test : ℕ → ℕ → Bool) (k r : ℕ) : Type 0 where
+pub record WordOf (rules : ℕ) (cs ps fs : List ℤ) (id port stack : ℕ) (test : ℕ → ℕ → Bool) (k r : ℕ) : Type 0 where
   pub words : List ℕ
-  pub set : SetWhere (counted (input_refusal cs ps fs id port stack) (component_count cs)) (at_place test (row_place cs id port)) words
+  pub set : SetWhere (counted (input_refusal rules cs ps fs id port stack) (component_count cs)) (at_place test (row_place rules cs id port)) words
   pub word : r ≡ get_or words k 0

@@ -1,5 +1,6 @@
 // Ports and steps for the tests from Rust.
 ghost use Rattle.std.specs.Prelude.{◌≡◌, ◌+◌, ◌*◌, length};
+ghost use Rattle.lists.specs.Rules.{rules_of};
 ghost use Rattle.faces.specs.Ports.{ports_for};
 ghost use Rattle.faces.specs.Step.{facing_between, slope_between};
 ghost use Rattle.probe.specs.Ports.{place_code};
@@ -7,26 +8,34 @@ ghost use Rattle.probe.specs.Ports.{place_code};
 use faces::face::Face;
 use faces::ports::{PORTS, port_count, ports_for};
 use faces::step::step_between;
+use lists::rules::rules_of;
 
 #[unsafe(no_mangle)]
-pub extern "C" fn probe_port_count(kind: u64, facing: u64, support: u64, conducts: u64) -> usize
-    ensures { result ≡ length (ports_for kind facing support conducts) }
+pub extern "C" fn probe_port_count(
+    rules: i64,
+    kind: u64,
+    facing: u64,
+    support: u64,
+    conducts: u64,
+) -> usize
+    ensures { result ≡ length (ports_for (rules_of rules) kind facing support conducts) }
 {
-    port_count(kind, facing, support, conducts)
+    port_count(rules_of(rules), kind, facing, support, conducts)
 }
 
 // Role, face and channel of a place as one number, 0 past the last.
 #[unsafe(no_mangle)]
 pub extern "C" fn probe_port(
+    rules: i64,
     kind: u64,
     facing: u64,
     support: u64,
     conducts: u64,
     place: usize,
 ) -> u64
-    ensures { result ≡ place_code (ports_for kind facing support conducts) place }
+    ensures { result ≡ place_code (ports_for (rules_of rules) kind facing support conducts) place }
 {
-    let ports = ports_for(kind, facing, support, conducts);
+    let ports = ports_for(rules_of(rules), kind, facing, support, conducts);
     if PORTS <= place {
         return 0;
     }

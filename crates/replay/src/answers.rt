@@ -4,6 +4,7 @@ use checks::refusals::liveness_lists;
 use circuit::{fragment_nets, from_parts};
 use inputs::{InputSources, required_input};
 use lists::ends::Ends;
+use lists::rules::rules_of;
 use lists::{
     COMPONENT, COMPONENTS, CONNECTION, CONNECTIONS, FRONTIER, FRONTIERS, KEPT, PORT, Refusal,
     list_number,
@@ -13,6 +14,9 @@ use records::{PortRecord, analyze_records};
 use scene::connections::port_connections;
 use sets::ComponentSet;
 use std::array;
+
+// The Rust knows no other rules, so the recorded answers are those under rules 1.
+const RULES: i64 = 1;
 
 // How many source rows and verdict rows the liveness entry asks room for.
 const SOURCES: usize = 2 * COMPONENTS;
@@ -79,6 +83,7 @@ impl Entry {
         let mut stack = [0usize; 2 * COMPONENTS];
         match self {
             Entry::Flat => analyze_signal_liveness(
+                RULES,
                 scene.components,
                 ports,
                 scene.frontiers,
@@ -90,6 +95,7 @@ impl Entry {
             Entry::Records => {
                 let records = records_of(ports);
                 analyze_records(
+                    RULES,
                     scene.components,
                     &records[..CONNECTIONS.min(ports.len() / PORT)],
                     scene.frontiers,
@@ -136,6 +142,7 @@ impl Replay {
         let mut nets = [0u64; COMPONENTS];
         let mut fragments = [0u64; COMPONENTS];
         let grouping = from_parts(
+            RULES,
             scene.components,
             scene.connections,
             &mut nets,
@@ -161,6 +168,7 @@ impl Replay {
         let mut stack = [0usize; 2 * COMPONENTS];
         self.compare(b"input", row);
         let answer = required_input(
+            RULES,
             plot.components,
             plot.ports,
             plot.frontiers,
@@ -199,6 +207,7 @@ impl Replay {
             inputs: [0; INPUTS * 3],
         };
         let _ = liveness_lists(
+            rules_of(RULES),
             scene.components,
             ports,
             scene.frontiers,
@@ -230,7 +239,7 @@ impl Replay {
     // The port connections that are kept of a scene, and its liveness by them.
     fn replay_kept(&mut self, scene: Scene) {
         let mut kept = [0i64; CONNECTIONS * KEPT];
-        let selected = port_connections(scene.components, scene.connections, &mut kept);
+        let selected = port_connections(RULES, scene.components, scene.connections, &mut kept);
         let Ok(count) = selected else {
             self.refuse();
             return;

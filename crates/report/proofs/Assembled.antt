@@ -20,7 +20,7 @@ use Rattle.signals.specs.Regions.{region_count}
 use Rattle.assessment.specs.Verdicts.{source_rows, input_rows}
 use Rattle.liveness.specs.declared.Analysis.{Analysis}
 use Rattle.blocks.specs.Blocks.{block_text}
-use Rattle.report.specs.Report.{all_rows, kept_list, component_rows, region_rows, input_block, report_of}
+use Rattle.report.specs.Report.{all_rows, kept_list, component_rows, region_rows, input_block, unread_ids, unread_block, report_of}
 use Rattle.report.specs.Printing.{component_row_by, region_row_by, inputs_text, whole_text, Gathered, Analyzed}
 use Rattle.report.proofs.Shown.{component_rows_lem, region_rows_lem}
 use Rattle.report.proofs.VerdictText.{rows_lines}
@@ -35,21 +35,24 @@ in_order a b c d e f =
     (append_assoc b (c ++ (d ++ e)) f
     ∙ ap (λ (t : List ℕ). b ++ t) (append_assoc c (d ++ e) f ∙ ap (λ (t : List ℕ). c ++ t) (append_assoc d e f)))
 
-inputs_is : (cs kept fs : List ℤ) → first_repeated cs ≡ None → inputs_text cs kept fs (input_rows cs kept fs) ≡ input_block cs kept fs
-inputs_is cs kept fs once = rw (rows_lines cs kept fs once)
+inputs_is : (rules : ℕ) (cs kept fs : List ℤ) → first_repeated cs ≡ None → inputs_text rules cs kept fs (input_rows rules cs kept fs) ≡ input_block rules cs kept fs
+inputs_is rules cs kept fs once = rw (rows_lines rules cs kept fs once)
 
-pub whole_is : (cs ps fs : List ℤ) → first_repeated cs ≡ None
-    → whole_text cs (kept_list cs ps) fs (component_rows cs ps fs (component_count cs)) (sloped_rows cs ps)
-    (region_rows cs ps fs (region_count cs (kept_list cs ps))) (source_rows cs (kept_list cs ps) fs) (input_rows cs (kept_list cs ps) fs)
-    ≡ report_of cs ps fs
+pub whole_is : (rules : ℕ) (cs ps fs : List ℤ) → first_repeated cs ≡ None
+    → whole_text rules cs (kept_list rules cs ps) fs (component_rows rules cs ps fs (component_count cs)) (sloped_rows rules cs ps)
+    (region_rows rules cs ps fs (region_count cs (kept_list rules cs ps))) (source_rows rules cs (kept_list rules cs ps) fs) (input_rows rules cs (kept_list rules cs ps) fs)
+    (unread_ids rules cs (component_count cs))
+    ≡ report_of rules cs ps fs
 unfolding report_of
-whole_is cs ps fs once =
-    let components = block_text Block.Components (component_rows cs ps fs (component_count cs)) in
-    let kept = block_text Block.Connections (sloped_rows cs ps) in
-    let regions = block_text Block.Regions (region_rows cs ps fs (region_count cs (kept_list cs ps))) in
-    let sources = block_text Block.Sources (source_rows cs (kept_list cs ps) fs) in
-    in_order (line_of (ascii "answer") (pos 0)) components kept regions sources (inputs_text cs (kept_list cs ps) fs (input_rows cs (kept_list cs ps) fs))
-    ∙ ap (λ (t : List ℕ). line_of (ascii "answer") (pos 0) ++ (components ++ (kept ++ (regions ++ (sources ++ t))))) (inputs_is cs (kept_list cs ps) fs once)
+whole_is rules cs ps fs once =
+    let components = block_text Block.Components (component_rows rules cs ps fs (component_count cs)) in
+    let kept = block_text Block.Connections (sloped_rows rules cs ps) in
+    let regions = block_text Block.Regions (region_rows rules cs ps fs (region_count cs (kept_list rules cs ps))) in
+    let sources = block_text Block.Sources (source_rows rules cs (kept_list rules cs ps) fs) in
+    in_order (line_of (ascii "answer") (pos 0)) components kept regions sources
+    (inputs_text rules cs (kept_list rules cs ps) fs (input_rows rules cs (kept_list rules cs ps) fs) ++ unread_block rules cs)
+    ∙ ap (λ (t : List ℕ). line_of (ascii "answer") (pos 0) ++ (components ++ (kept ++ (regions ++ (sources ++ (t ++ unread_block rules cs))))))
+    (inputs_is rules cs (kept_list rules cs ps) fs once)
 
 -- ---- how many numbers
 
@@ -68,30 +71,32 @@ region_pairs cyclic drive n = rows_long (region_row_by cyclic drive) 2 n (λ p. 
 -- ---- by what was left
 
 -- rows that are the same have the same text
-same_text : (cs fs : List ℤ) {kept kept' : List ℤ} {a a' b b' c c' d d' e e' : List ℕ} → kept ≡ kept' → a ≡ a' → b ≡ b' → c ≡ c' → d ≡ d' → e ≡ e'
-    → whole_text cs kept fs a b c d e ≡ whole_text cs kept' fs a' b' c' d' e'
-same_text cs fs k a b c d e = rw (k, a, b, c, d, e)
+same_text : (rules : ℕ) (cs fs : List ℤ) {kept kept' : List ℤ} {a a' b b' c c' d d' e e' f f' : List ℕ}
+    → kept ≡ kept' → a ≡ a' → b ≡ b' → c ≡ c' → d ≡ d' → e ≡ e' → f ≡ f'
+    → whole_text rules cs kept fs a b c d e f ≡ whole_text rules cs kept' fs a' b' c' d' e' f'
+same_text rules cs fs k a b c d e f = rw (k, a, b, c, d, e, f)
 
-components_are : (cs ps fs : List ℤ) {nets fragments slopes regions sources inputs : List ℕ} {r : Analysis}
-    → Gathered cs ps (kept_list cs ps) nets fragments slopes → Analyzed cs (kept_list cs ps) fs regions sources inputs r
-    → all_rows (component_row_by cs nets fragments regions r.drive.words r.potential.words) (component_count cs) ≡ component_rows cs ps fs (component_count cs)
-components_are cs ps fs g a =
+components_are : (rules : ℕ) (cs ps fs : List ℤ) {nets fragments slopes regions sources inputs : List ℕ} {r : Analysis}
+    → Gathered rules cs ps (kept_list rules cs ps) nets fragments slopes → Analyzed rules cs (kept_list rules cs ps) fs regions sources inputs r
+    → all_rows (component_row_by cs nets fragments regions r.drive.words r.potential.words) (component_count cs) ≡ component_rows rules cs ps fs (component_count cs)
+components_are rules cs ps fs g a =
     rw (g.nets_are, g.fragments_are, a.regions_are)
-    (component_rows_lem cs ps fs g.nets_old g.fragments_old a.regions_old a.drive_set a.potential_set)
+    (component_rows_lem rules cs ps fs g.nets_old g.fragments_old a.regions_old a.drive_set a.potential_set)
 
-regions_are : (cs ps fs : List ℤ) {regions sources inputs : List ℕ} {r : Analysis} → Analyzed cs (kept_list cs ps) fs regions sources inputs r
-    → all_rows (region_row_by r.cyclic.words r.has_drive.words) r.regions ≡ region_rows cs ps fs (region_count cs (kept_list cs ps))
-regions_are cs ps fs {r = r} a =
-    ap (all_rows (region_row_by r.cyclic.words r.has_drive.words)) a.region_count_lem ∙ region_rows_lem cs ps fs a.cyclic_set a.has_drive_set
+regions_are : (rules : ℕ) (cs ps fs : List ℤ) {regions sources inputs : List ℕ} {r : Analysis} → Analyzed rules cs (kept_list rules cs ps) fs regions sources inputs r
+    → all_rows (region_row_by r.cyclic.words r.has_drive.words) r.regions ≡ region_rows rules cs ps fs (region_count cs (kept_list rules cs ps))
+regions_are rules cs ps fs {r = r} a =
+    ap (all_rows (region_row_by r.cyclic.words r.has_drive.words)) a.region_count_lem ∙ region_rows_lem rules cs ps fs a.cyclic_set a.has_drive_set
 
-module _ (cs ps fs : List ℤ) {kept : List ℤ} {nets fragments slopes regions sources inputs : List ℕ} {r : Analysis} where
-  pub assembled : {rows connections marks : List ℕ} → first_repeated cs ≡ None → Gathered cs ps kept nets fragments slopes → Analyzed cs kept fs regions sources inputs r
+module _ (rules : ℕ) (cs ps fs : List ℤ) {kept : List ℤ} {nets fragments slopes regions sources inputs : List ℕ} {r : Analysis} where
+  pub assembled : {rows connections marks ids : List ℕ} → first_repeated cs ≡ None → Gathered rules cs ps kept nets fragments slopes → Analyzed rules cs kept fs regions sources inputs r
       → rows ≡ all_rows (component_row_by cs nets fragments regions r.drive.words r.potential.words) (component_count cs)
-      → connections ≡ sloped_rows cs ps
+      → connections ≡ sloped_rows rules cs ps
       → marks ≡ all_rows (region_row_by r.cyclic.words r.has_drive.words) r.regions
-      → whole_text cs kept fs rows connections marks sources inputs ≡ report_of cs ps fs
-  assembled once g a e f h =
-      let g' = subst (λ (k : List ℤ). Gathered cs ps k nets fragments slopes) g.kept_are g in
-      let a' = subst (λ (k : List ℤ). Analyzed cs k fs regions sources inputs r) g.kept_are a in
-      same_text cs fs g.kept_are (e ∙ components_are cs ps fs g' a') f (h ∙ regions_are cs ps fs a') a'.sources_are a'.inputs_are
-      ∙ whole_is cs ps fs once
+      → ids ≡ unread_ids rules cs (component_count cs)
+      → whole_text rules cs kept fs rows connections marks sources inputs ids ≡ report_of rules cs ps fs
+  assembled once g a e f h i =
+      let g' = subst (λ (k : List ℤ). Gathered rules cs ps k nets fragments slopes) g.kept_are g in
+      let a' = subst (λ (k : List ℤ). Analyzed rules cs k fs regions sources inputs r) g.kept_are a in
+      same_text rules cs fs g.kept_are (e ∙ components_are rules cs ps fs g' a') f (h ∙ regions_are rules cs ps fs a') a'.sources_are a'.inputs_are i
+      ∙ whole_is rules cs ps fs once

@@ -47,7 +47,7 @@ use Rattle.signals.proofs.Within.{scene_regions}
 use Rattle.assessment.specs.Verdicts.{source_rows}
 use Rattle.liveness.specs.Scene.{Scene}
 use Rattle.liveness.proofs.Demands.{region_laid, same_regions}
-use Rattle.report.specs.Report.{all_rows, kept_list, component_row, component_rows, region_row, region_rows, input_block, report_of}
+use Rattle.report.specs.Report.{all_rows, kept_list, component_row, component_rows, region_row, region_rows, input_block, unread_block, report_of}
 use Rattle.report.specs.Demand.{read_block, column, RegionsPrinted}
 use Rattle.sheet.specs.Written.{fits, PrintedBy}
 use Rattle.report.specs.Entry.{lists_checked, report_checked}
@@ -85,25 +85,25 @@ module _ (ns : List ℕ) (w : PortConnections (map pos ns)) where
   field_small k (suc (suc (suc (suc (suc f))))) h l = absurd (omega arith)
 
 -- of rows of six: the five numbers of a port connection, and a slope
-kept_in_range : (cs ps : List ℤ) → PortConnections (kept_list cs ps) → AllInRange (map pos (sloped_rows cs ps))
-kept_in_range cs ps w = all_in_range rows number_small
+kept_in_range : (rules : ℕ) (cs ps : List ℤ) → PortConnections (kept_list rules cs ps) → AllInRange (map pos (sloped_rows rules cs ps))
+kept_in_range rules cs ps w = all_in_range rows number_small
   where
     rows : List ℕ
-    rows = sloped_rows cs ps
+    rows = sloped_rows rules cs ps
 
-    small : (k f : ℕ) → k < kept_count cs ps → (t : Bool) → ltb f 5 ≡ t → f < 6 → get_or rows (k * 6 + f) 0 ≤ limit
+    small : (k f : ℕ) → k < kept_count rules cs ps → (t : Bool) → ltb f 5 ≡ t → f < 6 → get_or rows (k * 6 + f) 0 ≤ limit
     small k f h true e l =
         let five : f < 5 = ltb-true f 5 e in
-        let same = sym (five_at rows k f (omega (arith, sloped_count cs ps, h)) five) ∙ ap (λ (ns : List ℕ). get_or ns (k * 5 + f) 0) (cut_sloped cs ps) in
-        omega (arith, same, field_small (kept_rows cs ps) w k f (omega (arith, h, length-map (kept_rows cs ps) pos)) five)
+        let same = sym (five_at rows k f (omega (arith, sloped_count rules cs ps, h)) five) ∙ ap (λ (ns : List ℕ). get_or ns (k * 5 + f) 0) (cut_sloped rules cs ps) in
+        omega (arith, same, field_small (kept_rows rules cs ps) w k f (omega (arith, h, length-map (kept_rows rules cs ps) pos)) five)
     small k f h false e l =
         let last : f ≡ 5 = omega (arith, ltb-false f 5 e, l) in
-        rw last (omega (arith, sloped_small cs ps (connection_count ps) k))
+        rw last (omega (arith, sloped_small rules cs ps (connection_count ps) k))
 
     number_small : (k : ℕ) → k < length rows → get_or rows k 0 ≤ limit
     number_small k h =
         let parts : k / 6 * 6 + k % 6 ≡ k = omega arith in
-        rw parts at (small (k / 6) (k % 6) (omega (arith, h, sloped_count cs ps)) (ltb (k % 6) 5) refl (omega arith))
+        rw parts at (small (k / 6) (k % 6) (omega (arith, h, sloped_count rules cs ps)) (ltb (k % 6) 5) refl (omega arith))
 
 flag_small : (b : Bool) → as_nat b ≤ limit
 flag_small true = omega arith
@@ -144,26 +144,26 @@ rows_at row each (suc n) v f h l =
 
 -- ---- the report of an accepted sheet
 
-six_then : (a b c d e f rest : List ℕ) → (a ++ (b ++ (c ++ (d ++ (e ++ f))))) ++ rest ≡ a ++ (b ++ (c ++ (d ++ (e ++ (f ++ rest)))))
-six_then a b c d e f rest = simp append_assoc
+seven_then : (a b c d e f g rest : List ℕ) → (a ++ (b ++ (c ++ (d ++ (e ++ (f ++ g)))))) ++ rest ≡ a ++ (b ++ (c ++ (d ++ (e ++ (f ++ (g ++ rest))))))
+seven_then a b c d e f g rest = simp append_assoc
 
 module _ (rules : ℕ) (cs ps fs : List ℤ) (e : sheet_refusal rules cs ps fs ≡ Ok tt) where
   abbrev n : ℕ
   n = component_count cs
 
   abbrev kept : List ℤ
-  kept = kept_list cs ps
+  kept = kept_list rules cs ps
 
   abbrev rows : List ℕ
-  rows = component_rows cs ps fs n
+  rows = component_rows rules cs ps fs n
 
   scene : Scene cs kept
   scene = kept_scene rules cs ps fs e
 
   rows_count : length rows ≡ 6 * n
-  rows_count = rows_long (component_row cs ps fs) 6 n (λ p. refl)
+  rows_count = rows_long (component_row rules cs ps fs) 6 n (λ p. refl)
 
-  row_small : (p : ℕ) → p < n → AllInRange (map pos (component_row cs ps fs p))
+  row_small : (p : ℕ) → p < n → AllInRange (map pos (component_row rules cs ps fs p))
   unfolding AllInRange
   row_small p h =
       let few = scene.components.few in
@@ -180,63 +180,64 @@ module _ (rules : ℕ) (cs ps fs : List ℤ) (e : sheet_refusal rules cs ps fs �
         ),
       )
 
-  column_at : (f v : ℕ) → v < n → f < 6 → get_or (column f 6 (map pos rows)) v 0 ≡ get_or (component_row cs ps fs v) f 0
+  column_at : (f v : ℕ) → v < n → f < 6 → get_or (column f 6 (map pos rows)) v 0 ≡ get_or (component_row rules cs ps fs v) f 0
   column_at f v h l =
       let there : v < length (map pos rows) / 6 = omega (arith, h, length-map rows pos, rows_count) in
       tab_at (λ k. natural_at (map pos rows) (k * 6 + f)) (length (map pos rows) / 6) v there
       ∙ natural_is rows refl (v * 6 + f)
-      ∙ rows_at (component_row cs ps fs) (λ p. refl) n v f h l
+      ∙ rows_at (component_row rules cs ps fs) (λ p. refl) n v f h l
 
   module _ (rest : List ℕ) where
     abbrev after_count : List ℕ
     after_count =
-        field_lines region_keys 0 (map pos (region_rows cs ps fs (region_count cs kept)))
-        ++ (block (ascii "sources") source_keys (source_rows cs kept fs) ++ (input_block cs kept fs ++ rest))
+        field_lines region_keys 0 (map pos (region_rows rules cs ps fs (region_count cs kept)))
+        ++ (block (ascii "sources") source_keys (source_rows rules cs kept fs) ++ (input_block rules cs kept fs ++ (unread_block rules cs ++ rest)))
 
     abbrev after_connections : List ℕ
     after_connections =
-        block (ascii "regions") region_keys (region_rows cs ps fs (region_count cs kept))
-        ++ (block (ascii "sources") source_keys (source_rows cs kept fs) ++ (input_block cs kept fs ++ rest))
+        block (ascii "regions") region_keys (region_rows rules cs ps fs (region_count cs kept))
+        ++ (block (ascii "sources") source_keys (source_rows rules cs kept fs) ++ (input_block rules cs kept fs ++ (unread_block rules cs ++ rest)))
 
     abbrev after_components : List ℕ
-    after_components = block (ascii "connections") connection_keys (sloped_rows cs ps) ++ after_connections
+    after_components = block (ascii "connections") connection_keys (sloped_rows rules cs ps) ++ after_connections
 
     abbrev after_answer : List ℕ
     after_answer = block (ascii "components") component_keys rows ++ after_components
 
-    in_order : report_of cs ps fs ++ rest ≡ line_of (ascii "answer") (pos 0) ++ after_answer
+    in_order : report_of rules cs ps fs ++ rest ≡ line_of (ascii "answer") (pos 0) ++ after_answer
     unfolding report_of
     in_order =
-        six_then (line_of (ascii "answer") (pos 0)) (block (ascii "components") component_keys rows) (block (ascii "connections") connection_keys (sloped_rows cs ps))
-        (block (ascii "regions") region_keys (region_rows cs ps fs (region_count cs kept))) (block (ascii "sources") source_keys (source_rows cs kept fs)) (input_block cs kept fs) rest
+        seven_then (line_of (ascii "answer") (pos 0)) (block (ascii "components") component_keys rows) (block (ascii "connections") connection_keys (sloped_rows rules cs ps))
+        (block (ascii "regions") region_keys (region_rows rules cs ps fs (region_count cs kept))) (block (ascii "sources") source_keys (source_rows rules cs kept fs)) (input_block rules cs kept fs)
+        (unread_block rules cs) rest
 
     components_read : read_block (ascii "components") component_keys after_answer ≡ got (map pos rows) after_components
     components_read =
         let few : length rows / 6 ≤ limit = omega (arith, rows_count, scene.components.few) in
         let whole : length rows / 6 * 6 ≡ length rows = omega (arith, rows_count) in
-        block_read (ascii "components") component_keys component_form rows after_components (rows_in_range (component_row cs ps fs) n row_small) few whole
+        block_read (ascii "components") component_keys component_form rows after_components (rows_in_range (component_row rules cs ps fs) n row_small) few whole
 
-    connections_read : read_block (ascii "connections") connection_keys after_components ≡ got (map pos (sloped_rows cs ps)) after_connections
+    connections_read : read_block (ascii "connections") connection_keys after_components ≡ got (map pos (sloped_rows rules cs ps)) after_connections
     connections_read =
-        let count = sloped_count cs ps in
-        let few : length (sloped_rows cs ps) / 6 ≤ limit = omega (arith, scene.connections.few, length-map (kept_rows cs ps) pos, count) in
-        let whole : length (sloped_rows cs ps) / 6 * 6 ≡ length (sloped_rows cs ps) = omega (arith, count) in
-        block_read (ascii "connections") connection_keys connection_form (sloped_rows cs ps) after_connections (kept_in_range cs ps scene.connections) few whole
+        let count = sloped_count rules cs ps in
+        let few : length (sloped_rows rules cs ps) / 6 ≤ limit = omega (arith, scene.connections.few, length-map (kept_rows rules cs ps) pos, count) in
+        let whole : length (sloped_rows rules cs ps) / 6 * 6 ≡ length (sloped_rows rules cs ps) = omega (arith, count) in
+        block_read (ascii "connections") connection_keys connection_form (sloped_rows rules cs ps) after_connections (kept_in_range rules cs ps scene.connections) few whole
 
     -- a region's row has two numbers
     count_read : read_line (ascii "regions") after_connections ≡ taken (pos (region_count cs kept)) after_count
     count_read =
-        let marks = region_rows cs ps fs (region_count cs kept) in
-        let two : length marks ≡ 2 * region_count cs kept = rows_long (region_row cs ps fs) 2 (region_count cs kept) (λ p. refl) in
+        let marks = region_rows rules cs ps fs (region_count cs kept) in
+        let two : length marks ≡ 2 * region_count cs kept = rows_long (region_row rules cs ps fs) 2 (region_count cs kept) (λ p. refl) in
         let many : length marks / 2 ≡ region_count cs kept = omega (arith, two) in
         let small : region_count cs kept ≤ limit = omega (arith, (scene_regions cs kept scene.ends).few, scene.components.few) in
         rw (append_assoc (line_of (ascii "regions") (pos (length marks / 2))) (field_lines region_keys 0 (map pos marks)) _, many)
         (read_write (ascii "regions") (pos (region_count cs kept)) after_count small)
 
-    pub regions_printed : RegionsPrinted cs kept (report_of cs ps fs ++ rest)
+    pub regions_printed : RegionsPrinted cs kept (report_of rules cs ps fs ++ rest)
     regions_printed = record {
       components = map pos rows;
-      connections = map pos (sloped_rows cs ps);
+      connections = map pos (sloped_rows rules cs ps);
       count = region_count cs kept;
       after_answer = after_answer;
       after_components = after_components;
@@ -247,20 +248,20 @@ module _ (rules : ℕ) (cs ps fs : List ℤ) (e : sheet_refusal rules cs ps fs �
       connections_read = connections_read;
       count_read = count_read;
       ids_are = λ v h. column_at 0 v h (omega arith);
-      connections_are = cut_map pos (sloped_rows cs ps) ∙ ap (map pos) (cut_sloped cs ps);
+      connections_are = cut_map pos (sloped_rows rules cs ps) ∙ ap (map pos) (cut_sloped rules cs ps);
       demand = same_regions cs kept (region_count cs kept) (λ v h. region_laid cs kept [] v h ∙ sym (column_at 3 v h (omega arith))) (report_demand rules cs ps fs e []);
     }
 
 -- the buffer of an accepted sheet
 pub demand_printed : (p : Parsed) (components connections frontiers : ℕ) {out out' : List ℕ} {r : Result ℕ Refusal}
-    → PrintedBy (report_checked p components connections frontiers (length out)) (report_of (components_of p) (connections_of p) (frontiers_of p)) out out' r
+    → PrintedBy (report_checked p components connections frontiers (length out)) (report_of (rules_of p) (components_of p) (connections_of p) (frontiers_of p)) out out' r
     → report_checked p components connections frontiers (length out) ≡ Ok tt
-    → RegionsPrinted (components_of p) (kept_list (components_of p) (connections_of p)) out'
+    → RegionsPrinted (components_of p) (kept_list (rules_of p) (components_of p) (connections_of p)) out'
 demand_printed p components connections frontiers {out} printed e =
     let cs = components_of p in
     let ps = connections_of p in
     let fs = frontiers_of p in
-    let text = report_of cs ps fs in
+    let text = report_of (rules_of p) cs ps fs in
     let lists = both_accept (sheet_checked p components connections frontiers) (lists_checked (rules_of p) cs ps fs (length out)) e in
     let scene = both_accept (sheet_refusal (rules_of p) cs ps fs) (fits text (length out)) lists.1 in
     let left = printed.left ∙ ap (λ (c : Result ⊤ Refusal). left_of c text out) e in

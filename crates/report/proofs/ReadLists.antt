@@ -17,15 +17,15 @@ use Rattle.report.proofs.ReadBack.{demand_printed}
 
 -- the same lists are printed
 same_printed : {rules rules' : ℕ} {cs cs' ps ps' fs fs' : List ℤ} {out out' : List ℕ} {r : Result ℕ Refusal} → rules ≡ rules' → cs ≡ cs' → ps ≡ ps' → fs ≡ fs'
-    → PrintedBy (lists_checked rules cs ps fs (length out)) (report_of cs ps fs) out out' r
-    → PrintedBy (lists_checked rules' cs' ps' fs' (length out)) (report_of cs' ps' fs') out out' r
+    → PrintedBy (lists_checked rules cs ps fs (length out)) (report_of rules cs ps fs) out out' r
+    → PrintedBy (lists_checked rules' cs' ps' fs' (length out)) (report_of rules' cs' ps' fs') out out' r
 same_printed d e f g p = rw (d, e, f, g) at p
 
 -- the work lists were cleared after the lists at their fronts were printed
 pub reported : (p : Parsed) {a a' b b' c c' cs ps fs : List ℤ} {rules i j k : ℕ} {out out' : List ℕ} {r : Result ℕ Refusal}
     → sheet_checked p (length a) (length b) (length c) ≡ Ok tt
     → rules ≡ rules_of p → cs ≡ components_of p → ps ≡ connections_of p → fs ≡ frontiers_of p
-    → PrintedBy (lists_checked rules cs ps fs (length out)) (report_of cs ps fs) out out' r
+    → PrintedBy (lists_checked rules cs ps fs (length out)) (report_of rules cs ps fs) out out' r
     → i ≡ length a → a' ≡ replicate i (pos 0)
     → j ≡ length b → b' ≡ replicate j (pos 0)
     → k ≡ length c → c' ≡ replicate k (pos 0)

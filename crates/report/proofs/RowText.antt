@@ -1,10 +1,11 @@
 -- The rows that are filled, and what they are in the report.
 --     row_read, pair_read, flag_read    the same row by numbers that are equal
 --     rows_same                         rows that are the same one by one
+--     id_few                            a row of one number or none
 --     natural_in, natural_is            a number of a list with no sign
 -- Assumes nothing.
 use mathlib.Core.Path.{◌≡◌, refl}
-use mathlib.Core.Bool.{Bool}
+use mathlib.Core.Bool.{Bool, true, false, cond}
 use mathlib.Core.List.{List, [], ◌∷◌, map}
 use Prim.Native.Nat.{ℕ, zero, suc, ◌<◌}
 use native.Mathlib.Omega.{arith}
@@ -16,6 +17,7 @@ use Rattle.sets.specs.Members.{as_nat, member_of}
 use Rattle.lists.specs.Signed.{at}
 use Rattle.lists.specs.Records.{natural_at}
 use Rattle.assessment.specs.Rows.{Put}
+use Rattle.assessment.proofs.Devices.{Few}
 use Rattle.report.specs.Report.{all_rows}
 
 pub row_read : {at r : ℕ} {old new : List ℕ} {id id' net fragment region drive drive' potential potential' : ℕ} → id ≡ id' → drive ≡ drive' → potential ≡ potential'
@@ -33,6 +35,10 @@ pub rows_same : (row row' : ℕ → List ℕ) (n : ℕ) → ((p : ℕ) → p < n
 unfolding all_rows
 rows_same row row' zero same = refl
 rows_same row row' (suc n) same = rw (rows_same row row' n (λ p h. same p (omega arith)), same n (omega arith))
+
+pub id_few : (b : Bool) (id : ℕ) → Few (cond b (id ∷ []) []) 1 1
+id_few true id = record { turns = 1; whole = refl; few = omega arith }
+id_few false id = record { turns = 0; whole = refl; few = omega arith }
 
 -- ---- numbers with no sign
 

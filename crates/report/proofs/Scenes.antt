@@ -40,25 +40,25 @@ module _ (rules : ℕ) (cs ps fs : List ℤ) (e : sheet_refusal rules cs ps fs �
   pub sheet_scene : GroupingScene rules cs ps fs true
   sheet_scene = grouping_accept rules cs ps fs true e
 
-  pub kept_scene : Scene cs (kept_list cs ps)
+  pub kept_scene : Scene cs (kept_list rules cs ps)
   kept_scene = record {
     components = sheet_scene.components;
-    connections = kept_within cs ps sheet_scene.components sheet_scene.connections.few;
-    ends = kept_no_missing cs ps;
+    connections = kept_within rules cs ps sheet_scene.components sheet_scene.connections.few;
+    ends = kept_no_missing rules cs ps;
     ascending = sheet_scene.scene.ascending;
     distinct = sheet_scene.scene.once;
   }
 
 -- ---- what the analysis leaves
 
-pub analyzed : {cs ps fs : List ℤ} {regions regions' sources sources' inputs inputs' stack stack' : List ℕ} {r : Analysis}
-    → AnalyzedBy (Ok tt) cs ps fs regions regions' sources sources' inputs inputs' stack stack' (Ok r)
-    → Analyzed cs ps fs regions' (take (r.sources * 2) sources') (take (r.inputs * 3) inputs') r
-analyzed {cs} {ps} {fs} {regions = regions} {sources = sources} {inputs = inputs} {r = r} a = record {
+pub analyzed : {rules : ℕ} {cs ps fs : List ℤ} {regions regions' sources sources' inputs inputs' stack stack' : List ℕ} {r : Analysis}
+    → AnalyzedBy (Ok tt) rules cs ps fs regions regions' sources sources' inputs inputs' stack stack' (Ok r)
+    → Analyzed rules cs ps fs regions' (take (r.sources * 2) sources') (take (r.inputs * 3) inputs') r
+analyzed {rules} {cs} {ps} {fs} {regions = regions} {sources = sources} {inputs = inputs} {r = r} a = record {
   regions_old = regions;
   regions_are = a.regions_left;
-  sources_are = front_is (source_rows cs ps fs) sources a.sources_left (r.sources * 2) a.analysis.source_count;
-  inputs_are = front_is (input_rows cs ps fs) inputs a.inputs_left (r.inputs * 3) a.analysis.input_count;
+  sources_are = front_is (source_rows rules cs ps fs) sources a.sources_left (r.sources * 2) a.analysis.source_count;
+  inputs_are = front_is (input_rows rules cs ps fs) inputs a.inputs_left (r.inputs * 3) a.analysis.input_count;
   region_count_lem = a.analysis.region_count_lem;
   drive_set = a.analysis.drive_set;
   potential_set = a.analysis.potential_set;
@@ -68,7 +68,7 @@ analyzed {cs} {ps} {fs} {regions = regions} {sources = sources} {inputs = inputs
 
 -- ---- how long they are
 
-module _ {cs ps kept : List ℤ} {nets fragments slopes : List ℕ} (g : Gathered cs ps kept nets fragments slopes) where
+module _ {rules : ℕ} {cs ps kept : List ℤ} {nets fragments slopes : List ℕ} (g : Gathered rules cs ps kept nets fragments slopes) where
   pub nets_long : component_count cs ≤ length nets
   nets_long = omega (arith, length_groups (forest_of cs ps net_kinds) (component_count cs), front_long (nets_of cs ps) g.nets_old g.nets_are)
 
@@ -82,19 +82,19 @@ module _ {cs ps kept : List ℤ} {nets fragments slopes : List ℕ} (g : Gathere
 
 -- ---- rows of six at the front of a slice, and cut
 
-pub sloped_front : {cs ps out out' : List ℤ} {n : ℕ} → AllKept cs ps out out' n → SlopedFront (sloped_rows cs ps) n out'
-sloped_front {cs} {ps} {out} {out'} {n} k =
-    let long : length (sloped_rows cs ps) ≡ n * kept_width = omega (arith, sloped_count cs ps, k.count) in
+pub sloped_front : {rules : ℕ} {cs ps out out' : List ℤ} {n : ℕ} → AllKept rules cs ps out out' n → SlopedFront (sloped_rows rules cs ps) n out'
+sloped_front {rules} {cs} {ps} {out} {out'} {n} k =
+    let long : length (sloped_rows rules cs ps) ≡ n * kept_width = omega (arith, sloped_count rules cs ps, k.count) in
     record {
       long = long;
-      is = front_is (map pos (sloped_rows cs ps)) out k.rows (n * kept_width) (omega (arith, long, length-map (sloped_rows cs ps) pos));
-      small = λ j h. omega (arith, sloped_small cs ps (connection_count ps) j);
+      is = front_is (map pos (sloped_rows rules cs ps)) out k.rows (n * kept_width) (omega (arith, long, length-map (sloped_rows rules cs ps) pos));
+      small = λ j h. omega (arith, sloped_small rules cs ps (connection_count ps) j);
     }
 
-pub kept_cut : (cs ps : List ℤ) {five : List ℤ} {slopes : List ℕ} → Cut (sloped_rows cs ps) five slopes → five ≡ kept_list cs ps
-kept_cut cs ps cut = cut.five_are ∙ ap (map pos) (cut_sloped cs ps)
+pub kept_cut : (rules : ℕ) (cs ps : List ℤ) {five : List ℤ} {slopes : List ℕ} → Cut (sloped_rows rules cs ps) five slopes → five ≡ kept_list rules cs ps
+kept_cut rules cs ps cut = cut.five_are ∙ ap (map pos) (cut_sloped rules cs ps)
 
-module _ {cs ps fs : List ℤ} {regions sources inputs : List ℕ} {r : Analysis} (a : Analyzed cs ps fs regions sources inputs r) where
+module _ {rules : ℕ} {cs ps fs : List ℤ} {regions sources inputs : List ℕ} {r : Analysis} (a : Analyzed rules cs ps fs regions sources inputs r) where
   pub regions_long : component_count cs ≤ length regions
   regions_long = omega (arith, tab_length (region_of_place cs ps) (component_count cs), front_long (regions_of cs ps) a.regions_old a.regions_are)
 

@@ -210,7 +210,7 @@ sheet_numbers components connections frontiers text a b c room r e =
     let cs = components_of p in
     let ps = connections_of p in
     let fs = frontiers_of p in
-    let last = too_short (leb (length (report_of cs ps fs)) room) in
+    let last = too_short (leb (length (report_of (rules_of p) cs ps fs)) room) in
     subst Numbered e
     (chained (sheet_checked p a b c) (lists_checked (rules_of p) cs ps fs room) (sheet_numbered p a b c (parse_numbered components connections frontiers rules_limit text))
     (chained (sheet_refusal (rules_of p) cs ps fs) (refuse Fault.ShortSlice None last) (refusal_numbered (rules_of p) cs ps fs) (check Fault.ShortSlice None last refl)))
@@ -219,5 +219,5 @@ sheet_numbers components connections frontiers text a b c room r e =
 
 -- `component_row` prints the region of each component, and `regions=` how many there are (ReadBack)
 pub report_demand : (rules : ℕ) (cs ps fs : List ℤ) → sheet_refusal rules cs ps fs ≡ Ok tt → (rest : List ℕ)
-    → RegionsOfScene cs (kept_list cs ps) (regions_of cs (kept_list cs ps) ++ rest) (region_count cs (kept_list cs ps))
-report_demand rules cs ps fs e rest = demand_3 cs (kept_list cs ps) (kept_scene rules cs ps fs e) rest
+    → RegionsOfScene cs (kept_list rules cs ps) (regions_of cs (kept_list rules cs ps) ++ rest) (region_count cs (kept_list rules cs ps))
+report_demand rules cs ps fs e rest = demand_3 cs (kept_list rules cs ps) (kept_scene rules cs ps fs e) rest

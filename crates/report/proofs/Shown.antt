@@ -49,29 +49,29 @@ row_same a b c d e = rw (a, b, c, d, e)
 pair_same : {a a' b b' : Bool} → a ≡ a' → b ≡ b' → ◌≡◌ {A = List ℕ} (as_nat a ∷ as_nat b ∷ []) (as_nat a' ∷ as_nat b' ∷ [])
 pair_same e f = rw (e, f)
 
-module _ (cs ps fs : List ℤ) where
+module _ (rules : ℕ) (cs ps fs : List ℤ) where
   -- the entries laid their numbers at the front of lent slices, and answered two sets
   pub component_rows_lem : (nets fragments regions : List ℕ) {drives potentials : List ℕ}
-      → SetWhere (component_count cs) (marked (drive cs (kept_list cs ps) fs)) drives
-      → SetWhere (component_count cs) (marked (potential cs (kept_list cs ps) fs)) potentials
-      → all_rows (component_row_by cs (laid (nets_of cs ps) nets) (laid (fragments_of cs ps) fragments) (laid (regions_of cs (kept_list cs ps)) regions) drives potentials)
+      → SetWhere (component_count cs) (marked (drive cs (kept_list rules cs ps) fs)) drives
+      → SetWhere (component_count cs) (marked (potential rules cs (kept_list rules cs ps) fs)) potentials
+      → all_rows (component_row_by cs (laid (nets_of cs ps) nets) (laid (fragments_of cs ps) fragments) (laid (regions_of cs (kept_list rules cs ps)) regions) drives potentials)
       (component_count cs)
-      ≡ component_rows cs ps fs (component_count cs)
+      ≡ component_rows rules cs ps fs (component_count cs)
   component_rows_lem nets fragments regions d q =
       let n = component_count cs in
-      let region = region_of_place cs (kept_list cs ps) in
+      let region = region_of_place cs (kept_list rules cs ps) in
       rows_same _ _ n (λ p h.
       row_same
       (laid_at (nets_of cs ps) nets p (omega (arith, length_groups (forest_of cs ps net_kinds) n)))
       (laid_at (fragments_of cs ps) fragments p (omega (arith, length_groups (forest_of cs ps fragment_kinds) n)))
-      (laid_at (regions_of cs (kept_list cs ps)) regions p (omega (arith, tab_length region n)) ∙ tab_at region n p h)
+      (laid_at (regions_of cs (kept_list rules cs ps)) regions p (omega (arith, tab_length region n)) ∙ tab_at region n p h)
       (set_at d (ids.member_of cs p) (member_below cs p h))
       (set_at q (ids.member_of cs p) (member_below cs p h)))
 
-  pub region_rows_lem : {cyclics drives : List ℕ} → SetWhere (region_count cs (kept_list cs ps)) (is_cyclic cs (kept_list cs ps)) cyclics
-      → SetWhere (region_count cs (kept_list cs ps)) (holds_drive cs (kept_list cs ps) fs) drives
-      → all_rows (region_row_by cyclics drives) (region_count cs (kept_list cs ps)) ≡ region_rows cs ps fs (region_count cs (kept_list cs ps))
-  region_rows_lem c d = rows_same _ _ (region_count cs (kept_list cs ps)) (λ r h. pair_same (set_at c r h) (set_at d r h))
+  pub region_rows_lem : {cyclics drives : List ℕ} → SetWhere (region_count cs (kept_list rules cs ps)) (is_cyclic cs (kept_list rules cs ps)) cyclics
+      → SetWhere (region_count cs (kept_list rules cs ps)) (holds_drive cs (kept_list rules cs ps) fs) drives
+      → all_rows (region_row_by cyclics drives) (region_count cs (kept_list rules cs ps)) ≡ region_rows rules cs ps fs (region_count cs (kept_list rules cs ps))
+  region_rows_lem c d = rows_same _ _ (region_count cs (kept_list rules cs ps)) (λ r h. pair_same (set_at c r h) (set_at d r h))
 
 -- ---- the ids of a set's members, by the table of ids
 

@@ -86,7 +86,7 @@ module _ (text : ℕ → ℕ → ℕ → List ℕ) where
 
 -- ---- the rows of the answer
 
-module _ (cs kept fs : List ℤ) (once : first_repeated cs ≡ None) where
+module _ (rules : ℕ) (cs kept fs : List ℤ) (once : first_repeated cs ≡ None) where
   -- a component is found by its id
   place_is : (p : ℕ) → p < component_count cs → place_of cs (component cs p).id ≡ Some p
   unfolding place_below
@@ -94,74 +94,74 @@ module _ (cs kept fs : List ℤ) (once : first_repeated cs ≡ None) where
       first_is (λ k. eqb (component cs k).id (component cs p).id) 0 (component_count cs) p (omega arith) (omega arith) (eq-eqb (component cs p).id (component cs p).id refl)
       (λ j l b. ne_eqb (component cs j).id (component cs p).id (λ e. let same = ids_distinct cs once j p (omega arith) h e in absurd (omega arith)))
 
-  row_is : (p port : ℕ) → p < component_count cs → port < length (ports_of (component cs p)) → is_required (component cs p) port ≡ true
-      → row_place cs (component cs p).id port ≡ Some p
+  row_is : (p port : ℕ) → p < component_count cs → port < length (ports_of rules (component cs p)) → is_required rules (component cs p) port ≡ true
+      → row_place rules cs (component cs p).id port ≡ Some p
   unfolding row_place
-  row_is p port h l e = rw (place_is p h, lt-ltb port (length (ports_of (component cs p))) l, e)
+  row_is p port h l e = rw (place_is p h, lt-ltb port (length (ports_of rules (component cs p))) l, e)
 
-  asked_is : (p port : ℕ) → p < component_count cs → port < length (ports_of (component cs p)) → is_required (component cs p) port ≡ true
-      → asked_text cs kept fs (component cs p).id port (status_of cs kept fs p port) ≡ input_lines cs kept fs p port
+  asked_is : (p port : ℕ) → p < component_count cs → port < length (ports_of rules (component cs p)) → is_required rules (component cs p) port ≡ true
+      → asked_text rules cs kept fs (component cs p).id port (status_of rules cs kept fs p port) ≡ input_lines rules cs kept fs p port
   unfolding asked_text
   asked_is p port h l e = rw (row_is p port h l e)
 
   -- ---- of the first ports of a component
 
   abbrev row : ℕ → ℕ → List ℕ
-  row p port = (component cs p).id ∷ port ∷ status_of cs kept fs p port ∷ []
+  row p port = (component cs p).id ∷ port ∷ status_of rules cs kept fs p port ∷ []
 
   row_threes : (p port : ℕ) (t : Bool) → (turns : ℕ) × (length (cond t (row p port) []) ≡ turns * 3)
   row_threes p port true = (1, omega arith)
   row_threes p port false = (0, omega arith)
 
-  port_threes : (p m : ℕ) → (turns : ℕ) × (length (port_rows cs kept fs p m) ≡ turns * 3)
+  port_threes : (p m : ℕ) → (turns : ℕ) × (length (port_rows rules cs kept fs p m) ≡ turns * 3)
   unfolding port_rows
   port_threes p zero = (0, omega arith)
   port_threes p (suc k) =
       let before = port_threes p k in
-      let last = row_threes p k (is_required (component cs p) k) in
-      (before.0 + last.0, omega (arith, before.1, last.1, length-append (port_rows cs kept fs p k) (cond (is_required (component cs p) k) (row p k) [])))
+      let last = row_threes p k (is_required rules (component cs p) k) in
+      (before.0 + last.0, omega (arith, before.1, last.1, length-append (port_rows rules cs kept fs p k) (cond (is_required rules (component cs p) k) (row p k) [])))
 
-  verdict_threes : (n : ℕ) → (turns : ℕ) × (length (verdict_rows cs kept fs n) ≡ turns * 3)
+  verdict_threes : (n : ℕ) → (turns : ℕ) × (length (verdict_rows rules cs kept fs n) ≡ turns * 3)
   unfolding verdict_rows
   verdict_threes zero = (0, omega arith)
   verdict_threes (suc p) =
       let before = verdict_threes p in
-      let last = port_threes p (length (ports_of (component cs p))) in
-      (before.0 + last.0, omega (arith, before.1, last.1, length-append (verdict_rows cs kept fs p) (port_rows cs kept fs p (length (ports_of (component cs p))))))
+      let last = port_threes p (length (ports_of rules (component cs p))) in
+      (before.0 + last.0, omega (arith, before.1, last.1, length-append (verdict_rows rules cs kept fs p) (port_rows rules cs kept fs p (length (ports_of rules (component cs p))))))
 
-  row_lines_lem : (p port : ℕ) → p < component_count cs → port < length (ports_of (component cs p)) → (t : Bool) → is_required (component cs p) port ≡ t
-      → row_lines (asked_text cs kept fs) (cond t (row p port) []) ≡ cond t (input_lines cs kept fs p port) []
+  row_lines_lem : (p port : ℕ) → p < component_count cs → port < length (ports_of rules (component cs p)) → (t : Bool) → is_required rules (component cs p) port ≡ t
+      → row_lines (asked_text rules cs kept fs) (cond t (row p port) []) ≡ cond t (input_lines rules cs kept fs p port) []
   unfolding row_lines
   row_lines_lem p port h l true e = append-nil _ ∙ asked_is p port h l e
   row_lines_lem p port h l false e = refl
 
-  port_lines_lem : (p m : ℕ) → p < component_count cs → m ≤ length (ports_of (component cs p))
-      → row_lines (asked_text cs kept fs) (port_rows cs kept fs p m) ≡ port_lines cs kept fs p m
+  port_lines_lem : (p m : ℕ) → p < component_count cs → m ≤ length (ports_of rules (component cs p))
+      → row_lines (asked_text rules cs kept fs) (port_rows rules cs kept fs p m) ≡ port_lines rules cs kept fs p m
   unfolding port_rows port_lines row_lines
   port_lines_lem p zero h l = refl
   port_lines_lem p (suc k) h l =
       let before = port_threes p k in
-      lines_append (asked_text cs kept fs) before.0 (port_rows cs kept fs p k) (cond (is_required (component cs p) k) (row p k) []) before.1
-      ∙ ap (λ (s : List ℕ). s ++ row_lines (asked_text cs kept fs) (cond (is_required (component cs p) k) (row p k) [])) (port_lines_lem p k h (omega arith))
-      ∙ ap (λ (s : List ℕ). port_lines cs kept fs p k ++ s) (row_lines_lem p k h (omega arith) (is_required (component cs p) k) refl)
+      lines_append (asked_text rules cs kept fs) before.0 (port_rows rules cs kept fs p k) (cond (is_required rules (component cs p) k) (row p k) []) before.1
+      ∙ ap (λ (s : List ℕ). s ++ row_lines (asked_text rules cs kept fs) (cond (is_required rules (component cs p) k) (row p k) [])) (port_lines_lem p k h (omega arith))
+      ∙ ap (λ (s : List ℕ). port_lines rules cs kept fs p k ++ s) (row_lines_lem p k h (omega arith) (is_required rules (component cs p) k) refl)
 
-  lines_below : (n : ℕ) → n ≤ component_count cs → row_lines (asked_text cs kept fs) (verdict_rows cs kept fs n) ≡ verdict_lines cs kept fs n
+  lines_below : (n : ℕ) → n ≤ component_count cs → row_lines (asked_text rules cs kept fs) (verdict_rows rules cs kept fs n) ≡ verdict_lines rules cs kept fs n
   unfolding verdict_rows verdict_lines row_lines
   lines_below zero h = refl
   lines_below (suc p) h =
       let before = verdict_threes p in
-      let ports = port_rows cs kept fs p (length (ports_of (component cs p))) in
-      lines_append (asked_text cs kept fs) before.0 (verdict_rows cs kept fs p) ports before.1
-      ∙ ap (λ (s : List ℕ). s ++ row_lines (asked_text cs kept fs) ports) (lines_below p (omega arith))
-      ∙ ap (λ (s : List ℕ). verdict_lines cs kept fs p ++ s) (port_lines_lem p (length (ports_of (component cs p))) (omega arith) (omega arith))
+      let ports = port_rows rules cs kept fs p (length (ports_of rules (component cs p))) in
+      lines_append (asked_text rules cs kept fs) before.0 (verdict_rows rules cs kept fs p) ports before.1
+      ∙ ap (λ (s : List ℕ). s ++ row_lines (asked_text rules cs kept fs) ports) (lines_below p (omega arith))
+      ∙ ap (λ (s : List ℕ). verdict_lines rules cs kept fs p ++ s) (port_lines_lem p (length (ports_of rules (component cs p))) (omega arith) (omega arith))
 
-  pub rows_lines : row_lines (asked_text cs kept fs) (input_rows cs kept fs) ≡ verdict_lines cs kept fs (component_count cs)
+  pub rows_lines : row_lines (asked_text rules cs kept fs) (input_rows rules cs kept fs) ≡ verdict_lines rules cs kept fs (component_count cs)
   rows_lines = lines_below (component_count cs) (omega arith)
 
 -- ---- a port asked for
 
-pub asked_text_lem : {cs ps fs : List ℤ} {keys : List ℕ} {r : InputSources} (id port status : ℕ) → IdTable cs keys → first_repeated cs ≡ None
-    → PortSets cs ps fs (row_place cs id port) port r
-    → input_text id port status (ids_in keys r.immediate.words) (ids_in keys r.inferred.words) ≡ asked_text cs ps fs id port status
+pub asked_text_lem : {rules : ℕ} {cs ps fs : List ℤ} {keys : List ℕ} {r : InputSources} (id port status : ℕ) → IdTable cs keys → first_repeated cs ≡ None
+    → PortSets rules cs ps fs (row_place rules cs id port) port r
+    → input_text id port status (ids_in keys r.immediate.words) (ids_in keys r.inferred.words) ≡ asked_text rules cs ps fs id port status
 unfolding asked_text
 asked_text_lem id port status t once a = rw (ids_are t once a.immediate_set, ids_are t once a.inferred_set)

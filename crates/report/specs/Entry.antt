@@ -17,7 +17,7 @@ use Rattle.report.specs.Demand.{RegionsPrinted}
 -- ---- the stages
 
 abbrev pub lists_checked : ℕ → List ℤ → List ℤ → List ℤ → ℕ → Result ⊤ Refusal
-lists_checked rules cs ps fs room = sheet_refusal rules cs ps fs or_else fits (report_of cs ps fs) room
+lists_checked rules cs ps fs room = sheet_refusal rules cs ps fs or_else fits (report_of rules cs ps fs) room
 
 -- given how many numbers each work list has, and how many bytes the buffer
 abbrev pub report_checked : Parsed → ℕ → ℕ → ℕ → ℕ → Result ⊤ Refusal
@@ -28,10 +28,10 @@ report_checked p components connections frontiers room =
 
 pub record Reported (p : Parsed) (components components' connections connections' frontiers frontiers' : List ℤ) (out out' : List ℕ) (r : Result ℕ Refusal) : Type 0 where
   pub printed : PrintedBy (report_checked p (length components) (length connections) (length frontiers) (length out))
-      (report_of (components_of p) (connections_of p) (frontiers_of p)) out out' r
+      (report_of (rules_of p) (components_of p) (connections_of p) (frontiers_of p)) out out' r
   -- demand 3, on the numbers printed
   pub demand : report_checked p (length components) (length connections) (length frontiers) (length out) ≡ Ok tt
-      → RegionsPrinted (components_of p) (kept_list (components_of p) (connections_of p)) out'
+      → RegionsPrinted (components_of p) (kept_list (rules_of p) (components_of p) (connections_of p)) out'
   pub components_left : components' ≡ list_by (sheet_checked p (length components) (length connections) (length frontiers)) components
   pub connections_left : connections' ≡ list_by (sheet_checked p (length components) (length connections) (length frontiers)) connections
   pub frontiers_left : frontiers' ≡ list_by (sheet_checked p (length components) (length connections) (length frontiers)) frontiers

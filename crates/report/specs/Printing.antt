@@ -1,6 +1,7 @@
 -- What the functions that print a scene hand on to each other. No line of the report rests on these.
 --     component_row_by, region_row_by         rows by what the entries wrote and answered
 --     asked_text, row_lines, inputs_text     the verdict rows, each asked for by the id of its device and by its port
+--     unread_text                         the last block
 --     blocks_text, whole_text               the blocks before them, and the report by its rows
 --     AskedOf                             the scenes that the tables of ports are of
 --     SlopedFront, Cut                    rows of six at the front of a slice; the same as rows of five and slopes
@@ -8,10 +9,11 @@
 -- Assumes nothing: these are definitions.
 use Rattle.blocks.specs.declared.Block.{Block}
 use Rattle.std.specs.Prelude.{Ok}
-use Rattle.std.specs.Prelude.{ℕ, ◌+◌, ◌*◌, ◌/◌, ◌<◌, ◌≡◌, List, [], ◌∷◌, ◌++◌, map, length, get_or, take, ℤ, pos}
+use Rattle.std.specs.Prelude.{ℕ, ◌+◌, ◌*◌, ◌/◌, ◌<◌, ◌≡◌, cond, List, [], ◌∷◌, ◌++◌, map, length, get_or, take, ℤ, pos}
 use Rattle.sets.specs.Members.{as_nat, member_of}
 use Rattle.checks.specs.Refusals.{sheet_refusal}
 use Rattle.lists.specs.Limits.{kept_width}
+use Rattle.lists.specs.Rules.{blanks_unread}
 use Rattle.lists.specs.Ids as ids
 use Rattle.lists.specs.Ids.{IdTable}
 use Rattle.lists.specs.Slices.{laid}
@@ -35,7 +37,7 @@ use Rattle.report.specs.Report.{kept_list, ids_where}
 
 -- the tables by which ports are asked for their sources are those of their components with these port connections and frontiers
 abbrev pub AskedOf : Asked → List ℤ → List ℤ → Type 0
-AskedOf a ps fs = Ready a.components.now ps fs a.fed.now a.labels.now a.upstream.now
+AskedOf a ps fs = Ready a.rules a.components.now ps fs a.fed.now a.labels.now a.upstream.now
 
 -- ---- rows
 
@@ -64,10 +66,10 @@ pub record Cut (rows : List ℕ) (five : List ℤ) (slopes : List ℕ) : Type 0 
 -- ---- verdict rows
 
 -- the lines of a port with a status, asked for by its device's id
-unfoldable pub asked_text : List ℤ → List ℤ → List ℤ → ℕ → ℕ → ℕ → List ℕ
-asked_text cs kept fs id port status =
-    input_text id port status (ids_where cs (at_place (λ p a. is_immediate cs kept p port a) (row_place cs id port)))
-    (ids_where cs (at_place (λ p a. is_inferred_for cs kept fs p port a) (row_place cs id port)))
+unfoldable pub asked_text : ℕ → List ℤ → List ℤ → List ℤ → ℕ → ℕ → ℕ → List ℕ
+asked_text rules cs kept fs id port status =
+    input_text id port status (ids_where cs (at_place (λ p a. is_immediate cs kept p port a) (row_place rules cs id port)))
+    (ids_where cs (at_place (λ p a. is_inferred_for rules cs kept fs p port a) (row_place rules cs id port)))
 
 -- rows of three numbers: device, port, status
 unfoldable pub row_lines : (ℕ → ℕ → ℕ → List ℕ) → List ℕ → List ℕ
@@ -76,8 +78,13 @@ row_lines text (a ∷ []) = []
 row_lines text (a ∷ b ∷ []) = []
 row_lines text (a ∷ b ∷ c ∷ rows) = text a b c ++ row_lines text rows
 
-abbrev pub inputs_text : List ℤ → List ℤ → List ℤ → List ℕ → List ℕ
-inputs_text cs kept fs rows = line_of (ascii "inputs") (pos (length rows / 3)) ++ row_lines (asked_text cs kept fs) rows
+abbrev pub inputs_text : ℕ → List ℤ → List ℤ → List ℤ → List ℕ → List ℕ
+inputs_text rules cs kept fs rows = line_of (ascii "inputs") (pos (length rows / 3)) ++ row_lines (asked_text rules cs kept fs) rows
+
+-- ---- the last block, by the ids that it lists
+
+abbrev pub unread_text : ℕ → List ℕ → List ℕ
+unread_text rules ids = cond (blanks_unread rules) (block_text Block.Unread ids) []
 
 -- ---- the report by its rows
 
@@ -86,35 +93,34 @@ abbrev pub blocks_text : List ℕ → List ℕ → List ℕ → List ℕ → Lis
 blocks_text components kept regions sources =
     line_of (ascii "answer") (pos 0) ++ (block_text Block.Components components ++ (block_text Block.Connections kept ++ (block_text Block.Regions regions ++ block_text Block.Sources sources)))
 
-abbrev pub whole_text : List ℤ → List ℤ → List ℤ → List ℕ → List ℕ → List ℕ → List ℕ → List ℕ → List ℕ
-whole_text cs kept fs components connections regions sources inputs =
-    blocks_text components connections regions sources ++ inputs_text cs kept fs inputs
+abbrev pub whole_text : ℕ → List ℤ → List ℤ → List ℤ → List ℕ → List ℕ → List ℕ → List ℕ → List ℕ → List ℕ → List ℕ
+whole_text rules cs kept fs components connections regions sources inputs ids =
+    blocks_text components connections regions sources ++ (inputs_text rules cs kept fs inputs ++ unread_text rules ids)
 
 -- ---- scenes
 
 -- the rules and the lists of an accepted sheet, and the table of ids
-pub record Accepts (cs ps fs : List ℤ) (keys : List ℕ) : Type 0 where
-  pub rules : ℕ
+pub record Accepts (rules : ℕ) (cs ps fs : List ℤ) (keys : List ℕ) : Type 0 where
   pub accepted : sheet_refusal rules cs ps fs ≡ Ok tt
   pub table : IdTable cs keys
 
 -- its groups, and its kept connections with their slopes
-pub record Gathered (cs ps : List ℤ) (kept : List ℤ) (nets fragments slopes : List ℕ) : Type 0 where
-  pub kept_are : kept ≡ kept_list cs ps
-  pub sloped : Cut (sloped_rows cs ps) kept slopes
+pub record Gathered (rules : ℕ) (cs ps : List ℤ) (kept : List ℤ) (nets fragments slopes : List ℕ) : Type 0 where
+  pub kept_are : kept ≡ kept_list rules cs ps
+  pub sloped : Cut (sloped_rows rules cs ps) kept slopes
   pub nets_old : List ℕ
   pub nets_are : nets ≡ laid (nets_of cs ps) nets_old
   pub fragments_old : List ℕ
   pub fragments_are : fragments ≡ laid (fragments_of cs ps) fragments_old
 
 -- what the analysis gave: the region of each component at the front of a slice, the source and the verdict rows, and the answer
-pub record Analyzed (cs ps fs : List ℤ) (regions sources inputs : List ℕ) (r : Analysis) : Type 0 where
+pub record Analyzed (rules : ℕ) (cs ps fs : List ℤ) (regions sources inputs : List ℕ) (r : Analysis) : Type 0 where
   pub regions_old : List ℕ
   pub regions_are : regions ≡ laid (regions_of cs ps) regions_old
-  pub sources_are : sources ≡ source_rows cs ps fs
-  pub inputs_are : inputs ≡ input_rows cs ps fs
+  pub sources_are : sources ≡ source_rows rules cs ps fs
+  pub inputs_are : inputs ≡ input_rows rules cs ps fs
   pub region_count_lem : r.regions ≡ region_count cs ps
   pub drive_set : SetWhere (component_count cs) (marked (drive cs ps fs)) r.drive.words
-  pub potential_set : SetWhere (component_count cs) (marked (potential cs ps fs)) r.potential.words
+  pub potential_set : SetWhere (component_count cs) (marked (potential rules cs ps fs)) r.potential.words
   pub cyclic_set : SetWhere (region_count cs ps) (is_cyclic cs ps) r.cyclic.words
   pub has_drive_set : SetWhere (region_count cs ps) (holds_drive cs ps fs) r.has_drive.words

@@ -6,6 +6,7 @@
 pub mod fill;
 mod print;
 pub mod rows;
+pub mod unread;
 
 ghost use Rattle.lists.specs.Rules.{rules_limit};
 ghost use Rattle.forms.specs.Sheet.{parse};

@@ -10,6 +10,7 @@ ghost use Rattle.report.specs.Printing.{AskedOf, whole_text, Accepts, Gathered, 
 
 use super::fill::{cut_slopes, fill_components, fill_connections, fill_regions};
 use super::rows::put_rows;
+use super::unread::{fill_unread, put_unread};
 use blocks::answer::put_accepted;
 use blocks::{Block, put_block};
 use checks::refusals::grouping_lists;
@@ -56,6 +57,7 @@ struct TextRows<'a> {
     regions: &'a [u64],
     sources: &'a [u64],
     inputs: &'a [u64],
+    unread: &'a [u64],
 }
 
 // ---- the text by its rows
@@ -64,7 +66,8 @@ struct TextRows<'a> {
 fn put_whole(out: &mut [u8], asked: &Asked, rows: &TextRows) -> usize
     ensures { let a = asked.now in let t = rows.now in
         (ps fs : List ℤ) → AskedOf a ps fs →
-        let text = whole_text a.components.now ps fs t.components.now t.kept.now t.regions.now t.sources.now t.inputs.now in
+        let text = whole_text a.rules a.components.now ps fs
+        t.components.now t.kept.now t.regions.now t.sources.now t.inputs.now t.unread.now in
         Printed 0 text out.old out.new result }
 {
     let a = put_accepted(out, 0);
@@ -72,14 +75,16 @@ fn put_whole(out: &mut [u8], asked: &Asked, rows: &TextRows) -> usize
     let c = put_block(out, b, Block::Connections, rows.kept);
     let d = put_block(out, c, Block::Regions, rows.regions);
     let e = put_block(out, d, Block::Sources, rows.sources);
-    put_rows(out, e, asked, rows.inputs)
+    let f = put_rows(out, e, asked, rows.inputs);
+    put_unread(out, f, asked.rules, rows.unread)
 }
 
 // Prints a report given its rows, where it fits: it is measured by a buffer with no room.
 fn print_rows(asked: &Asked, rows: &TextRows, out: &mut [u8]) -> Result<usize, Refusal>
     ensures { let a = asked.now in let t = rows.now in
         (ps fs : List ℤ) → AskedOf a ps fs →
-        let text = whole_text a.components.now ps fs t.components.now t.kept.now t.regions.now t.sources.now t.inputs.now in
+        let text = whole_text a.rules a.components.now ps fs
+        t.components.now t.kept.now t.regions.now t.sources.now t.inputs.now t.unread.now in
         PrintedBy (fits text (length out.old)) text out.old out.new result }
 {
     let length = put_whole(&mut [], asked, rows);
@@ -104,24 +109,27 @@ fn print_analysis(
     found: Analysis,
     out: &mut [u8],
 ) -> Result<usize, Refusal>
-    requires gathered { let cs = asked.now.components.now in let g = groups.now in
-        (ps : List ℤ) × Gathered cs ps ports.now g.nets.now g.fragments.now g.slopes.now }
+    requires gathered { let a = asked.now in let g = groups.now in
+        (ps : List ℤ) × Gathered a.rules a.components.now ps ports.now g.nets.now g.fragments.now g.slopes.now }
     requires analyzed { let a = asked.now in let r = rows.now in
         (fs : List ℤ) × (AskedOf a ports.now fs ×
-        Analyzed a.components.now ports.now fs r.regions.now r.sources.now r.inputs.now found) }
+        Analyzed a.rules a.components.now ports.now fs r.regions.now r.sources.now r.inputs.now found) }
     ensures { let a = asked.now in let g = groups.now in let r = rows.now in
-        (ps fs : List ℤ) → Gathered a.components.now ps ports.now g.nets.now g.fragments.now g.slopes.now →
+        (ps fs : List ℤ) → Gathered a.rules a.components.now ps ports.now g.nets.now g.fragments.now g.slopes.now →
         AskedOf a ports.now fs →
-        Analyzed a.components.now ports.now fs r.regions.now r.sources.now r.inputs.now found →
-        PrintedBy (fits (report_of a.components.now ps fs) (length out.old)) (report_of a.components.now ps fs) out.old out.new result }
+        Analyzed a.rules a.components.now ports.now fs r.regions.now r.sources.now r.inputs.now found →
+        let text = report_of a.rules a.components.now ps fs in
+        PrintedBy (fits text (length out.old)) text out.old out.new result }
 {
     let n = asked.keys.len();
     let count = found.regions;
     let mut components = [0u64; COMPONENT_ROWS];
     let mut kept = [0u64; KEPT_ROWS];
     let mut marks = [0u64; REGION_ROWS];
+    let mut ids = [0u64; COMPONENTS];
+    let listed = asked.component_list();
     fill_components(
-        asked.component_list(),
+        listed,
         asked.keys,
         groups.nets,
         groups.fragments,
@@ -132,12 +140,14 @@ fn print_analysis(
     );
     fill_connections(ports, groups.slopes, &mut kept);
     fill_regions(count, found.cyclic, found.has_drive, &mut marks);
+    let blank = fill_unread(asked.rules, listed, &mut ids);
     let text = TextRows {
         components: &components[..6 * n],
         kept: &kept[..KEPT * groups.slopes.len()],
         regions: &marks[..2 * count],
         sources: rows.sources,
         inputs: rows.inputs,
+        unread: &ids[..blank],
     };
     print_rows(asked, &text, out)
 }
@@ -153,14 +163,14 @@ fn print_ready(
     out: &mut [u8],
 ) -> Result<usize, Refusal>
     requires gathered { let p = plot.now in let g = groups.now in
-        (ps : List ℤ) × Gathered p.components.now ps p.ports.now g.nets.now g.fragments.now g.slopes.now }
+        (ps : List ℤ) × Gathered p.rules p.components.now ps p.ports.now g.nets.now g.fragments.now g.slopes.now }
     requires analyzed { let p = plot.now in let r = rows.now in
-        Analyzed p.components.now p.ports.now p.frontiers.now r.regions.now r.sources.now r.inputs.now found }
+        Analyzed p.rules p.components.now p.ports.now p.frontiers.now r.regions.now r.sources.now r.inputs.now found }
     requires stack_room { 2 * component_count plot.now.components.now ≤ length stack.old }
     ensures { let p = plot.now in let g = groups.now in
-        (ps : List ℤ) → Gathered p.components.now ps p.ports.now g.nets.now g.fragments.now g.slopes.now →
-        PrintedBy (fits (report_of p.components.now ps p.frontiers.now) (length out.old)) (report_of p.components.now ps p.frontiers.now)
-        out.old out.new result }
+        (ps : List ℤ) → Gathered p.rules p.components.now ps p.ports.now g.nets.now g.fragments.now g.slopes.now →
+        let text = report_of p.rules p.components.now ps p.frontiers.now in
+        PrintedBy (fits text (length out.old)) text out.old out.new result }
 {
     let n = plot.keys.len();
     let m = plot.port_list().count();
@@ -171,6 +181,7 @@ fn print_ready(
     let asked = Asked {
         keys: plot.keys,
         components: plot.components,
+        rules: plot.rules,
         fed: &fed[..m],
         labels: &labels[..n],
         upstream: &upstream,
@@ -180,6 +191,7 @@ fn print_ready(
 
 // Analyzes the kept connections of a scene and prints its report, given its groups.
 fn print_kept(
+    rules: u64,
     keys: &[u64],
     scene: &[i64],
     ports: &[i64],
@@ -188,13 +200,13 @@ fn print_kept(
     out: &mut [u8],
 ) -> Result<usize, Refusal>
     requires { let g = groups.now in
-        (ps : List ℤ) × (Accepts scene.now ps frontiers.now keys.now ×
-        Gathered scene.now ps ports.now g.nets.now g.fragments.now g.slopes.now) }
+        (ps : List ℤ) × (Accepts rules scene.now ps frontiers.now keys.now ×
+        Gathered rules scene.now ps ports.now g.nets.now g.fragments.now g.slopes.now) }
     ensures { let g = groups.now in
-        (ps : List ℤ) → Accepts scene.now ps frontiers.now keys.now →
-        Gathered scene.now ps ports.now g.nets.now g.fragments.now g.slopes.now →
-        PrintedBy (fits (report_of scene.now ps frontiers.now) (length out.old)) (report_of scene.now ps frontiers.now)
-        out.old out.new result }
+        (ps : List ℤ) → Accepts rules scene.now ps frontiers.now keys.now →
+        Gathered rules scene.now ps ports.now g.nets.now g.fragments.now g.slopes.now →
+        let text = report_of rules scene.now ps frontiers.now in
+        PrintedBy (fits text (length out.old)) text out.old out.new result }
 {
     let mut ends = [Ends { source: 0, sink: 0 }; CONNECTIONS];
     let mut regions = [0u64; COMPONENTS];
@@ -208,6 +220,7 @@ fn print_kept(
         components: scene,
         ports,
         frontiers,
+        rules,
         ends: &ends,
     };
     let found = analyze(&plot, &mut regions, &mut sources, &mut inputs, &mut stack);
@@ -221,14 +234,15 @@ fn print_kept(
 
 // Prints the report of an accepted scene, given its table of ids.
 fn print_scene(
+    rules: u64,
     keys: &[u64],
     scene: &[i64],
     connections: &[i64],
     frontiers: &[i64],
     out: &mut [u8],
 ) -> Result<usize, Refusal>
-    requires { Accepts scene.now connections.now frontiers.now keys.now }
-    ensures { let text = report_of scene.now connections.now frontiers.now in
+    requires { Accepts rules scene.now connections.now frontiers.now keys.now }
+    ensures { let text = report_of rules scene.now connections.now frontiers.now in
         PrintedBy (fits text (length out.old)) text out.old out.new result }
 {
     let mut nets = [0u64; COMPONENTS];
@@ -239,7 +253,7 @@ fn print_scene(
         numbers: connections,
     };
     group(keys, connected, &mut nets, &mut fragments);
-    let count = keep_all(listed, keys, connected, &mut ports);
+    let count = keep_all(rules, listed, keys, connected, &mut ports);
     let mut all_slopes = [0u8; CONNECTIONS];
     let slopes = &mut all_slopes[..count];
     cut_slopes(&mut ports, slopes);
@@ -248,7 +262,15 @@ fn print_scene(
         fragments: &fragments,
         slopes,
     };
-    print_kept(keys, scene, &ports[..count * PORT], frontiers, &groups, out)
+    print_kept(
+        rules,
+        keys,
+        scene,
+        &ports[..count * PORT],
+        frontiers,
+        &groups,
+        out,
+    )
 }
 
 // Checks the three lists of a sheet and prints their report, where it fits.
@@ -260,10 +282,17 @@ pub(crate) fn print_lists(
     out: &mut [u8],
 ) -> Result<usize, Refusal>
     ensures { PrintedBy (lists_checked rules components.now connections.now frontiers.now (length out.old))
-        (report_of components.now connections.now frontiers.now) out.old out.new result }
+        (report_of rules components.now connections.now frontiers.now) out.old out.new result }
 {
     let mut keys = [0u64; COMPONENTS];
     let count = components.len() / COMPONENT;
     grouping_lists(rules, components, connections, frontiers, true, &mut keys)?;
-    print_scene(&keys[..count], components, connections, frontiers, out)
+    print_scene(
+        rules,
+        &keys[..count],
+        components,
+        connections,
+        frontiers,
+        out,
+    )
 }

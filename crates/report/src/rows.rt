@@ -13,7 +13,7 @@ use inputs::asked::Asked;
 fn put_asked(out: &mut [u8], at: usize, asked: &Asked, row: VerdictRow) -> usize
     ensures { let a = asked.now in
         (ps fs : List ℤ) → AskedOf a ps fs →
-        Printed at (asked_text a.components.now ps fs row.device row.port row.status) out.old out.new result }
+        Printed at (asked_text a.rules a.components.now ps fs row.device row.port row.status) out.old out.new result }
 {
     let found = asked.sources(row.device, row.port);
     put_input(out, at, row, found.immediate, found.inferred, asked.keys)
@@ -23,7 +23,7 @@ fn put_asked(out: &mut [u8], at: usize, asked: &Asked, row: VerdictRow) -> usize
 pub fn put_rows(out: &mut [u8], at: usize, asked: &Asked, rows: &[u64]) -> usize
     ensures { let a = asked.now in
         (ps fs : List ℤ) → AskedOf a ps fs →
-        Printed at (inputs_text a.components.now ps fs rows.now) out.old out.new result }
+        Printed at (inputs_text a.rules a.components.now ps fs rows.now) out.old out.new result }
 {
     let (rows, _) = rows.as_chunks::<3>();
     let mut p = put_count(out, at, Block::Inputs, rows.len() as u64);

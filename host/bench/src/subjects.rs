@@ -8,7 +8,7 @@ use dustroute_translate::analyze_signal_liveness;
 use oracle::lists;
 use probe::capi;
 use probe::ports::port_connections;
-use scenes::limits::{COMPONENT, CONNECTION, PORT_CONNECTION};
+use scenes::limits::{COMPONENT, CONNECTION, PORT_CONNECTION, RULES_OF_THE_RUST};
 use scenes::{Lent, Scene, bytes};
 
 use crate::measure::Times;
@@ -55,6 +55,7 @@ impl Subject for Groups {
         times.rust(|| VerifiedTopology::from_parts(components, connections));
         times.proved(|| {
             let answer = capi::groups(
+                RULES_OF_THE_RUST,
                 &self.component_bytes,
                 &self.connection_bytes,
                 &mut self.nets,
@@ -88,7 +89,8 @@ impl Subject for Ports {
         times.rust(|| PhysicalScene::from_unvalidated_topology(observation, &self.topology));
         times.proved(|| {
             let (components, connections) = (&self.scene.components, &self.scene.connections);
-            let answer = port_connections(components, connections, &mut self.out);
+            let answer =
+                port_connections(RULES_OF_THE_RUST, components, connections, &mut self.out);
             assert!(answer.is_ok());
         });
     }
@@ -136,7 +138,8 @@ impl Subject for Liveness {
                 sets: &mut self.sets,
                 stack: &mut self.stack,
             };
-            let answer = capi::liveness_bytes(components, ports, frontiers, lent);
+            let answer =
+                capi::liveness_bytes(RULES_OF_THE_RUST, components, ports, frontiers, lent);
             assert!(answer.is_ok());
         });
     }

@@ -1,6 +1,6 @@
-//! The liveness entry by bytes, compared with the unchanged Rust where it
-//! accepts and with the restatement where it refuses; and the input query of
-//! each verdict row.
+//! The liveness entry by bytes, compared under rules 1 with the unchanged Rust
+//! where it accepts, under others with the restatement, and with the restatement
+//! where it refuses; and the input query of each verdict row.
 
 use std::fmt::{self, Display};
 
@@ -8,14 +8,16 @@ use oracle::Input;
 use probe::capi::{self, RowCounts, WORDS};
 use probe::query::{Asked, immediate_word, inferred_word, input_refusal};
 use scenes::bytes::{self, LivenessLent, NUMBER, SET_WORDS};
-use scenes::limits::COMPONENT;
+use scenes::limits::{COMPONENT, RULES_OF_THE_RUST};
 use scenes::{Lent, Scene};
 
-use crate::{Counted, Guarded};
+use crate::{Counted, Guarded, UNKNOWN_RULES};
 
-/// What the entry takes: three lists as bytes, and how many bytes are lent.
-#[derive(Clone, Debug, Default)]
+/// What the entry takes: the rules' number, three lists as bytes, and how many
+/// bytes are lent.
+#[derive(Clone, Debug)]
 pub struct LivenessLists {
+    pub rules: i64,
     pub components: Vec<u8>,
     pub ports: Vec<u8>,
     pub frontiers: Vec<u8>,
@@ -23,10 +25,12 @@ pub struct LivenessLists {
 }
 
 impl LivenessLists {
-    /// The lists of a scene, with the fewest bytes lent that are enough.
+    /// The lists of a scene, with the fewest bytes lent that are enough, to be
+    /// marked by the rules of the Rust.
     #[must_use]
     pub fn of(scene: &Scene) -> Self {
         Self {
+            rules: RULES_OF_THE_RUST,
             components: bytes::of(&scene.components),
             ports: bytes::of(&scene.ports),
             frontiers: bytes::of(&scene.frontiers),
@@ -48,10 +52,10 @@ impl Display for LivenessLists {
     fn fmt(&self, out: &mut fmt::Formatter<'_>) -> fmt::Result {
         let lists = [&self.components, &self.ports, &self.frontiers];
         let tails = lists.map(|list| list.len() % NUMBER);
-        let (lent, scene) = (&self.lent, self.scene());
+        let (rules, lent, scene) = (self.rules, &self.lent, self.scene());
         write!(
             out,
-            "\n  lent {lent:?}, odd bytes at the ends {tails:?}{scene}"
+            "\n  rules {rules}, lent {lent:?}, odd bytes at the ends {tails:?}{scene}"
         )
     }
 }
@@ -62,7 +66,7 @@ pub struct Alive {
     /// Scenes that are not asked about after one that is.
     spared: u64,
     calls: u64,
-    by_number: [u64; 8],
+    by_number: [u64; UNKNOWN_RULES + 1],
     components: u64,
     regions: u64,
     cyclic: u64,
@@ -116,7 +120,14 @@ impl Slices {
             sets: self.sets.lent(),
             stack: self.stack.lent(),
         };
-        capi::liveness_bytes(&lists.components, &lists.ports, &lists.frontiers, lent)
+        let LivenessLists {
+            rules,
+            components,
+            ports,
+            frontiers,
+            ..
+        } = lists;
+        capi::liveness_bytes(*rules, components, ports, frontiers, lent)
     }
 
     fn are_as_before(&self) -> bool {
@@ -162,7 +173,7 @@ impl Alive {
                 // need not ask it again.
                 let is_asked = self.by_number[0].is_multiple_of(self.spared + 1);
                 if is_asked && lists.lent == enough(&scene) {
-                    self.queries(&report, &scene, case);
+                    self.queries(lists.rules, &report, &scene, case);
                 }
             }
             Err(refusal) => {
@@ -187,7 +198,13 @@ impl Alive {
 
     /// The immediate and the inferred set of verdict rows: of all of them in a
     /// small scene, else of some. A port beside them has no row and is refused.
-    fn queries(&mut self, report: &oracle::Liveness, scene: &Scene, case: &dyn Display) {
+    fn queries(
+        &mut self,
+        rules: i64,
+        report: &oracle::Liveness,
+        scene: &Scene,
+        case: &dyn Display,
+    ) {
         let few = scene.components.len() / COMPONENT <= FEW;
         let step = if few {
             1
@@ -197,6 +214,7 @@ impl Alive {
         for input in report.inputs.iter().step_by(step) {
             let [id, port] = [input.device, input.port].map(i64::unsigned_abs);
             let mut asked = Asked {
+                rules,
                 components: &scene.components,
                 ports: &scene.ports,
                 frontiers: &scene.frontiers,
@@ -275,9 +293,11 @@ const fn enough(scene: &Scene) -> LivenessLent {
     }
 }
 
-/// The Rust's report, or the restatement's refusal.
+/// The Rust's report, or under other rules than its own the restatement's; or the
+/// restatement's refusal.
 fn wanted(lists: &LivenessLists) -> Result<oracle::Liveness, probe::Refusal> {
     let refusal = bytes::liveness(
+        lists.rules,
         &lists.components,
         &lists.ports,
         &lists.frontiers,
@@ -286,9 +306,16 @@ fn wanted(lists: &LivenessLists) -> Result<oracle::Liveness, probe::Refusal> {
     if let Some(scenes::Refusal { number, list, item }) = refusal {
         return Err(probe::Refusal { number, list, item });
     }
-    let scene = lists.scene();
-    let (components, ports) = (&scene.components, &scene.ports);
-    Ok(oracle::liveness(components, ports, &scene.frontiers))
+    let Scene {
+        components,
+        ports,
+        frontiers,
+        ..
+    } = &lists.scene();
+    Ok(match lists.rules {
+        RULES_OF_THE_RUST => oracle::liveness(components, ports, frontiers),
+        rules => paper::liveness(rules, components, ports, frontiers),
+    })
 }
 
 const fn counts(report: &oracle::Liveness) -> RowCounts {

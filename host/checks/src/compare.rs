@@ -6,7 +6,7 @@ use scenes::damage::List;
 use scenes::limits::COMPONENT;
 use scenes::{Lent, Scene, members, refusals};
 
-use crate::Counted;
+use crate::{Counted, UNKNOWN_RULES};
 
 /// How many comparisons were made, how often each refusal's number came up
 /// (0 for acceptance), and how many places the id table had.
@@ -14,7 +14,7 @@ use crate::Counted;
 pub struct Tally {
     scenes: u64,
     compared: u64,
-    by_number: [u64; 8],
+    by_number: [u64; UNKNOWN_RULES + 1],
     places: u64,
 }
 
@@ -38,22 +38,31 @@ fn is_sheet_fit(scene: &Scene) -> bool {
 }
 
 impl Tally {
-    /// Compares all refusals of a scene with slices of these lengths. `case`
-    /// is printed where they differ.
+    /// Compares all refusals of a scene with slices of these lengths, under the
+    /// first rules. `case` is printed where they differ.
     ///
     /// # Panics
     /// Where an answer differs from the restatement's.
     pub fn refusals(&mut self, scene: &Scene, lent: &Lent, case: &dyn Display) {
+        self.refusals_by(1, scene, lent, case);
+    }
+
+    /// The same under the rules of a number, known or not.
+    ///
+    /// # Panics
+    /// Where an answer differs from the restatement's.
+    pub fn refusals_by(&mut self, rules: i64, scene: &Scene, lent: &Lent, case: &dyn Display) {
         self.scenes += 1;
-        let (wanted, given) = entries(scene, lent);
+        let case = &format_args!("rules {rules}, {case}");
+        let (wanted, given) = entries(rules, scene, lent);
         self.hold("grouping", wanted[0], given[0], scene, lent, case);
         self.hold("ports", wanted[1], given[1], scene, lent, case);
         self.hold("liveness", wanted[2], given[2], scene, lent, case);
         self.hold("query", wanted[3], given[3], scene, lent, case);
         if is_sheet_fit(scene) {
             let (c, e, f) = (&scene.components, &scene.connections, &scene.frontiers);
-            let wanted = restated(refusals::sheet_lists(c, e, f));
-            let given = probed(probe::sheet_lists(c, e, f));
+            let wanted = restated(refusals::sheet_lists(rules, c, e, f));
+            let given = probed(probe::sheet_lists(rules, c, e, f));
             self.hold("sheet", wanted, given, scene, lent, case);
         }
     }
@@ -135,7 +144,7 @@ impl Counted for Tally {
 }
 
 /// Grouping, ports, liveness and query: what is wanted and what is given.
-fn entries(scene: &Scene, lent: &Lent) -> ([Plain; 4], [Plain; 4]) {
+fn entries(rules: i64, scene: &Scene, lent: &Lent) -> ([Plain; 4], [Plain; 4]) {
     let Scene {
         components: c,
         connections: e,
@@ -152,16 +161,16 @@ fn entries(scene: &Scene, lent: &Lent) -> ([Plain; 4], [Plain; 4]) {
         stack,
     } = *lent;
     let wanted = [
-        refusals::grouping(c, e, nets, fragments),
-        refusals::ports(c, e, ports),
-        refusals::liveness(c, p, f, regions, sources, inputs, stack),
-        refusals::query(c, p, f, stack),
+        refusals::grouping(rules, c, e, nets, fragments),
+        refusals::ports(rules, c, e, ports),
+        refusals::liveness(rules, c, p, f, lent),
+        refusals::query(rules, c, p, f, stack),
     ];
     let given = [
-        probe::grouping(c, e, nets, fragments),
-        probe::ports(c, e, ports),
-        probe::liveness(c, p, f, regions, sources, inputs, stack),
-        probe::query(c, p, f, stack),
+        probe::grouping(rules, c, e, nets, fragments),
+        probe::ports(rules, c, e, ports),
+        probe::liveness(rules, c, p, f, [regions, sources, inputs, stack]),
+        probe::query(rules, c, p, f, stack),
     ];
     (wanted.map(restated), given.map(probed))
 }

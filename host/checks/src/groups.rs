@@ -1,11 +1,11 @@
-//! The grouping entry by bytes, compared with the unchanged Rust where it
-//! accepts and with the restatement where it refuses.
+//! The grouping entry by bytes under rules 1, compared with the unchanged Rust
+//! where it accepts and with the restatement where it refuses.
 
 use std::fmt::{self, Display};
 
 use probe::capi::{self, Counts};
 use probe::ports::fragment_net;
-use scenes::limits::COMPONENT;
+use scenes::limits::{COMPONENT, RULES_OF_THE_RUST};
 use scenes::{Scene, bytes};
 
 use crate::{Counted, Guarded};
@@ -81,6 +81,7 @@ impl Groups {
         let mut nets = Guarded::new(lists.nets, shift);
         let mut fragments = Guarded::new(lists.fragments, shift / 8);
         let given = capi::groups(
+            RULES_OF_THE_RUST,
             &lists.components,
             &lists.connections,
             nets.lent(),
@@ -170,7 +171,13 @@ fn wanted(lists: &ByteLists) -> Result<oracle::Groups, probe::Refusal> {
         nets,
         fragments,
     } = lists;
-    if let Some(refusal) = bytes::grouping(components, connections, *nets, *fragments) {
+    if let Some(refusal) = bytes::grouping(
+        RULES_OF_THE_RUST,
+        components,
+        connections,
+        *nets,
+        *fragments,
+    ) {
         let scenes::Refusal { number, list, item } = refusal;
         return Err(probe::Refusal { number, list, item });
     }

@@ -24,6 +24,12 @@ impl Filling for usize {
     }
 }
 
+impl Filling for u64 {
+    fn filling(place: usize) -> Self {
+        1 + (place as Self) * 1_000_003
+    }
+}
+
 impl Filling for i64 {
     /// Negative, which no number of an answer is.
     fn filling(place: usize) -> Self {

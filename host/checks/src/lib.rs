@@ -10,11 +10,13 @@ pub mod program;
 pub mod runs;
 pub mod scale;
 mod sheets;
+mod unknown;
 
 pub use alive::{Alive, LivenessLists};
 pub use compare::Tally;
-pub use counted::Counted;
+pub use counted::{Counted, UNKNOWN_RULES};
 pub use groups::{ByteLists, Groups};
 pub use guarded::Guarded;
 pub use ports::Ports;
 pub use sheets::{Entry, Sheets};
+pub use unknown::Unknown;

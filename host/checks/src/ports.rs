@@ -1,9 +1,10 @@
-//! The kept port connections, compared with the unchanged Rust where they are
-//! given, their slopes and refusals with the restatement.
+//! The kept port connections under rules 1, compared with the unchanged Rust
+//! where they are given, their slopes and refusals with the restatement.
 
 use std::fmt::Display;
 
 use probe::ports::port_connections;
+use scenes::limits::RULES_OF_THE_RUST;
 use scenes::{Scene, refusals};
 
 use crate::{Counted, Guarded};
@@ -28,7 +29,7 @@ impl Ports {
         self.calls += 1;
         let (components, connections) = (&scene.components, &scene.connections);
         let mut out = Guarded::new(lent, 0);
-        let given = port_connections(components, connections, out.lent());
+        let given = port_connections(RULES_OF_THE_RUST, components, connections, out.lent());
         match wanted(scene, lent) {
             Ok(rows) => {
                 self.by_number[0] += 1;
@@ -75,7 +76,7 @@ impl Counted for Ports {
 /// The Rust's rows with the restatement's slopes, or its refusal.
 fn wanted(scene: &Scene, lent: usize) -> Result<Vec<[i64; 6]>, probe::Refusal> {
     let (components, connections) = (&scene.components, &scene.connections);
-    if let Some(refusal) = refusals::ports(components, connections, lent) {
+    if let Some(refusal) = refusals::ports(RULES_OF_THE_RUST, components, connections, lent) {
         let scenes::Refusal { number, list, item } = refusal;
         return Err(probe::Refusal { number, list, item });
     }

@@ -17,11 +17,14 @@ fn list(text: &str, word: &str) -> Option<Vec<i64>> {
     })
 }
 
-/// What the entry says of the scene.
+/// What the entry says of the scene, by rules 1 where it names none.
 fn answer(text: &str) -> Option<Vec<i64>> {
+    let [rules] = list(text, "rules").unwrap_or(vec![1])[..] else {
+        return None;
+    };
     let [components, ports, frontiers] =
         ["components", "ports", "frontiers"].map(|word| list(text, word));
-    let given = match liveness(&components?, &ports?, &frontiers?) {
+    let given = match liveness(rules, &components?, &ports?, &frontiers?) {
         Ok(found) => vec![
             0,
             found.region_count,

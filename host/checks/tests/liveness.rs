@@ -7,7 +7,9 @@ use std::io;
 use checks::runs::{self, Seeds};
 use checks::{Alive, Counted, LivenessLists};
 use probe::capi::liveness;
-use scenes::limits::{COMPONENT, COMPONENTS, CONNECTIONS, PORT_CONNECTION, SUPPORT};
+use scenes::limits::{
+    COMPONENT, COMPONENTS, CONNECTIONS, PORT_CONNECTION, RULES_OF_THE_RUST, SUPPORT,
+};
 use scenes::random::Random;
 use scenes::{Profile, Scene};
 
@@ -182,7 +184,13 @@ fn a_cleared_block_is_refused_at_either_end() {
         assert_eq!(scene.components.len(), 3 * COMPONENT);
         let before = scene.ports.len() / connection.len();
         scene.ports.extend(connection);
-        let said = liveness(&scene.components, &scene.ports, &scene.frontiers);
+        let Scene {
+            components,
+            ports,
+            frontiers,
+            ..
+        } = &scene;
+        let said = liveness(RULES_OF_THE_RUST, components, ports, frontiers);
         let at = said.map_err(|it| (it.number, it.list, it.item)).map(|_| ());
         assert_eq!(at, Err((7, 1, before as u64)));
         alive.call(&LivenessLists::of(&scene), &"cleared block");

@@ -5,9 +5,9 @@ use checks::runs::{self, Seeds};
 use checks::{Alive, Counted, LivenessLists};
 use scenes::bytes::{LivenessLent, NUMBER};
 use scenes::damage::List;
-use scenes::exhaustive;
 use scenes::limits::{COMPONENT, FRONTIER, PORT_CONNECTION};
 use scenes::random::Random;
+use scenes::{Scene, exhaustive};
 
 /// Every number of this entry; 6 is of grouping connections.
 fn assert_every_number_came_up(alive: &Alive, title: &str) {
@@ -40,8 +40,9 @@ fn shorten(lists: &mut LivenessLists, random: &mut Random) {
 #[test]
 fn of_nothing() {
     let mut alive = Alive::default();
-    alive.call(&LivenessLists::default(), &"all empty, no room for sets");
-    let mut lists = LivenessLists::default();
+    let mut lists = LivenessLists::of(&Scene::default());
+    lists.lent.sets = 0;
+    alive.call(&lists, &"all empty, no room for sets");
     lists.lent.sets = 512;
     alive.call(&lists, &"all empty");
     lists.lent.sets = 511;

@@ -100,9 +100,9 @@ fn a_host_in_c_under_valgrind() {
     }
 }
 
-#[test]
-fn questions_in_c_under_valgrind() {
-    let Some(program) = c_host("questions.c", "questions") else {
+/// A host that allocates nothing, run alone and under valgrind.
+fn hold_host(source: &str, name: &str) {
+    let Some(program) = c_host(source, name) else {
         return;
     };
     let output = run(&mut Command::new(&program));
@@ -112,6 +112,16 @@ fn questions_in_c_under_valgrind() {
     if let Some(said) = checked(&program, &[]) {
         assert!(said.contains("total heap usage: 0 allocs"), "{said}");
     }
+}
+
+#[test]
+fn questions_in_c_under_valgrind() {
+    hold_host("questions.c", "questions");
+}
+
+#[test]
+fn the_rules_in_c_under_valgrind() {
+    hold_host("rules.c", "rules");
 }
 
 #[test]

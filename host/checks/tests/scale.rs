@@ -32,13 +32,17 @@ fn ports() {
 }
 
 /// The scene's own port connections, or those that are kept of its grouping
-/// connections. The input query is asked on one scene of sixteen.
+/// connections; one scene of four by rules 2. The input query is asked on one
+/// scene of sixteen.
 #[test]
 #[ignore = "ten million scenes"]
 fn liveness() {
     let mut alive = Alive::asking_every(16);
     Run::asked_for().each("liveness", |scene, seed, case| {
         let mut lists = LivenessLists::of(scene);
+        if seed % 4 == 3 {
+            lists.rules = 2;
+        }
         if Random::new(seed).once_in(2) {
             let kept = oracle::ports(&scene.components, &scene.connections);
             lists.ports = scenes::bytes::of(kept.as_flattened());
@@ -61,7 +65,8 @@ fn damaged(scene: &Scene, random: &mut Random) -> Scene {
     }
 }
 
-/// Every entry's refusal; and what it leaves of its slices.
+/// Every entry's refusal, now and then by rules that are not known; and what it
+/// leaves of its slices.
 #[test]
 #[ignore = "ten million scenes"]
 fn refusals() {
@@ -75,11 +80,15 @@ fn refusals() {
             let variants = lent.variants();
             lent = variants[random.below(variants.len())];
         }
-        tally.refusals(&scene, &lent, &case);
+        let rules = [1, 1, 2, 3][usize::try_from(seed % 4).unwrap_or(0)];
+        tally.refusals_by(rules, &scene, &lent, &case);
         match random.below(3) {
             0 => groups.call(&ByteLists::of(&scene), &case),
             1 => ports.call(&scene, Lent::enough(&scene).ports, &case),
-            _ => alive.call(&LivenessLists::of(&scene), &case),
+            _ => {
+                let lists = LivenessLists::of(&scene);
+                alive.call(&LivenessLists { rules, ..lists }, &case);
+            }
         }
     });
     tally.assert_every_number_came_up("refusals");

@@ -7,8 +7,8 @@
 use std::error::Error;
 
 use dustroute::{
-    BlockKind, Component, ComponentId, Lighting, PortConnection, PortRef, Position, TransferKind,
-    light,
+    BlockKind, Component, ComponentId, Lighting, PortConnection, PortRef, Position, Rules,
+    TransferKind, light,
 };
 
 /// Names of the blocks, in list order, with their ids.
@@ -62,7 +62,7 @@ fn is_in_order(lighting: &Lighting, connections: &[PortConnection]) -> bool {
 
 fn main() -> Result<(), Box<dyn Error>> {
     let (components, connections) = plot();
-    let lighting = light(&components, &connections, &[])?;
+    let lighting = light(Rules::Two, &components, &connections, &[])?;
     for line in lesson(&lighting) {
         println!("{line}");
     }

@@ -1,5 +1,6 @@
 //! The old server's types turned into this crate's, and both its calls made
-//! the old way and the new. To be copied and changed.
+//! the old way and the new. The old server knows the first year's rules, so the
+//! new calls are made by these. To be copied and changed.
 //!
 //!     cargo run --offline --example old_server
 
@@ -11,7 +12,7 @@ use dustroute_translate::{SignalLivenessReport, analyze_signal_liveness};
 
 use dustroute::{
     BlockKind, Component, ComponentId, ComponentLiveness, Connection, ConnectionKind, Facing,
-    Groups, Liveness, PortConnection, PortRef, Position, RequiredInput, RequiredInputStatus,
+    Groups, Liveness, PortConnection, PortRef, Position, RequiredInput, RequiredInputStatus, Rules,
     SignalSource, SignalSourceKind, TransferKind,
 };
 
@@ -135,6 +136,7 @@ pub fn grouped(
     let components = components.map(|old| component(old.id, old.pos, &old.block));
     let connections = connections.iter().map(connection);
     Ok(dustroute::groups(
+        Rules::One,
         &components.collect::<Result<Vec<_>, _>>()?,
         &connections.collect::<Result<Vec<_>, _>>()?,
     )?)
@@ -148,6 +150,7 @@ pub fn analyzed(scene: &physical::PhysicalScene) -> Result<Liveness, Failure> {
     let frontiers = scene.observation.frontier.iter();
     let frontiers = frontiers.map(|old| position(old.position));
     Ok(dustroute::liveness(
+        Rules::One,
         &components.collect::<Result<Vec<_>, _>>()?,
         &connections.collect::<Result<Vec<_>, _>>()?,
         &frontiers.collect::<Vec<_>>(),

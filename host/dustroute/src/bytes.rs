@@ -3,7 +3,9 @@
 //! [`Refusal::of`](crate::Refusal::of) reads a refusal from the number.
 //!
 //! A number is eight bytes, lowest first. Slices of any length and content are
-//! safe to lend: one that is too short is refused.
+//! safe to lend: one that is too short is refused. The number of the rules, see
+//! [`Rules`](crate::Rules), may be any too: an unknown one is refused before all
+//! else.
 
 mod raw {
     //! As in `include/dustroute.h`: a slice passes as a pointer and then a
@@ -11,6 +13,7 @@ mod raw {
 
     unsafe extern "C" {
         pub fn dustroute_groups(
+            rules: i64,
             components: *const u8,
             components_len: usize,
             connections: *const u8,
@@ -22,6 +25,7 @@ mod raw {
         ) -> u64;
 
         pub fn dustroute_liveness(
+            rules: i64,
             components: *const u8,
             components_len: usize,
             ports: *const u8,
@@ -64,6 +68,7 @@ pub const SETS: usize = 4;
 ///
 /// let (mut nets, mut fragments) = ([7; 16], [7; 16]);
 /// let answer = dustroute::bytes::groups(
+///     dustroute::Rules::Two.number(),
 ///     &components.collect::<Vec<u8>>(),
 ///     &connections.collect::<Vec<u8>>(),
 ///     &mut nets,
@@ -74,11 +79,18 @@ pub const SETS: usize = 4;
 /// assert_eq!(nets, [0; 16]);
 /// ```
 #[must_use]
-pub fn groups(components: &[u8], connections: &[u8], nets: &mut [u8], fragments: &mut [u8]) -> u64 {
+pub fn groups(
+    rules: i64,
+    components: &[u8],
+    connections: &[u8],
+    nets: &mut [u8],
+    fragments: &mut [u8],
+) -> u64 {
     // SAFETY: each pointer is to a whole slice of the length beside it. The
     // callee only reads the first two, and the borrows keep the others apart.
     unsafe {
         raw::dustroute_groups(
+            rules,
             components.as_ptr(),
             components.len(),
             connections.as_ptr(),
@@ -115,16 +127,29 @@ pub struct Lent<'a> {
 ///
 /// // No components need no room but that for the sets, and here there is none.
 /// let [regions, sources, inputs, sets, stack] = &mut [const { [0_u8; 0] }; 5];
-/// let answer = liveness(&[], &[], &[], Lent { regions, sources, inputs, sets, stack });
+/// let answer = liveness(1, &[], &[], &[], Lent { regions, sources, inputs, sets, stack });
 /// let refusal = Refusal::of(answer);
 /// assert_eq!(refusal.map(|it| it.reason), Some(Reason::ShortSlice));
+///
+/// // Rules that are not known come before all else.
+/// let [regions, sources, inputs, sets, stack] = &mut [const { [0_u8; 0] }; 5];
+/// let answer = liveness(-1, &[], &[], &[], Lent { regions, sources, inputs, sets, stack });
+/// let refusal = Refusal::of(answer);
+/// assert_eq!(refusal.map(|it| it.reason), Some(Reason::UnknownRules));
 /// ```
 #[must_use]
-pub fn liveness(components: &[u8], ports: &[u8], frontiers: &[u8], lent: Lent<'_>) -> u64 {
+pub fn liveness(
+    rules: i64,
+    components: &[u8],
+    ports: &[u8],
+    frontiers: &[u8],
+    lent: Lent<'_>,
+) -> u64 {
     // SAFETY: each pointer is to a whole slice of the length beside it. The
     // callee only reads the first three, and the borrows keep the others apart.
     unsafe {
         raw::dustroute_liveness(
+            rules,
             components.as_ptr(),
             components.len(),
             ports.as_ptr(),

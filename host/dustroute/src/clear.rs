@@ -1,7 +1,8 @@
 //! A plot cleared up after digging.
 
-use crate::numbers::{counts, records, rows};
-use crate::{Component, PortConnection, Position, Refusal, limits};
+use crate::numbers::{counts, rows};
+use crate::rows::Rows;
+use crate::{Component, PortConnection, Position, Refusal, Rules, limits};
 
 mod raw {
     //! As in `include/dustroute.h`: a slice passes as a pointer and then a count
@@ -9,6 +10,7 @@ mod raw {
 
     unsafe extern "C" {
         pub fn dustroute_clear(
+            rules: i64,
             components: *const i64,
             components_len: usize,
             ports: *const i64,
@@ -63,7 +65,8 @@ impl Missing {
 /// others in order. Support connections stay, whatever their ends. These are
 /// the connections for which [`liveness`](crate::liveness) refuses a plot with
 /// [`Reason::MissingEndpoint`](crate::Reason::MissingEndpoint); what is kept it
-/// accepts. Cleared again, the plot stays as it is.
+/// accepts. Cleared again, the plot stays as it is. All this is the same under
+/// all rules.
 ///
 /// # Errors
 /// Every other refusal of the lists, as of [`liveness`](crate::liveness).
@@ -71,7 +74,7 @@ impl Missing {
 /// ```
 /// use dustroute::{
 ///     BlockKind, Component, ComponentId, Dropped, Missing, PortConnection, PortRef, Position,
-///     Reason, TransferKind, clear, liveness,
+///     Reason, Rules, TransferKind, clear, liveness,
 /// };
 ///
 /// // Three wires in a row, and a connection from a block that was dug away.
@@ -86,36 +89,29 @@ impl Missing {
 /// };
 /// let components = [wire(0), wire(1), wire(2)];
 /// let saved = [feed(0, 1), feed(1, 2), feed(9, 0)];
-/// let refused = liveness(&components, &saved, &[]);
+/// let refused = liveness(Rules::Two, &components, &saved, &[]);
 /// assert_eq!(refused.map_err(|it| it.reason), Err(Reason::MissingEndpoint));
 ///
-/// let cleared = clear(&components, &saved, &[])?;
+/// let cleared = clear(Rules::Two, &components, &saved, &[])?;
 /// assert_eq!(cleared.kept, [feed(0, 1), feed(1, 2)]);
 /// assert_eq!(cleared.dropped, [Dropped { item: 2, missing: Missing::Source }]);
 ///
-/// let found = liveness(&components, &cleared.kept, &[])?;
+/// let found = liveness(Rules::Two, &components, &cleared.kept, &[])?;
 /// assert_eq!(found.regions.len(), 3);
 /// assert!(found.regions.iter().all(|region| !region.cyclic));
 /// # Ok::<(), dustroute::Refusal>(())
 /// ```
 pub fn clear(
+    rules: Rules,
     components: &[Component],
     connections: &[PortConnection],
     frontiers: &[Position],
 ) -> Result<Cleared, Refusal> {
-    let component_rows = records(components, limits::COMPONENTS, Component::record);
-    let connection_rows = records(connections, limits::CONNECTIONS, PortConnection::record);
-    let frontier_rows = records(frontiers, limits::FRONTIERS, Position::record);
+    let lists = Rows::of(rules, components, connections, frontiers);
     let places = connections.len().min(limits::CONNECTIONS);
     let mut kept = vec![[0; 5]; places];
     let mut dropped = vec![[0; 2]; places];
-    let answer = ask(
-        component_rows.as_flattened(),
-        connection_rows.as_flattened(),
-        frontier_rows.as_flattened(),
-        kept.as_flattened_mut(),
-        dropped.as_flattened_mut(),
-    );
+    let answer = ask(&lists, kept.as_flattened_mut(), dropped.as_flattened_mut());
     let [kept_count, dropped_count, 0] = counts(answer)? else {
         return Err(Refusal::UNREADABLE);
     };
@@ -145,17 +141,13 @@ fn read_dropped([item, missing]: [u64; 2], places: usize) -> Result<Dropped, Ref
 }
 
 /// The call.
-fn ask(
-    components: &[i64],
-    ports: &[i64],
-    frontiers: &[i64],
-    kept: &mut [i64],
-    dropped: &mut [u64],
-) -> u64 {
+fn ask(lists: &Rows, kept: &mut [i64], dropped: &mut [u64]) -> u64 {
+    let (components, ports, frontiers) = (lists.components(), lists.ports(), lists.frontiers());
     // SAFETY: each pointer is to a whole slice of the length beside it. The
     // callee only reads the first three, and the borrows keep the others apart.
     unsafe {
         raw::dustroute_clear(
+            lists.rules,
             components.as_ptr(),
             components.len(),
             ports.as_ptr(),

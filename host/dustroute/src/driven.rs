@@ -2,8 +2,9 @@
 
 use crate::bytes::WORDS;
 use crate::liveness::{Set, members};
-use crate::numbers::{counts, records};
-use crate::{Component, ComponentId, PortConnection, PortRef, Position, Refusal, limits};
+use crate::numbers::counts;
+use crate::rows::Rows;
+use crate::{Component, ComponentId, PortConnection, PortRef, Position, Refusal, Rules, limits};
 
 mod raw {
     //! As in `include/dustroute.h`: a slice passes as a pointer and then a count
@@ -11,6 +12,7 @@ mod raw {
 
     unsafe extern "C" {
         pub fn dustroute_driven(
+            rules: i64,
             components: *const i64,
             components_len: usize,
             ports: *const i64,
@@ -41,7 +43,7 @@ pub struct DrivenInput {
 
 /// Finds whether one required input is driven: goes upstream from it until it
 /// meets a drive source. The verdict is that of [`liveness`](crate::liveness),
-/// without an analysis of the rest of the plot.
+/// without an analysis of the rest of the plot, and the same under all rules.
 ///
 /// # Errors
 /// The refusal of the lists, as of [`liveness`](crate::liveness); then
@@ -51,7 +53,7 @@ pub struct DrivenInput {
 /// ```
 /// use dustroute::{
 ///     BlockKind, Component, ComponentId, Facing, PortConnection, PortRef, Position, Reason,
-///     TransferKind, driven,
+///     Rules, TransferKind, driven,
 /// };
 ///
 /// // A lever, a wire beside it, and a repeater that the wire feeds.
@@ -72,40 +74,31 @@ pub struct DrivenInput {
 /// let connections = [feed(lever, wire), feed(wire, repeater)];
 /// let input = PortRef::new(repeater, 1);
 ///
-/// let found = driven(&components, &connections, &[], input)?;
+/// let found = driven(Rules::Two, &components, &connections, &[], input)?;
 /// assert!(found.driven);
 /// assert_eq!(found.met, [lever, wire]);
 ///
 /// // Without the lever's connection the wire is all there is upstream.
-/// let found = driven(&components, &[feed(wire, repeater)], &[], input)?;
+/// let found = driven(Rules::Two, &components, &[feed(wire, repeater)], &[], input)?;
 /// assert!(!found.driven);
 /// assert_eq!(found.met, [wire]);
 ///
 /// // A wire has no required input.
-/// let refused = driven(&components, &connections, &[], PortRef::new(wire, 1));
+/// let refused = driven(Rules::Two, &components, &connections, &[], PortRef::new(wire, 1));
 /// assert_eq!(refused.map_err(|refusal| refusal.reason), Err(Reason::NoVerdict));
 /// # Ok::<(), dustroute::Refusal>(())
 /// ```
 pub fn driven(
+    rules: Rules,
     components: &[Component],
     connections: &[PortConnection],
     frontiers: &[Position],
     input: PortRef,
 ) -> Result<DrivenInput, Refusal> {
-    let component_rows = records(components, limits::COMPONENTS, Component::record);
-    let connection_rows = records(connections, limits::CONNECTIONS, PortConnection::record);
-    let frontier_rows = records(frontiers, limits::FRONTIERS, Position::record);
+    let rows = Rows::of(rules, components, connections, frontiers);
     let mut met = [0; WORDS];
     let mut stack = vec![0; 2 * components.len().min(limits::COMPONENTS)];
-    let answer = ask(
-        component_rows.as_flattened(),
-        connection_rows.as_flattened(),
-        frontier_rows.as_flattened(),
-        input,
-        &mut met,
-        &mut stack,
-    );
-    let driven = match counts(answer)? {
+    let driven = match counts(ask(&rows, input, &mut met, &mut stack))? {
         [0, 0, 0] => false,
         [1, 0, 0] => true,
         _ => return Err(Refusal::UNREADABLE),
@@ -120,18 +113,13 @@ pub fn driven(
 }
 
 /// The call.
-fn ask(
-    components: &[i64],
-    ports: &[i64],
-    frontiers: &[i64],
-    input: PortRef,
-    met: &mut [u64],
-    stack: &mut [usize],
-) -> u64 {
+fn ask(rows: &Rows, input: PortRef, met: &mut [u64], stack: &mut [usize]) -> u64 {
+    let (components, ports, frontiers) = (rows.components(), rows.ports(), rows.frontiers());
     // SAFETY: each pointer is to a whole slice of the length beside it. The
     // callee only reads the first three, and the borrows keep the others apart.
     unsafe {
         raw::dustroute_driven(
+            rows.rules,
             components.as_ptr(),
             components.len(),
             ports.as_ptr(),

@@ -4,7 +4,7 @@ use std::collections::BTreeSet;
 
 use crate::bytes::{self, NUMBER};
 use crate::numbers::{below, counts, lend};
-use crate::{Component, ComponentId, Connection, Refusal, limits};
+use crate::{Component, ComponentId, Connection, Refusal, Rules, limits};
 
 /// The nets and fragments of an accepted scene.
 #[derive(Clone, Debug, Default, Eq, PartialEq)]
@@ -29,13 +29,13 @@ pub struct ComponentGroups {
 }
 
 /// Joins components into nets, by the first five kinds of connections, and into
-/// fragments, by all but the last.
+/// fragments, by all but the last. They are the same under all rules.
 ///
 /// # Errors
 /// The refusal of lists that are not as they must be; see [`Reason`](crate::Reason).
 ///
 /// ```
-/// use dustroute::{BlockKind, Component, ComponentId, Connection, ConnectionKind, Position};
+/// use dustroute::{BlockKind, Component, ComponentId, Connection, ConnectionKind, Position, Rules};
 ///
 /// let [lever, wire, lamp] = [ComponentId(1), ComponentId(2), ComponentId(3)];
 /// let components = [
@@ -48,19 +48,24 @@ pub struct ComponentGroups {
 ///     Connection { source: wire, sink: lamp, kind: ConnectionKind::WeakPower },
 /// ];
 ///
-/// let groups = dustroute::groups(&components, &connections)?;
+/// let groups = dustroute::groups(Rules::Two, &components, &connections)?;
 /// assert_eq!(groups.nets(), [[lever].into(), [wire, lamp].into()]);
 /// assert_eq!(groups.fragments(), [[lever, wire, lamp].into()]);
 /// assert_eq!(groups.fragment_nets(), [[0, 1].into()]);
 /// # Ok::<(), dustroute::Refusal>(())
 /// ```
-pub fn groups(components: &[Component], connections: &[Connection]) -> Result<Groups, Refusal> {
+pub fn groups(
+    rules: Rules,
+    components: &[Component],
+    connections: &[Connection],
+) -> Result<Groups, Refusal> {
     let room = components.len().min(limits::COMPONENTS);
     let mut nets = vec![[0; NUMBER]; room];
     let mut fragments = vec![[0; NUMBER]; room];
     let component_rows = lend(components, limits::COMPONENTS, Component::record);
     let connection_rows = lend(connections, limits::CONNECTIONS, Connection::record);
     let answer = bytes::groups(
+        rules.number(),
         component_rows.as_flattened().as_flattened(),
         connection_rows.as_flattened().as_flattened(),
         nets.as_flattened_mut(),

@@ -20,6 +20,8 @@
 //! - [`what_if`] and [`what_if_joined`] find what one connection more would
 //!   change of either answer.
 //!
+//! Each takes the [`Rules`] first, by which year's rules the plot is marked.
+//!
 //! Every list gets an answer or one [`Refusal`] with the place of the fault.
 //! Nothing here panics, and nothing is kept from call to call: every function
 //! may be called from any number of threads at once. A call needs less than
@@ -30,7 +32,7 @@
 //! ```
 //! use dustroute::{
 //!     BlockKind, Component, ComponentId, Facing, PortConnection, PortRef, Position,
-//!     RequiredInputStatus, TransferKind,
+//!     RequiredInputStatus, Rules, TransferKind,
 //! };
 //!
 //! let lever = Component::new(ComponentId(1), Position::new(0, 0, 0), BlockKind::Lever);
@@ -44,7 +46,7 @@
 //!     transfer: TransferKind::DirectionalDevice,
 //! };
 //!
-//! let found = dustroute::liveness(&[lever, repeater], &[fed], &[])?;
+//! let found = dustroute::liveness(Rules::Two, &[lever, repeater], &[fed], &[])?;
 //! assert_eq!(found.regions.len(), 2);
 //! assert_eq!(found.inputs.len(), 1);
 //! assert_eq!(found.inputs[0].status, RequiredInputStatus::DrivenByKnownSource);
@@ -71,6 +73,7 @@ mod clear;
 mod codes;
 mod driven;
 mod groups;
+mod interface;
 mod light;
 pub mod limits;
 mod liveness;
@@ -78,6 +81,8 @@ mod numbers;
 mod ports;
 mod reach_table;
 mod refusal;
+mod rows;
+mod rules;
 mod scene;
 mod trail;
 mod what_if;
@@ -86,6 +91,7 @@ pub use clear::{Cleared, Dropped, Missing, clear};
 pub use codes::{BlockKind, ConnectionKind, Facing, Slope, TransferKind};
 pub use driven::{DrivenInput, driven};
 pub use groups::{ComponentGroups, Groups, groups};
+pub use interface::{INTERFACE, interface};
 pub use light::{ComponentLight, Lighting, Step, light};
 pub use liveness::{
     ComponentLiveness, Liveness, Region, RequiredInput, RequiredInputStatus, SignalSource,
@@ -94,6 +100,7 @@ pub use liveness::{
 pub use ports::{KeptConnection, ports};
 pub use reach_table::{ReachTable, reach_table};
 pub use refusal::{List, Place, Reason, Refusal};
+pub use rules::Rules;
 pub use scene::{Component, ComponentId, Connection, PortConnection, PortRef, Position};
 pub use trail::{check_trail, trail};
 pub use what_if::{Change, ChangedInput, Joined, what_if, what_if_joined};

@@ -2,8 +2,9 @@
 
 use crate::bytes::WORDS;
 use crate::liveness::{Set, members};
-use crate::numbers::{below, counts, records};
-use crate::{Component, ComponentId, PortConnection, Position, Refusal, limits};
+use crate::numbers::{below, counts};
+use crate::rows::Rows;
+use crate::{Component, ComponentId, PortConnection, Position, Refusal, Rules, limits};
 
 mod raw {
     //! As in `include/dustroute.h`: a slice passes as a pointer and then a count
@@ -11,6 +12,7 @@ mod raw {
 
     unsafe extern "C" {
         pub fn dustroute_light(
+            rules: i64,
             components: *const i64,
             components_len: usize,
             ports: *const i64,
@@ -82,14 +84,16 @@ impl Lighting {
 }
 
 /// Lights a plot region by region, each once, in the order of their numbers.
-/// What is driven is the same as by [`liveness`](crate::liveness).
+/// What is driven is the same as by [`liveness`](crate::liveness), and under all
+/// rules.
 ///
 /// # Errors
 /// The refusal of the lists, as of [`liveness`](crate::liveness).
 ///
 /// ```
 /// use dustroute::{
-///     BlockKind, Component, ComponentId, PortConnection, PortRef, Position, TransferKind, light,
+///     BlockKind, Component, ComponentId, PortConnection, PortRef, Position, Rules, TransferKind,
+///     light,
 /// };
 ///
 /// // A lamp between two levers, and a second lamp behind a wire that nothing drives.
@@ -110,7 +114,7 @@ impl Lighting {
 /// };
 /// let connections = [feed(left, lamp), feed(right, lamp), feed(wire, dark)];
 ///
-/// let lighting = light(&components, &connections, &[])?;
+/// let lighting = light(Rules::Two, &components, &connections, &[])?;
 /// let step = |id| lighting.steps().position(|step| step.blocks.contains(&id));
 /// assert!(step(left) < step(lamp) && step(right) < step(lamp) && step(wire) < step(dark));
 ///
@@ -121,6 +125,7 @@ impl Lighting {
 /// # Ok::<(), dustroute::Refusal>(())
 /// ```
 pub fn light(
+    rules: Rules,
     components: &[Component],
     connections: &[PortConnection],
     frontiers: &[Position],
@@ -129,18 +134,8 @@ pub fn light(
     let mut regions = vec![0; room];
     let (mut lit, mut driven) = ([0; WORDS], [0; WORDS]);
     let mut stack = vec![0; 2 * room];
-    let component_rows = records(components, limits::COMPONENTS, Component::record);
-    let connection_rows = records(connections, limits::CONNECTIONS, PortConnection::record);
-    let frontier_rows = records(frontiers, limits::FRONTIERS, Position::record);
-    let answer = pass(
-        component_rows.as_flattened(),
-        connection_rows.as_flattened(),
-        frontier_rows.as_flattened(),
-        &mut regions,
-        &mut lit,
-        &mut driven,
-        &mut stack,
-    );
+    let rows = Rows::of(rules, components, connections, frontiers);
+    let answer = pass(&rows, &mut regions, &mut lit, &mut driven, &mut stack);
     let [region_count, 0, 0] = counts(answer)? else {
         return Err(Refusal::UNREADABLE);
     };
@@ -162,18 +157,18 @@ pub fn light(
 
 /// The call.
 fn pass(
-    components: &[i64],
-    ports: &[i64],
-    frontiers: &[i64],
+    rows: &Rows,
     regions: &mut [u64],
     lit: &mut [u64],
     driven: &mut [u64],
     stack: &mut [usize],
 ) -> u64 {
+    let (components, ports, frontiers) = (rows.components(), rows.ports(), rows.frontiers());
     // SAFETY: each pointer is to a whole slice of the length beside it. The
     // callee only reads the first three, and the borrows keep the others apart.
     unsafe {
         raw::dustroute_light(
+            rows.rules,
             components.as_ptr(),
             components.len(),
             ports.as_ptr(),

@@ -5,7 +5,7 @@ use std::collections::BTreeSet;
 use crate::bytes::{self, Lent, NUMBER, SETS, WORDS};
 use crate::groups::gathered;
 use crate::numbers::{Bytes, at, below, counts, id, lend, port_ref, rows};
-use crate::{Component, ComponentId, PortConnection, PortRef, Position, Refusal, limits};
+use crate::{Component, ComponentId, PortConnection, PortRef, Position, Refusal, Rules, limits};
 
 /// What is found of an accepted scene.
 #[derive(Clone, Debug, Default, Eq, PartialEq)]
@@ -64,7 +64,8 @@ pub enum SignalSourceKind {
     IntrinsicSource,
     /// Code 2: the first listed component at a frontier.
     ObservationBoundary,
-    /// Code 3: a wire at the end of a region that nothing else feeds.
+    /// Code 3: a wire at the end of a region that nothing else feeds. What
+    /// feeds a region, the [`Rules`] say.
     InferredPrimaryInput,
 }
 
@@ -137,12 +138,15 @@ struct Answer {
 /// Frontiers are cells at the edge of what was seen: the first listed component
 /// at each counts as a source.
 ///
+/// Which wires are inferred inputs depends on the [`Rules`], and so does what
+/// they would drive and which verdicts await one. Nothing else does.
+///
 /// # Errors
 /// The refusal of lists that are not as they must be; see [`Reason`](crate::Reason).
 ///
 /// ```
 /// use dustroute::{
-///     BlockKind, Component, ComponentId, PortConnection, PortRef, Position, Reason,
+///     BlockKind, Component, ComponentId, PortConnection, PortRef, Position, Reason, Rules,
 ///     SignalSourceKind, TransferKind, liveness,
 /// };
 ///
@@ -158,28 +162,31 @@ struct Answer {
 /// };
 /// let components = [wire(0), wire(1), wire(2)];
 ///
-/// let found = liveness(&components, &[feed(0, 1), feed(1, 2)], &[])?;
+/// let row = [feed(0, 1), feed(1, 2)];
+/// let found = liveness(Rules::Two, &components, &row, &[])?;
 /// assert!(found.regions.iter().all(|region| !region.cyclic));
 /// assert_eq!(found.sources[0].kind, SignalSourceKind::InferredPrimaryInput);
 /// assert!(found.components.iter().all(|it| it.potential && !it.drive));
 ///
 /// // The first of them is at the edge of what was seen.
-/// let found = liveness(&components, &[feed(0, 1), feed(1, 2)], &[Position::new(0, 0, 0)])?;
+/// let found = liveness(Rules::Two, &components, &row, &[Position::new(0, 0, 0)])?;
 /// assert!(found.components.iter().all(|it| it.drive));
 ///
 /// // The same row, saved with a connection from a block that was cleared, or to one.
 /// for lost in [feed(9, 0), feed(2, 9)] {
-///     let refused = liveness(&components, &[feed(0, 1), feed(1, 2), lost], &[]);
+///     let saved = [&row[..], &[lost]].concat();
+///     let refused = liveness(Rules::Two, &components, &saved, &[]);
 ///     assert_eq!(refused.map_err(|refusal| refusal.reason), Err(Reason::MissingEndpoint));
 /// }
 /// # Ok::<(), dustroute::Refusal>(())
 /// ```
 pub fn liveness(
+    rules: Rules,
     components: &[Component],
     connections: &[PortConnection],
     frontiers: &[Position],
 ) -> Result<Liveness, Refusal> {
-    let answer = analyzed(components, connections, frontiers)?;
+    let answer = analyzed(rules, components, connections, frontiers)?;
     let [region_count, source_count, input_count] = answer.counts;
     let sources = rows(&answer.sources, source_count)?.iter();
     let inputs = rows(&answer.inputs, input_count)?.iter();
@@ -209,6 +216,7 @@ pub fn liveness(
 
 /// The call with slices lent that are just enough.
 fn analyzed(
+    rules: Rules,
     components: &[Component],
     connections: &[PortConnection],
     frontiers: &[Position],
@@ -223,6 +231,7 @@ fn analyzed(
     let connection_rows = lend(connections, limits::CONNECTIONS, PortConnection::record);
     let frontier_rows = lend(frontiers, limits::FRONTIERS, Position::record);
     let answer = bytes::liveness(
+        rules.number(),
         component_rows.as_flattened().as_flattened(),
         connection_rows.as_flattened().as_flattened(),
         frontier_rows.as_flattened().as_flattened(),

@@ -1,7 +1,7 @@
 //! The port connections that grouping connections make.
 
 use crate::numbers::{counts, records, rows};
-use crate::{Component, Connection, PortConnection, Refusal, Slope, limits};
+use crate::{Component, Connection, PortConnection, Refusal, Rules, Slope, limits};
 
 mod raw {
     //! As in `include/dustroute.h`: a slice passes as a pointer and then a count
@@ -9,6 +9,7 @@ mod raw {
 
     unsafe extern "C" {
         pub fn dustroute_ports(
+            rules: i64,
             components: *const i64,
             components_len: usize,
             connections: *const i64,
@@ -32,15 +33,15 @@ pub struct KeptConnection {
 /// The grouping connections that go from port to port, in order, each with the
 /// slope of its step. At either end it is the first port with the face of the
 /// step that also fits. A connection with an end that has no component, face or
-/// port is left out, and so is support.
+/// port is left out, and so is support. The rows are the same under all rules.
 ///
 /// # Errors
 /// A list that is not as it must be.
 ///
 /// ```
 /// use dustroute::{
-///     BlockKind, Component, ComponentId, Connection, ConnectionKind, Position, Slope, liveness,
-///     ports,
+///     BlockKind, Component, ComponentId, Connection, ConnectionKind, Position, Rules, Slope,
+///     liveness, ports,
 /// };
 ///
 /// // Dust up a step and down again.
@@ -61,16 +62,17 @@ pub struct KeptConnection {
 /// ];
 ///
 /// // The last one leads to a block that is not there.
-/// let kept = ports(&components, &connections)?;
+/// let kept = ports(Rules::Two, &components, &connections)?;
 /// let slopes: Vec<Slope> = kept.iter().map(|it| it.slope).collect();
 /// assert_eq!(slopes, [Slope::Rising, Slope::Falling]);
 ///
 /// // Liveness takes them without their slopes.
 /// let fed: Vec<_> = kept.iter().map(|it| it.connection).collect();
-/// assert_eq!(liveness(&components, &fed, &[])?.regions.len(), 3);
+/// assert_eq!(liveness(Rules::Two, &components, &fed, &[])?.regions.len(), 3);
 /// # Ok::<(), dustroute::Refusal>(())
 /// ```
 pub fn ports(
+    rules: Rules,
     components: &[Component],
     connections: &[Connection],
 ) -> Result<Vec<KeptConnection>, Refusal> {
@@ -78,6 +80,7 @@ pub fn ports(
     let connection_rows = records(connections, limits::CONNECTIONS, Connection::record);
     let mut kept = vec![[0; 6]; connections.len().min(limits::CONNECTIONS)];
     let answer = ask(
+        rules,
         component_rows.as_flattened(),
         connection_rows.as_flattened(),
         kept.as_flattened_mut(),
@@ -102,11 +105,12 @@ fn read_kept(row: [i64; 6]) -> Result<KeptConnection, Refusal> {
 }
 
 /// The call.
-fn ask(components: &[i64], connections: &[i64], ports: &mut [i64]) -> u64 {
+fn ask(rules: Rules, components: &[i64], connections: &[i64], ports: &mut [i64]) -> u64 {
     // SAFETY: each pointer is to a whole slice of the length beside it. The
     // callee only reads the first two, and the borrow keeps the third apart.
     unsafe {
         raw::dustroute_ports(
+            rules.number(),
             components.as_ptr(),
             components.len(),
             connections.as_ptr(),

@@ -3,8 +3,9 @@
 use std::collections::BTreeMap;
 use std::fmt;
 
-use crate::numbers::{counts, records};
-use crate::{Component, ComponentId, PortConnection, Position, Refusal, limits};
+use crate::numbers::counts;
+use crate::rows::Rows;
+use crate::{Component, ComponentId, PortConnection, Position, Refusal, Rules, limits};
 
 mod raw {
     //! As in `include/dustroute.h`: a slice passes as a pointer and then a count
@@ -12,6 +13,7 @@ mod raw {
 
     unsafe extern "C" {
         pub fn dustroute_reach_table(
+            rules: i64,
             components: *const i64,
             components_len: usize,
             ports: *const i64,
@@ -87,7 +89,8 @@ impl fmt::Display for ReachTable {
 /// what it reaches. At the end two components share a region exactly when their
 /// rows are equal.
 ///
-/// The regions and their numbers are those of [`liveness`](crate::liveness).
+/// The regions and their numbers are those of [`liveness`](crate::liveness), and
+/// the same under all rules.
 /// The time grows with the third power of the components.
 ///
 /// # Errors
@@ -95,7 +98,7 @@ impl fmt::Display for ReachTable {
 ///
 /// ```
 /// use dustroute::{
-///     BlockKind, Component, ComponentId, PortConnection, PortRef, Position, TransferKind,
+///     BlockKind, Component, ComponentId, PortConnection, PortRef, Position, Rules, TransferKind,
 ///     reach_table,
 /// };
 ///
@@ -113,7 +116,7 @@ impl fmt::Display for ReachTable {
 /// };
 /// let connections = [feed(lever, near), feed(near, far), feed(far, near)];
 ///
-/// let table = reach_table(&components, &connections, &[])?;
+/// let table = reach_table(Rules::Two, &components, &connections, &[])?;
 /// // The lever reaches the far wire over the near one, and nothing leads back.
 /// assert!(table.reaches(lever, far));
 /// assert!(!table.reaches(far, lever));
@@ -134,25 +137,17 @@ impl fmt::Display for ReachTable {
 /// # Ok::<(), dustroute::Refusal>(())
 /// ```
 pub fn reach_table(
+    rules: Rules,
     components: &[Component],
     connections: &[PortConnection],
     frontiers: &[Position],
 ) -> Result<ReachTable, Refusal> {
-    let component_rows = records(components, limits::COMPONENTS, Component::record);
-    let connection_rows = records(connections, limits::CONNECTIONS, PortConnection::record);
-    let frontier_rows = records(frontiers, limits::FRONTIERS, Position::record);
+    let rows = Rows::of(rules, components, connections, frontiers);
     let side = components.len().min(limits::COMPONENTS);
     let mut square = vec![0; side * side];
     let mut regions = vec![0; side];
     let mut stack = vec![0; 2 * side];
-    let answer = fill(
-        component_rows.as_flattened(),
-        connection_rows.as_flattened(),
-        frontier_rows.as_flattened(),
-        &mut square,
-        &mut regions,
-        &mut stack,
-    );
+    let answer = fill(&rows, &mut square, &mut regions, &mut stack);
     let [count, 0, 0] = counts(answer)? else {
         return Err(Refusal::UNREADABLE);
     };
@@ -180,18 +175,13 @@ fn read<N: Copy, T>(slice: &[N], number: impl Fn(N) -> Option<T>) -> Result<Vec<
 }
 
 /// The call.
-fn fill(
-    components: &[i64],
-    ports: &[i64],
-    frontiers: &[i64],
-    square: &mut [u8],
-    regions: &mut [u64],
-    stack: &mut [usize],
-) -> u64 {
+fn fill(rows: &Rows, square: &mut [u8], regions: &mut [u64], stack: &mut [usize]) -> u64 {
+    let (components, ports, frontiers) = (rows.components(), rows.ports(), rows.frontiers());
     // SAFETY: each pointer is to a whole slice of the length beside it. The
     // callee only reads the first three, and the borrows keep the others apart.
     unsafe {
         raw::dustroute_reach_table(
+            rows.rules,
             components.as_ptr(),
             components.len(),
             ports.as_ptr(),

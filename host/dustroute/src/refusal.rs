@@ -4,14 +4,15 @@ use std::error::Error;
 use std::fmt;
 
 /// The first fault of the lists: the one with the lowest [`Reason`], at its
-/// earliest place, components before connections before frontiers.
+/// earliest place, components before connections before frontiers. Unknown rules
+/// alone, which have a high number, come before all of these.
 ///
 /// ```
-/// use dustroute::{BlockKind, Component, ComponentId, Position, groups};
+/// use dustroute::{BlockKind, Component, ComponentId, Position, Rules, groups};
 ///
 /// let wire = |id, x| Component::new(ComponentId(id), Position::new(x, 0, 0), BlockKind::RedstoneWire);
 /// let components = [wire(4, 0), wire(5, 1), wire(4, 2)];
-/// let said = groups(&components, &[]).map_err(|refusal| refusal.to_string());
+/// let said = groups(Rules::Two, &components, &[]).map_err(|refusal| refusal.to_string());
 /// let text = "refusal 5 at item 2 of the components: an id already used by an earlier component";
 /// assert_eq!(said, Err(text.to_string()));
 /// ```
@@ -84,6 +85,9 @@ pub enum Reason {
     /// 10: the input is not driven, so that no way leads to it. Only of
     /// [`trail`](crate::trail).
     NotDriven,
+    /// 11: rules that are not known. Only where they are given by a number: by
+    /// [bytes](crate::bytes), and by [`Rules::try_from`](crate::Rules).
+    UnknownRules,
     /// No refusal: the answer is none that the library's contract allows, so
     /// the archive that was linked is not the one of this crate's version.
     Unreadable,
@@ -91,7 +95,7 @@ pub enum Reason {
 
 impl Reason {
     /// The reasons that a list's entry gives, by rising number.
-    const ALL: [Self; 9] = [
+    const ALL: [Self; 10] = [
         Self::Length,
         Self::ShortSlice,
         Self::OutOfRange,
@@ -101,6 +105,7 @@ impl Reason {
         Self::MissingEndpoint,
         Self::NoVerdict,
         Self::NotDriven,
+        Self::UnknownRules,
     ];
 
     /// The number of the refusal, 0 for [`Reason::Unreadable`].
@@ -117,6 +122,7 @@ impl Reason {
             Self::MissingEndpoint => 7,
             Self::NoVerdict => 8,
             Self::NotDriven => 10,
+            Self::UnknownRules => 11,
         }
     }
 }
@@ -138,6 +144,7 @@ impl fmt::Display for Reason {
             }
             Self::NoVerdict => "the port asked for is no required input",
             Self::NotDriven => "the input asked for is not driven",
+            Self::UnknownRules => "rules that are not known",
             Self::Unreadable => "the answer of an archive of another version",
         })
     }
@@ -212,7 +219,8 @@ mod tests {
 
     #[test]
     fn every_number_is_read() {
-        for (number, reason) in [1, 2, 3, 4, 5, 6, 7, 8, 10].into_iter().zip(Reason::ALL) {
+        let numbers = [1, 2, 3, 4, 5, 6, 7, 8, 10, 11];
+        for (number, reason) in numbers.into_iter().zip(Reason::ALL) {
             assert_eq!(reason.number(), number);
             let refusal = Refusal::of(u64::from(number) + 256 * 3);
             assert_eq!(
@@ -223,6 +231,16 @@ mod tests {
                 })
             );
         }
+    }
+
+    #[test]
+    fn unknown_rules_are_of_no_list() {
+        let refusal = Refusal::of(11 + 256 * 3);
+        let said = refusal.map(|it| it.to_string());
+        assert_eq!(
+            said.as_deref(),
+            Some("refusal 11: rules that are not known")
+        );
     }
 
     #[test]
@@ -238,7 +256,7 @@ mod tests {
 
     #[test]
     fn other_answers_are_unreadable() {
-        for answer in [9, 11, 255, 256, 1 + 256 * 4, 65_535, u64::MAX] {
+        for answer in [9, 12, 255, 256, 1 + 256 * 4, 65_535, u64::MAX] {
             assert_eq!(Refusal::of(answer), Some(Refusal::UNREADABLE), "{answer}");
         }
         assert_eq!(Reason::Unreadable.number(), 0);

@@ -1,7 +1,8 @@
 //! The way from a lever to an input that it drives.
 
-use crate::numbers::{counts, records};
-use crate::{Component, ComponentId, PortConnection, PortRef, Position, Refusal, limits};
+use crate::numbers::counts;
+use crate::rows::Rows;
+use crate::{Component, ComponentId, PortConnection, PortRef, Position, Refusal, Rules, limits};
 
 mod raw {
     //! As in `include/dustroute.h`: a slice passes as a pointer and then a count
@@ -9,6 +10,7 @@ mod raw {
 
     unsafe extern "C" {
         pub fn dustroute_trail(
+            rules: i64,
             components: *const i64,
             components_len: usize,
             ports: *const i64,
@@ -22,6 +24,7 @@ mod raw {
         ) -> u64;
 
         pub fn dustroute_check_trail(
+            rules: i64,
             components: *const i64,
             components_len: usize,
             ports: *const i64,
@@ -36,27 +39,11 @@ mod raw {
     }
 }
 
-/// The lists as rows of numbers.
-struct Rows {
-    components: Vec<[i64; 8]>,
-    ports: Vec<[i64; 5]>,
-    frontiers: Vec<[i64; 3]>,
-}
-
-impl Rows {
-    fn of(components: &[Component], ports: &[PortConnection], frontiers: &[Position]) -> Self {
-        Self {
-            components: records(components, limits::COMPONENTS, Component::record),
-            ports: records(ports, limits::CONNECTIONS, PortConnection::record),
-            frontiers: records(frontiers, limits::FRONTIERS, Position::record),
-        }
-    }
-}
-
 /// Finds the way from a drive source to a driven input: the components that the
 /// signal goes through, the drive source first and one that feeds the input
 /// last, as few as there can be. Among equally short ways it is the one with
-/// the smaller id where they first differ, from the drive source on.
+/// the smaller id where they first differ, from the drive source on. It is the
+/// same under all rules.
 ///
 /// # Errors
 /// The refusal of the lists, as of [`liveness`](crate::liveness); then
@@ -70,7 +57,7 @@ impl Rows {
 /// ```
 /// use dustroute::{
 ///     BlockKind, Component, ComponentId, Facing, PortConnection, PortRef, Position, Reason,
-///     TransferKind, check_trail, trail,
+///     Rules, TransferKind, check_trail, trail,
 /// };
 ///
 /// // A lever, two wires beside it, and a repeater that the second wire feeds.
@@ -95,31 +82,34 @@ impl Rows {
 /// let mut connections = vec![feed(lever, first), feed(first, second), feed(second, repeater)];
 /// let input = PortRef::new(repeater, 1);
 ///
-/// let way = trail(&components, &connections, &[], input)?;
+/// let rules = Rules::Two;
+/// let way = trail(rules, &components, &connections, &[], input)?;
 /// assert_eq!(way, [lever, first, second]);
-/// assert!(check_trail(&components, &connections, &[], input, &way)?);
+/// assert!(check_trail(rules, &components, &connections, &[], input, &way)?);
 ///
 /// // A pupil's answer that begins at the other lever is no way.
-/// assert!(!check_trail(&components, &connections, &[], input, &[other, first, second])?);
+/// let given = [other, first, second];
+/// assert!(!check_trail(rules, &components, &connections, &[], input, &given)?);
 ///
 /// // Once the other lever is connected too, both ways are as short: its id is
 /// // the smaller one. The first lever's way is still one.
 /// connections.push(feed(other, first));
-/// assert_eq!(trail(&components, &connections, &[], input)?, [other, first, second]);
-/// assert!(check_trail(&components, &connections, &[], input, &way)?);
+/// assert_eq!(trail(rules, &components, &connections, &[], input)?, given);
+/// assert!(check_trail(rules, &components, &connections, &[], input, &way)?);
 ///
 /// // Without the second wire's connection nothing drives the repeater.
-/// let refused = trail(&components, &[feed(lever, first)], &[], input);
+/// let refused = trail(rules, &components, &[feed(lever, first)], &[], input);
 /// assert_eq!(refused.map_err(|refusal| refusal.reason), Err(Reason::NotDriven));
 /// # Ok::<(), dustroute::Refusal>(())
 /// ```
 pub fn trail(
+    rules: Rules,
     components: &[Component],
     connections: &[PortConnection],
     frontiers: &[Position],
     input: PortRef,
 ) -> Result<Vec<ComponentId>, Refusal> {
-    let rows = Rows::of(components, connections, frontiers);
+    let rows = Rows::of(rules, components, connections, frontiers);
     let mut ids = vec![0; components.len().min(limits::COMPONENTS)];
     let [count, 0, 0] = counts(find(&rows, input, &mut ids))? else {
         return Err(Refusal::UNREADABLE);
@@ -134,20 +124,21 @@ pub fn trail(
 /// input: whether its first member is a drive source, each next one is fed by
 /// the one before, and the last feeds the input. Any list may be asked about: a
 /// detour and a member that comes twice are allowed, and no list at all is no
-/// way.
+/// way. The answer is the same under all rules.
 ///
 /// # Errors
 /// The refusal of the lists, as of [`liveness`](crate::liveness); then
 /// [`Reason::NoVerdict`](crate::Reason::NoVerdict) where the port is no required
 /// input.
 pub fn check_trail(
+    rules: Rules,
     components: &[Component],
     connections: &[PortConnection],
     frontiers: &[Position],
     input: PortRef,
     trail: &[ComponentId],
 ) -> Result<bool, Refusal> {
-    let rows = Rows::of(components, connections, frontiers);
+    let rows = Rows::of(rules, components, connections, frontiers);
     let ids: Vec<u64> = trail.iter().map(|id| u64::from(id.0)).collect();
     match counts(check(&rows, input, &ids))? {
         [0, 0, 0] => Ok(false),
@@ -158,13 +149,12 @@ pub fn check_trail(
 
 /// The call of the finder.
 fn find(rows: &Rows, input: PortRef, trail: &mut [u64]) -> u64 {
-    let components = rows.components.as_flattened();
-    let ports = rows.ports.as_flattened();
-    let frontiers = rows.frontiers.as_flattened();
+    let (components, ports, frontiers) = (rows.components(), rows.ports(), rows.frontiers());
     // SAFETY: each pointer is to a whole slice of the length beside it. The
     // callee only reads the first three, and the borrows keep the last apart.
     unsafe {
         raw::dustroute_trail(
+            rows.rules,
             components.as_ptr(),
             components.len(),
             ports.as_ptr(),
@@ -181,13 +171,12 @@ fn find(rows: &Rows, input: PortRef, trail: &mut [u64]) -> u64 {
 
 /// The call of the check.
 fn check(rows: &Rows, input: PortRef, trail: &[u64]) -> u64 {
-    let components = rows.components.as_flattened();
-    let ports = rows.ports.as_flattened();
-    let frontiers = rows.frontiers.as_flattened();
+    let (components, ports, frontiers) = (rows.components(), rows.ports(), rows.frontiers());
     // SAFETY: each pointer is to a whole slice of the length beside it, and the
     // callee only reads them.
     unsafe {
         raw::dustroute_check_trail(
+            rows.rules,
             components.as_ptr(),
             components.len(),
             ports.as_ptr(),

@@ -2,7 +2,7 @@
 
 use crate::{
     Component, ComponentId, Connection, Liveness, PortConnection, PortRef, Position, Refusal,
-    RequiredInputStatus, groups, liveness,
+    RequiredInputStatus, Rules, groups, liveness,
 };
 
 /// What one port connection more changes.
@@ -38,7 +38,7 @@ pub struct Joined {
 }
 
 /// Finds what would change if the plot had one port connection more: the
-/// answers of [`liveness`] with it and without, compared.
+/// answers of [`liveness`] under the same rules with it and without, compared.
 ///
 /// It may be a repeat of one that is there, or support: then nothing changes.
 ///
@@ -49,7 +49,7 @@ pub struct Joined {
 /// ```
 /// use dustroute::{
 ///     BlockKind, Component, ComponentId, Facing, PortConnection, PortRef, Position, Reason,
-///     RequiredInputStatus, TransferKind, what_if,
+///     RequiredInputStatus, Rules, TransferKind, what_if,
 /// };
 ///
 /// // A lever, a repeater beside it and a wire behind that, which the repeater feeds.
@@ -69,7 +69,7 @@ pub struct Joined {
 /// };
 /// let connections = [feed(repeater, wire)];
 ///
-/// let change = what_if(&components, &connections, &[], feed(lever, repeater))?;
+/// let change = what_if(Rules::Two, &components, &connections, &[], feed(lever, repeater))?;
 /// assert_eq!(change.newly_driven, [repeater, wire]);
 /// assert_eq!(change.changed_inputs.len(), 1);
 /// let changed = change.changed_inputs[0];
@@ -78,23 +78,25 @@ pub struct Joined {
 /// assert_eq!(changed.after, RequiredInputStatus::DrivenByKnownSource);
 ///
 /// // What is not driven drives nothing.
-/// let change = what_if(&components, &connections, &[], feed(wire, repeater))?;
+/// let change = what_if(Rules::Two, &components, &connections, &[], feed(wire, repeater))?;
 /// assert_eq!(change.newly_driven, []);
 ///
 /// // To a block that is not there.
-/// let refused = what_if(&components, &connections, &[], feed(lever, ComponentId(9)));
+/// let lost = feed(lever, ComponentId(9));
+/// let refused = what_if(Rules::Two, &components, &connections, &[], lost);
 /// assert_eq!(refused.map_err(|refusal| refusal.reason), Err(Reason::MissingEndpoint));
 /// # Ok::<(), dustroute::Refusal>(())
 /// ```
 pub fn what_if(
+    rules: Rules,
     components: &[Component],
     connections: &[PortConnection],
     frontiers: &[Position],
     extra: PortConnection,
 ) -> Result<Change, Refusal> {
     let with = put_in(connections, connections.len(), extra);
-    let with = liveness(components, &with, frontiers)?;
-    let without = liveness(components, connections, frontiers)?;
+    let with = liveness(rules, components, &with, frontiers)?;
+    let without = liveness(rules, components, connections, frontiers)?;
     // The rows are of the components alone.
     if !inputs(&without).eq(inputs(&with)) {
         return Err(Refusal::UNREADABLE);
@@ -126,7 +128,7 @@ pub fn what_if(
 /// ```
 /// use dustroute::{
 ///     BlockKind, Component, ComponentId, Connection, ConnectionKind, Joined, Position, Reason,
-///     what_if_joined,
+///     Rules, what_if_joined,
 /// };
 ///
 /// let wire = |id, x| {
@@ -139,27 +141,29 @@ pub fn what_if(
 ///     kind,
 /// };
 /// let connections = [join(1, 2, ConnectionKind::Dust)];
+/// let asked = |extra| what_if_joined(Rules::Two, &components, &connections, extra);
 ///
-/// let dust = what_if_joined(&components, &connections, join(2, 3, ConnectionKind::Dust))?;
+/// let dust = asked(join(2, 3, ConnectionKind::Dust))?;
 /// assert_eq!(dust, Joined { nets: true, fragments: true });
-/// let control = what_if_joined(&components, &connections, join(2, 3, ConnectionKind::Control))?;
+/// let control = asked(join(2, 3, ConnectionKind::Control))?;
 /// assert_eq!(control, Joined { nets: false, fragments: true });
 /// // They are joined already.
-/// let back = what_if_joined(&components, &connections, join(2, 1, ConnectionKind::Dust))?;
+/// let back = asked(join(2, 1, ConnectionKind::Dust))?;
 /// assert_eq!(back, Joined { nets: false, fragments: false });
 ///
-/// let again = what_if_joined(&components, &connections, join(1, 2, ConnectionKind::Dust));
+/// let again = asked(join(1, 2, ConnectionKind::Dust));
 /// assert_eq!(again.map_err(|refusal| refusal.reason), Err(Reason::ConnectionOrder));
 /// # Ok::<(), dustroute::Refusal>(())
 /// ```
 pub fn what_if_joined(
+    rules: Rules,
     components: &[Component],
     connections: &[Connection],
     extra: Connection,
 ) -> Result<Joined, Refusal> {
     let place = connections.partition_point(|it| *it < extra);
-    let with = groups(components, &put_in(connections, place, extra))?;
-    let without = groups(components, connections)?;
+    let with = groups(rules, components, &put_in(connections, place, extra))?;
+    let without = groups(rules, components, connections)?;
     Ok(Joined {
         nets: fell(without.net_count, with.net_count)?,
         fragments: fell(without.fragment_count, with.fragment_count)?,

@@ -1,15 +1,15 @@
-//! Typed calls against the unchanged Rust on generated scenes, and against the
-//! restated table of refusals on damaged ones.
+//! Typed calls by rules 1 against the unchanged Rust on generated scenes, and
+//! against the restated table of refusals on damaged ones.
 
+mod answers;
 mod typed;
 
-use dustroute::{
-    ComponentId, Groups, List, Liveness, Place, Refusal, SignalSourceKind, groups, liveness,
-};
+use answers::{hold_liveness, signed};
+use dustroute::{Groups, List, Place, Refusal, Rules, SignalSourceKind, groups, liveness};
 use scenes::damage::{pair, single};
 use scenes::random::Random;
 use scenes::sized::Shape;
-use scenes::{Profile, Scene, exhaustive, refusals};
+use scenes::{Lent, Profile, Scene, exhaustive, refusals};
 use typed::Lists;
 
 /// A scene with the words that name it.
@@ -36,14 +36,6 @@ fn accepted() -> impl Iterator<Item = Named> {
     drawn.chain(small).chain(plots)
 }
 
-fn signed(numbers: impl Iterator<Item = usize>) -> Vec<i64> {
-    numbers.map(|number| number as i64).collect()
-}
-
-fn number(id: ComponentId) -> i64 {
-    i64::from(id.0)
-}
-
 fn hold_groups(given: &Groups, wanted: &oracle::Groups, case: &str) {
     let each = given.components.iter();
     assert_eq!(signed(each.clone().map(|it| it.net)), wanted.net, "{case}");
@@ -66,45 +58,6 @@ fn hold_groups(given: &Groups, wanted: &oracle::Groups, case: &str) {
     assert!(each.clone().all(lies), "{case}");
 }
 
-/// The rising ids of the components for which something holds.
-fn ids(given: &Liveness, holds: fn(&dustroute::ComponentLiveness) -> bool) -> Vec<i64> {
-    let some = given.components.iter().filter(|it| holds(it));
-    let mut ids: Vec<i64> = some.map(|it| number(it.id)).collect();
-    ids.sort_unstable();
-    ids
-}
-
-fn hold_liveness(given: &Liveness, wanted: &oracle::Liveness, case: &str) {
-    let regions = signed(given.components.iter().map(|it| it.region));
-    assert_eq!(regions, wanted.region, "{case}");
-    let members = given.region_members();
-    assert_eq!(given.regions.len(), wanted.regions.len(), "{case}");
-    for ((region, members), wanted) in given.regions.iter().zip(members).zip(&wanted.regions) {
-        let members: Vec<i64> = members.into_iter().map(number).collect();
-        assert_eq!(members, wanted.members, "{case}");
-        let flags = [region.cyclic, region.has_drive];
-        assert_eq!(
-            flags,
-            [wanted.cyclic, wanted.contains_drive_source],
-            "{case}"
-        );
-    }
-    let sources = given.sources.iter();
-    let sources: Vec<[i64; 2]> = sources
-        .map(|it| [number(it.component), it.kind as i64])
-        .collect();
-    assert_eq!(sources, wanted.sources, "{case}");
-    assert_eq!(ids(given, |it| it.drive), wanted.drive, "{case}");
-    assert_eq!(ids(given, |it| it.potential), wanted.potential, "{case}");
-    let inputs = given.inputs.iter().map(|it| {
-        let device = number(it.input.component);
-        [device, i64::from(it.input.port), it.status as i64]
-    });
-    let wanted = wanted.inputs.iter();
-    let wanted = wanted.map(|it| [it.device, it.port, it.status]);
-    assert!(inputs.eq(wanted), "{case}");
-}
-
 #[test]
 fn groups_are_those_of_the_rust() {
     let mut count = 0;
@@ -112,7 +65,7 @@ fn groups_are_those_of_the_rust() {
         let Some(lists) = Lists::of(&scene) else {
             panic!("{case} cannot be typed");
         };
-        match groups(&lists.components, &lists.connections) {
+        match groups(Rules::One, &lists.components, &lists.connections) {
             Ok(given) => {
                 let wanted = oracle::groups(&scene.components, &scene.connections);
                 hold_groups(&given, &wanted, &case);
@@ -132,7 +85,12 @@ fn liveness_is_that_of_the_rust() {
         let Some(lists) = Lists::of(&scene) else {
             panic!("{case} cannot be typed");
         };
-        match liveness(&lists.components, &lists.ports, &lists.frontiers) {
+        match liveness(
+            Rules::One,
+            &lists.components,
+            &lists.ports,
+            &lists.frontiers,
+        ) {
             Ok(given) => {
                 let Scene {
                     components,
@@ -181,7 +139,8 @@ fn hold_refusals(scene: &Scene, by_number: &mut [u64; 8], case: &str) {
     let Some(lists) = Lists::of(scene) else {
         return;
     };
-    let enough = usize::MAX;
+    let (rules, enough) = (Rules::One.number(), usize::MAX);
+    let lent = Lent::all(enough);
     let Scene {
         components,
         connections,
@@ -189,12 +148,18 @@ fn hold_refusals(scene: &Scene, by_number: &mut [u64; 8], case: &str) {
         frontiers,
     } = scene;
     let wanted = [
-        refusals::grouping(components, connections, enough, enough),
-        refusals::liveness(components, ports, frontiers, enough, enough, enough, enough),
+        refusals::grouping(rules, components, connections, enough, enough),
+        refusals::liveness(rules, components, ports, frontiers, &lent),
     ];
     let given = [
-        groups(&lists.components, &lists.connections).err(),
-        liveness(&lists.components, &lists.ports, &lists.frontiers).err(),
+        groups(Rules::One, &lists.components, &lists.connections).err(),
+        liveness(
+            Rules::One,
+            &lists.components,
+            &lists.ports,
+            &lists.frontiers,
+        )
+        .err(),
     ];
     let wanted = wanted.map(|it| it.map(|it| [it.number, it.list, it.item]));
     let given = given.map(|it| it.map(plain));

@@ -4,8 +4,8 @@
 use std::alloc::{GlobalAlloc, Layout, System};
 use std::cell::Cell;
 
-use dustroute::Refusal;
 use dustroute::bytes::{self, Lent, NUMBER, SETS, WORDS};
+use dustroute::{Refusal, Rules};
 use scenes::limits::{COMPONENT, COMPONENTS};
 use scenes::{Profile, Scene};
 
@@ -68,7 +68,9 @@ impl Buffers {
         ]
         .map(|list| scenes::bytes::of(list));
         let before = COUNT.get();
+        let rules = Rules::Two.number();
         let grouped = bytes::groups(
+            rules,
             &components,
             &connections,
             &mut self.nets,
@@ -81,7 +83,7 @@ impl Buffers {
             sets: &mut self.sets,
             stack: &mut self.stack,
         };
-        let analyzed = bytes::liveness(&components, &ports, &frontiers, lent);
+        let analyzed = bytes::liveness(rules, &components, &ports, &frontiers, lent);
         ([grouped, analyzed], COUNT.get() - before)
     }
 }

@@ -1,5 +1,5 @@
 //! `driven` held to the verdicts of `liveness`, and to what is proved of the
-//! components that its search meets (R-5).
+//! components that its search meets (R-5), by the rules of either year (R-4).
 
 #[expect(dead_code, reason = "the grouping connections have no part in it")]
 mod typed;
@@ -7,12 +7,12 @@ mod typed;
 use std::collections::{BTreeMap, BTreeSet};
 
 use dustroute::{
-    ComponentId, Liveness, PortConnection, PortRef, Reason, Refusal, RequiredInputStatus,
+    ComponentId, Liveness, PortConnection, PortRef, Reason, Refusal, RequiredInputStatus, Rules,
     SignalSourceKind, TransferKind, driven, liveness,
 };
 use scenes::damage::{pair, single};
 use scenes::random::Random;
-use scenes::{Profile, Scene, exhaustive};
+use scenes::{Profile, Scene, exhaustive, lamps};
 use typed::Lists;
 
 /// The request restated: upstream from an input, sources by rising id and each
@@ -55,9 +55,10 @@ fn drive_sources(found: &Liveness) -> BTreeSet<ComponentId> {
     drive.map(|it| it.component).collect()
 }
 
-/// How many answers were yes, no, and a yes before all upstream was met.
-#[derive(Default)]
+/// The rules, and how many answers were yes, no, and a yes before all upstream
+/// was met.
 struct Asked {
+    rules: Rules,
     yes: u64,
     no: u64,
     early: u64,
@@ -65,6 +66,16 @@ struct Asked {
 }
 
 impl Asked {
+    const fn by(rules: Rules) -> Self {
+        Self {
+            rules,
+            yes: 0,
+            no: 0,
+            early: 0,
+            refused: 0,
+        }
+    }
+
     /// Every verdict of a scene, or its refusal.
     fn hold(&mut self, scene: &Scene, case: &str) {
         // A damaged number may be no kind or face.
@@ -77,17 +88,18 @@ impl Asked {
             frontiers,
             ..
         } = &lists;
-        let whole = liveness(components, ports, frontiers);
+        let rules = self.rules;
+        let whole = liveness(rules, components, ports, frontiers);
         let Ok(whole) = whole else {
             let nobody = PortRef::new(ComponentId(0), 0);
-            let asked = driven(components, ports, frontiers, nobody);
+            let asked = driven(rules, components, ports, frontiers, nobody);
             assert_eq!(asked.err(), whole.err(), "{case}");
             self.refused += 1;
             return;
         };
         let sources = drive_sources(&whole);
         for row in whole.inputs.iter().take(40) {
-            let found = driven(components, ports, frontiers, row.input);
+            let found = driven(rules, components, ports, frontiers, row.input);
             let Ok(found) = found else {
                 panic!("{case}: {found:?} of {row:?}");
             };
@@ -112,9 +124,10 @@ impl Asked {
             no,
             early,
             refused,
+            rules,
         } = self;
         println!(
-            "{name}: {yes} driven, {early} of them before all upstream was met, {no} not; \
+            "{rules}, {name}: {yes} driven, {early} of them before all upstream was met, {no} not; \
              {refused} scenes refused"
         );
         assert!(*yes > 100 && *no > 100 && *early > 100);
@@ -123,7 +136,7 @@ impl Asked {
 
 #[test]
 fn every_verdict_of_the_profiles() {
-    let mut asked = Asked::default();
+    let mut asked = Asked::by(Rules::One);
     for profile in Profile::ALL {
         let seeds = if profile.is_large() { 2 } else { 2_000 };
         for seed in 50_000..50_000 + seeds {
@@ -136,17 +149,35 @@ fn every_verdict_of_the_profiles() {
 
 #[test]
 fn every_verdict_of_the_small_scenes() {
-    let mut asked = Asked::default();
+    let mut asked = Asked::by(Rules::One);
     for (place, scene) in exhaustive::scenes().enumerate() {
         asked.hold(&scene, &format!("scene {place}"));
     }
     asked.assert_met("small scenes");
 }
 
+/// Lamps tell the rules apart, but not what is driven.
+#[test]
+fn every_verdict_of_the_plots_with_lamps() {
+    for rules in Rules::ALL {
+        let mut asked = Asked::by(rules);
+        for (place, scene) in lamps::plots().enumerate() {
+            asked.hold(&scene, &format!("{rules}, plot {place}"));
+        }
+        asked.assert_met("small plots with lamps");
+        let mut asked = Asked::by(rules);
+        for seed in 400_000..500_000 {
+            let case = format!("{rules}, lamps seed {seed}");
+            asked.hold(&lamps::scene(seed), &case);
+        }
+        asked.assert_met("drawn plots with lamps");
+    }
+}
+
 /// One fault and two at once: the refusal is that of the whole analysis.
 #[test]
 fn damaged_scenes_are_refused_in_the_same_words() {
-    let mut asked = Asked::default();
+    let mut asked = Asked::by(Rules::One);
     let mut random = Random::new(17);
     for profile in Profile::ALL.into_iter().filter(|it| !it.is_large()) {
         for seed in 60_000..60_010 {
@@ -172,5 +203,7 @@ fn a_port_without_a_verdict_is_refused() {
         reason: Reason::NoVerdict,
         place: None,
     };
-    assert_eq!(driven(&[], &[], &[], nothing), Err(refusal));
+    for rules in Rules::ALL {
+        assert_eq!(driven(rules, &[], &[], &[], nothing), Err(refusal));
+    }
 }

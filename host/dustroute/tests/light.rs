@@ -8,8 +8,8 @@ mod typed;
 use std::collections::{BTreeMap, BTreeSet};
 
 use dustroute::{
-    BlockKind, Component, ComponentId, Lighting, Liveness, PortConnection, Step, TransferKind,
-    light, liveness,
+    BlockKind, Component, ComponentId, Lighting, Liveness, PortConnection, Rules, Step,
+    TransferKind, light, liveness,
 };
 use scenes::damage::{pair, single};
 use scenes::limits::COMPONENT;
@@ -110,8 +110,10 @@ impl Asked {
             frontiers,
             ..
         } = &lists;
-        let lighting = light(components, ports, frontiers);
-        let whole = liveness(components, ports, frontiers);
+        // They go round, and nothing here depends on them.
+        let rules = Rules::ALL[(self.accepted % 2) as usize];
+        let lighting = light(rules, components, ports, frontiers);
+        let whole = liveness(rules, components, ports, frontiers);
         let (lighting, whole) = match (lighting, whole) {
             (Ok(lighting), Ok(whole)) => (lighting, whole),
             (lighting, whole) => {

@@ -7,11 +7,14 @@ use std::thread::{self, Builder};
 
 use dustroute::{
     BlockKind, Component, ComponentId, Connection, ConnectionKind, List, Place, PortConnection,
-    PortRef, Position, Reason, Refusal, TransferKind, clear, driven, groups, light, limits,
+    PortRef, Position, Reason, Refusal, Rules, TransferKind, clear, driven, groups, light, limits,
     liveness, ports, reach_table,
 };
 use scenes::Profile;
 use typed::Lists;
+
+/// The limits are the same under all rules.
+const RULES: Rules = Rules::Two;
 
 fn wire(k: usize) -> Component {
     let number = u32::try_from(k).unwrap_or(u32::MAX);
@@ -48,13 +51,16 @@ fn as_many_components_as_the_limit_and_more() {
         } else {
             Err(too_long(List::Components, 1_024))
         };
-        assert_eq!(groups(&components, &[]).map(|it| it.net_count), wanted);
         assert_eq!(
-            liveness(&components, &[], &[]).map(|it| it.regions.len()),
+            groups(RULES, &components, &[]).map(|it| it.net_count),
             wanted
         );
         assert_eq!(
-            reach_table(&components, &[], &[]).map(|it| it.count),
+            liveness(RULES, &components, &[], &[]).map(|it| it.regions.len()),
+            wanted
+        );
+        assert_eq!(
+            reach_table(RULES, &components, &[], &[]).map(|it| it.count),
             wanted
         );
     }
@@ -77,11 +83,11 @@ fn as_many_connections_as_the_limit_and_more() {
     for count in [4_096, 4_097, 9_000] {
         let refused = (count > 4_096).then(|| too_long(List::Connections, 4_096));
         let connections: Vec<Connection> = pairs.clone().map(joined).take(count).collect();
-        assert_eq!(groups(&components, &connections).err(), refused);
-        assert_eq!(ports(&components, &connections).err(), refused);
+        assert_eq!(groups(RULES, &components, &connections).err(), refused);
+        assert_eq!(ports(RULES, &components, &connections).err(), refused);
         let feeds: Vec<PortConnection> = pairs.clone().map(fed).take(count).collect();
-        assert_eq!(liveness(&components, &feeds, &[]).err(), refused);
-        assert_eq!(clear(&components, &feeds, &[]).err(), refused);
+        assert_eq!(liveness(RULES, &components, &feeds, &[]).err(), refused);
+        assert_eq!(clear(RULES, &components, &feeds, &[]).err(), refused);
     }
 }
 
@@ -90,7 +96,7 @@ fn as_many_frontiers_as_the_limit_and_more() {
     for count in [256, 257, 1_000] {
         let refused = (count > 256).then(|| too_long(List::Frontiers, 256));
         let frontiers = vec![Position::new(0, 0, 0); count];
-        assert_eq!(liveness(&[wire(0)], &[], &frontiers).err(), refused);
+        assert_eq!(liveness(RULES, &[wire(0)], &[], &frontiers).err(), refused);
     }
 }
 
@@ -117,10 +123,18 @@ fn as_far_as_the_range_and_farther() {
                 ..wire(7)
             }];
             let refused = outside.then(|| out_of_range(List::Components));
-            assert_eq!(groups(&components, &[]).err(), refused, "{cell:?}");
-            assert_eq!(liveness(&components, &[], &[]).err(), refused, "{cell:?}");
+            assert_eq!(groups(RULES, &components, &[]).err(), refused, "{cell:?}");
+            assert_eq!(
+                liveness(RULES, &components, &[], &[]).err(),
+                refused,
+                "{cell:?}"
+            );
             let refused = outside.then(|| out_of_range(List::Frontiers));
-            assert_eq!(liveness(&[], &[], &[position]).err(), refused, "{cell:?}");
+            assert_eq!(
+                liveness(RULES, &[], &[], &[position]).err(),
+                refused,
+                "{cell:?}"
+            );
         }
     }
 }
@@ -136,21 +150,27 @@ fn full_plots() -> Option<Vec<Lists>> {
 }
 
 fn mark(plot: &Lists) -> Result<[usize; 2], Refusal> {
-    let groups = groups(&plot.components, &plot.connections)?;
-    let found = liveness(&plot.components, &plot.ports, &plot.frontiers)?;
-    light(&plot.components, &plot.ports, &plot.frontiers)?;
-    ports(&plot.components, &plot.connections)?;
+    let groups = groups(RULES, &plot.components, &plot.connections)?;
+    let found = liveness(RULES, &plot.components, &plot.ports, &plot.frontiers)?;
+    light(RULES, &plot.components, &plot.ports, &plot.frontiers)?;
+    ports(RULES, &plot.components, &plot.connections)?;
     for row in found.inputs.iter().take(20) {
-        driven(&plot.components, &plot.ports, &plot.frontiers, row.input)?;
+        driven(
+            RULES,
+            &plot.components,
+            &plot.ports,
+            &plot.frontiers,
+            row.input,
+        )?;
     }
-    let cleared = clear(&plot.components, &plot.ports, &plot.frontiers)?;
+    let cleared = clear(RULES, &plot.components, &plot.ports, &plot.frontiers)?;
     assert_eq!(cleared.kept, plot.ports);
     Ok([groups.net_count, found.regions.len()])
 }
 
 /// The slow finder, which takes its time.
 fn slow(plot: &Lists) -> Result<usize, Refusal> {
-    let table = reach_table(&plot.components, &plot.ports, &plot.frontiers)?;
+    let table = reach_table(RULES, &plot.components, &plot.ports, &plot.frontiers)?;
     Ok(table.count)
 }
 

@@ -8,14 +8,17 @@
 mod typed;
 
 use dustroute::{
-    Component, ComponentId, KeptConnection, List, Place, Position, Refusal, Slope, TransferKind,
-    liveness, ports,
+    Component, ComponentId, KeptConnection, List, Place, Position, Refusal, Rules, Slope,
+    TransferKind, liveness, ports,
 };
 use scenes::damage::{pair, single};
 use scenes::random::Random;
 use scenes::sized::Shape;
 use scenes::{Profile, Scene, exhaustive, refusals};
 use typed::Lists;
+
+/// No row depends on them.
+const RULES: Rules = Rules::Two;
 
 fn numbers(kept: &KeptConnection) -> [i64; 6] {
     let [source, sink] = [kept.connection.source, kept.connection.sink]
@@ -61,8 +64,11 @@ impl Asked {
         };
         self.calls += 1;
         let (components, connections) = (&scene.components, &scene.connections);
-        let given = ports(&lists.components, &lists.connections);
-        match (given, refusals::ports(components, connections, usize::MAX)) {
+        let given = ports(RULES, &lists.components, &lists.connections);
+        match (
+            given,
+            refusals::ports(RULES.number(), components, connections, usize::MAX),
+        ) {
             (Ok(kept), None) => {
                 let wanted = paper::ports(components, connections);
                 let wanted = paper::sloped(components, &wanted);
@@ -96,7 +102,7 @@ fn hold_kept(lists: &Lists, kept: &[KeptConnection], case: &str) {
         assert_ne!(transfer, TransferKind::StructuralSupport, "{case}");
     }
     let fed: Vec<_> = kept.iter().map(|it| it.connection).collect();
-    let taken = liveness(&lists.components, &fed, &[]);
+    let taken = liveness(RULES, &lists.components, &fed, &[]);
     assert_eq!(taken.err(), None, "{case}");
 }
 

@@ -1,6 +1,7 @@
 //! The slow region finder held to a breadth-first search from each component,
 //! and its regions to those of `liveness`.
 
+mod squares;
 #[expect(dead_code, reason = "the grouping connections have no part in it")]
 mod typed;
 
@@ -11,84 +12,8 @@ use scenes::damage::{garbage, pair, single};
 use scenes::limits::{COMPONENT, PORT_CONNECTION, SUPPORT};
 use scenes::random::Random;
 use scenes::{Profile, Scene, exhaustive, refusals};
+use squares::{RULES, Slices, enough};
 use typed::Lists;
-
-mod raw {
-    unsafe extern "C" {
-        pub fn dustroute_reach_table(
-            components: *const i64,
-            components_len: usize,
-            ports: *const i64,
-            ports_len: usize,
-            frontiers: *const i64,
-            frontiers_len: usize,
-            square: *mut u8,
-            square_len: usize,
-            regions: *mut u64,
-            regions_len: usize,
-            stack: *mut usize,
-            stack_len: usize,
-        ) -> u64;
-    }
-}
-
-/// What an accepted call must leave alone.
-const DIRT: u8 = 0xa5;
-const DIRTY: u64 = u64::from_ne_bytes([DIRT; 8]);
-
-/// The slices of a call, of so many places each, with a place before and after
-/// which is not lent.
-#[derive(Clone, Eq, PartialEq)]
-struct Slices {
-    square: Vec<u8>,
-    regions: Vec<u64>,
-    stack: Vec<usize>,
-}
-
-impl Slices {
-    fn dirty([square, regions, stack]: [usize; 3]) -> Self {
-        Self {
-            square: vec![DIRT; square + 2],
-            regions: vec![DIRTY; regions + 2],
-            stack: vec![DIRTY as usize; stack + 2],
-        }
-    }
-
-    fn lent<T>(slice: &mut [T]) -> &mut [T] {
-        let end = slice.len() - 1;
-        &mut slice[1..end]
-    }
-
-    fn call(&mut self, scene: &Scene) -> u64 {
-        let square = Self::lent(&mut self.square);
-        let regions = Self::lent(&mut self.regions);
-        let stack = Self::lent(&mut self.stack);
-        // SAFETY: each pointer is to a slice of the length beside it, and the
-        // borrows keep those that are written apart.
-        unsafe {
-            raw::dustroute_reach_table(
-                scene.components.as_ptr(),
-                scene.components.len(),
-                scene.ports.as_ptr(),
-                scene.ports.len(),
-                scene.frontiers.as_ptr(),
-                scene.frontiers.len(),
-                square.as_mut_ptr(),
-                square.len(),
-                regions.as_mut_ptr(),
-                regions.len(),
-                stack.as_mut_ptr(),
-                stack.len(),
-            )
-        }
-    }
-}
-
-/// How many places each slice must have.
-fn enough(scene: &Scene) -> [usize; 3] {
-    let side = scene.components.len() / COMPONENT;
-    [side * side, side, 2 * side]
-}
 
 /// The request restated, without a table: from each component a breadth-first
 /// search along the connections that are no support, by list place.
@@ -162,7 +87,7 @@ impl Met {
             ..scene.clone()
         };
         let lists = Lists::of(&scene).unwrap_or_else(|| panic!("{case}: no lists"));
-        let found = liveness(&lists.components, &lists.ports, &lists.frontiers);
+        let found = liveness(RULES, &lists.components, &lists.ports, &lists.frontiers);
         let found = found.unwrap_or_else(|refusal| panic!("{case}: {refusal}"));
         let regions = found.components.iter().map(|it| it.region as u64);
         regions.collect()
@@ -173,7 +98,13 @@ impl Met {
         let short = lengths.iter().zip(enough(scene)).any(|(is, of)| *is < of);
         // In the restatement of the query the stack alone is lent.
         let stack = if short { 0 } else { usize::MAX };
-        let wanted = refusals::query(&scene.components, &scene.ports, &scene.frontiers, stack);
+        let Scene {
+            components,
+            ports,
+            frontiers,
+            ..
+        } = scene;
+        let wanted = refusals::query(RULES.number(), components, ports, frontiers, stack);
         let Some(wanted) = wanted else {
             let more = lengths[1] - enough(scene)[1];
             assert_eq!(lengths, enough(scene).map(|it| it + more), "{case}");
@@ -371,7 +302,7 @@ fn the_typed_table_is_the_square() {
             let Some(lists) = Lists::of(&scene) else {
                 continue;
             };
-            let table = reach_table(&lists.components, &lists.ports, &lists.frontiers);
+            let table = reach_table(RULES, &lists.components, &lists.ports, &lists.frontiers);
             let table = table.unwrap_or_else(|refusal| panic!("{case}: {refusal}"));
             let square = searched(&scene);
             let ids: Vec<_> = lists.components.iter().map(|it| it.id).collect();
@@ -405,8 +336,8 @@ fn the_typed_refusal_is_that_of_liveness() {
                     continue;
                 };
                 let [table, whole]: [Option<Refusal>; 2] = [
-                    reach_table(&lists.components, &lists.ports, &lists.frontiers).err(),
-                    liveness(&lists.components, &lists.ports, &lists.frontiers).err(),
+                    reach_table(RULES, &lists.components, &lists.ports, &lists.frontiers).err(),
+                    liveness(RULES, &lists.components, &lists.ports, &lists.frontiers).err(),
                 ];
                 assert_eq!(table, whole, "{} seed {seed}, {damage:?}", profile.name());
                 refused += usize::from(whole.is_some());
@@ -421,7 +352,7 @@ fn the_typed_refusal_is_that_of_liveness() {
 fn no_components_no_places() {
     let mut met = Met::default();
     met.accepted(&Scene::default(), 0, "nothing");
-    let table = reach_table(&[], &[], &[]).unwrap_or_default();
+    let table = reach_table(RULES, &[], &[], &[]).unwrap_or_default();
     assert_eq!((table.count, table.regions.len()), (0, 0));
     assert_eq!(table.to_string(), "   region\n");
 }

@@ -1,415 +1,16 @@
 //! The way from a lever (R-1) held to the request restated: on lists of numbers
 //! as a host lends them, and through the typed functions.
 
+mod trails;
 #[expect(dead_code, reason = "the grouping connections have no part in it")]
 mod typed;
 
-use std::collections::{BTreeMap, BTreeSet};
-
-use dustroute::{
-    ComponentId, Liveness, PortConnection, PortRef, RequiredInputStatus, SignalSourceKind,
-    TransferKind, check_trail, liveness, trail,
-};
+use dustroute::{ComponentId, PortRef, check_trail, liveness, trail};
 use scenes::damage::{garbage, pair, single};
 use scenes::random::Random;
 use scenes::{Profile, Scene, exhaustive};
+use trails::{DIRT, NOT_DRIVEN, Plot, RULES, Runs, check, find, number, of, refusal_of_driven};
 use typed::Lists;
-
-mod raw {
-    unsafe extern "C" {
-        pub fn dustroute_trail(
-            components: *const i64,
-            components_len: usize,
-            ports: *const i64,
-            ports_len: usize,
-            frontiers: *const i64,
-            frontiers_len: usize,
-            id: u64,
-            port: u64,
-            trail: *mut u64,
-            trail_len: usize,
-        ) -> u64;
-
-        pub fn dustroute_check_trail(
-            components: *const i64,
-            components_len: usize,
-            ports: *const i64,
-            ports_len: usize,
-            frontiers: *const i64,
-            frontiers_len: usize,
-            id: u64,
-            port: u64,
-            trail: *const u64,
-            trail_len: usize,
-        ) -> u64;
-
-        pub fn dustroute_driven(
-            components: *const i64,
-            components_len: usize,
-            ports: *const i64,
-            ports_len: usize,
-            frontiers: *const i64,
-            frontiers_len: usize,
-            id: u64,
-            port: u64,
-            met: *mut u64,
-            met_len: usize,
-            stack: *mut usize,
-            stack_len: usize,
-        ) -> u64;
-    }
-}
-
-/// What stands in a lent list before a call.
-const DIRT: u64 = 0xdead_beef_0bad_f00d;
-
-fn find(scene: &Scene, [id, port]: [u64; 2], trail: &mut [u64]) -> u64 {
-    let Scene {
-        components,
-        ports,
-        frontiers,
-        ..
-    } = scene;
-    // SAFETY: each pointer is to a whole slice of the length beside it.
-    unsafe {
-        raw::dustroute_trail(
-            components.as_ptr(),
-            components.len(),
-            ports.as_ptr(),
-            ports.len(),
-            frontiers.as_ptr(),
-            frontiers.len(),
-            id,
-            port,
-            trail.as_mut_ptr(),
-            trail.len(),
-        )
-    }
-}
-
-fn check(scene: &Scene, [id, port]: [u64; 2], trail: &[u64]) -> u64 {
-    let Scene {
-        components,
-        ports,
-        frontiers,
-        ..
-    } = scene;
-    // SAFETY: each pointer is to a whole slice of the length beside it.
-    unsafe {
-        raw::dustroute_check_trail(
-            components.as_ptr(),
-            components.len(),
-            ports.as_ptr(),
-            ports.len(),
-            frontiers.as_ptr(),
-            frontiers.len(),
-            id,
-            port,
-            trail.as_ptr(),
-            trail.len(),
-        )
-    }
-}
-
-/// The refusal of `dustroute_driven`, with room for its set and its stack: the
-/// same lists, the same port.
-fn refusal_of_driven(scene: &Scene, [id, port]: [u64; 2]) -> u64 {
-    let mut met = [0; 16];
-    let mut stack = vec![0; scene.components.len() / 4 + 2];
-    // SAFETY: each pointer is to a whole slice of the length beside it.
-    let answer = unsafe {
-        raw::dustroute_driven(
-            scene.components.as_ptr(),
-            scene.components.len(),
-            scene.ports.as_ptr(),
-            scene.ports.len(),
-            scene.frontiers.as_ptr(),
-            scene.frontiers.len(),
-            id,
-            port,
-            met.as_mut_ptr(),
-            met.len(),
-            stack.as_mut_ptr(),
-            stack.len(),
-        )
-    };
-    if answer & 0xffff == 0 { 0 } else { answer }
-}
-
-/// The request restated: what feeds what, and what is a drive source.
-struct Plot {
-    /// Each component's id with those that feed it.
-    fed: BTreeMap<u64, BTreeSet<u64>>,
-    drive: BTreeSet<u64>,
-    connections: Vec<PortConnection>,
-}
-
-fn number(id: ComponentId) -> u64 {
-    u64::from(id.0)
-}
-
-impl Plot {
-    fn of(connections: &[PortConnection], found: &Liveness) -> Self {
-        let inferred = SignalSourceKind::InferredPrimaryInput;
-        let drive = found.sources.iter().filter(|it| it.kind != inferred);
-        let mut fed: BTreeMap<u64, BTreeSet<u64>> = BTreeMap::new();
-        let signals = connections.iter().copied();
-        let signals = signals.filter(|it| it.transfer != TransferKind::StructuralSupport);
-        let connections: Vec<PortConnection> = signals.collect();
-        for it in &connections {
-            let sources = fed.entry(number(it.sink.component)).or_default();
-            sources.insert(number(it.source.component));
-        }
-        Self {
-            fed,
-            drive: drive.map(|it| number(it.component)).collect(),
-            connections,
-        }
-    }
-
-    /// Those that feed a port.
-    fn immediate(&self, input: PortRef) -> BTreeSet<u64> {
-        let fed = self.connections.iter().filter(|it| it.sink == input);
-        fed.map(|it| number(it.source.component)).collect()
-    }
-
-    /// "its first member is a drive source, each next one is fed by the one
-    /// before, and its last feeds the port"
-    fn is_trail(&self, input: PortRef, ids: &[u64]) -> bool {
-        let (Some(first), Some(last)) = (ids.first(), ids.last()) else {
-            return false;
-        };
-        let fed = |pair: &[u64]| {
-            self.fed
-                .get(&pair[1])
-                .is_some_and(|it| it.contains(&pair[0]))
-        };
-        self.drive.contains(first)
-            && ids.windows(2).all(fed)
-            && self.immediate(input).contains(last)
-    }
-
-    /// The least of the shortest, by mending: each component's best way to the
-    /// port is its own id before the best way of one that it feeds, or alone
-    /// where it feeds the port.
-    fn best(&self, input: PortRef) -> Option<Vec<u64>> {
-        let better = |a: &Vec<u64>, b: &Vec<u64>| (a.len(), a) < (b.len(), b);
-        let alone = self.immediate(input).into_iter().map(|id| (id, vec![id]));
-        let mut best: BTreeMap<u64, Vec<u64>> = alone.collect();
-        let mut mended = true;
-        while mended {
-            mended = false;
-            for (sink, sources) in &self.fed {
-                let Some(rest) = best.get(sink).cloned() else {
-                    continue;
-                };
-                for &source in sources {
-                    let way: Vec<u64> = [source].into_iter().chain(rest.iter().copied()).collect();
-                    if best.get(&source).is_none_or(|old| better(&way, old)) {
-                        best.insert(source, way);
-                        mended = true;
-                    }
-                }
-            }
-        }
-        let driving = best.into_iter().filter(|(id, _)| self.drive.contains(id));
-        driving
-            .map(|(_, way)| way)
-            .min_by_key(|way| (way.len(), way.clone()))
-    }
-
-    /// All lists of up to so many of the ids.
-    fn lists(ids: &[u64], most: usize) -> Vec<Vec<u64>> {
-        let mut all = vec![vec![]];
-        let mut last = vec![vec![]];
-        for _ in 0..most {
-            let longer = |list: &Vec<u64>, id: u64| [list.as_slice(), &[id]].concat();
-            last = last
-                .iter()
-                .flat_map(|list| ids.iter().map(move |&id| longer(list, id)))
-                .collect();
-            all.extend(last.iter().cloned());
-        }
-        all
-    }
-}
-
-/// What was asked, and what came of it.
-#[derive(Default)]
-struct Runs {
-    found: u64,
-    longest: usize,
-    not_driven: u64,
-    no_verdict: u64,
-    refused: u64,
-    short: u64,
-    accepted: u64,
-    rejected: u64,
-}
-
-const SHORT: u64 = 2 + 256 * 3;
-const NO_VERDICT: u64 = 8 + 256 * 3;
-const NOT_DRIVEN: u64 = 10 + 256 * 3;
-
-impl Runs {
-    /// A finder's call: its list one place over, exact and one place short.
-    fn hold_finder(
-        &mut self,
-        scene: &Scene,
-        asked: [u64; 2],
-        wanted: Result<&[u64], u64>,
-        case: &str,
-    ) {
-        let count = scene.components.len() / 8;
-        for places in [count + 3, count, count.saturating_sub(1)] {
-            let mut ids = vec![DIRT; places];
-            let answer = find(scene, asked, &mut ids);
-            // 2 comes after 1, and before all others.
-            if places < count && !matches!(wanted, Err(refusal) if refusal & 0xff == 1) {
-                assert_eq!(answer, SHORT, "{case} {asked:?}");
-                assert!(ids.iter().all(|it| *it == DIRT), "{case}: written");
-                self.short += 1;
-                continue;
-            }
-            match wanted {
-                Ok(way) => {
-                    assert_eq!(answer, 65_536 * way.len() as u64, "{case} {asked:?}");
-                    assert_eq!(ids.get(..way.len()), Some(way), "{case} {asked:?}");
-                    assert!(ids.iter().skip(way.len()).all(|it| *it == DIRT), "{case}");
-                    self.found += 1;
-                    self.longest = self.longest.max(way.len());
-                }
-                Err(refusal) => {
-                    assert_eq!(answer, refusal, "{case} {asked:?}");
-                    assert!(ids.iter().all(|it| *it == DIRT), "{case}: written");
-                    self.not_driven += u64::from(refusal == NOT_DRIVEN);
-                    self.no_verdict += u64::from(refusal == NO_VERDICT);
-                }
-            }
-        }
-    }
-
-    fn hold_check(
-        &mut self,
-        scene: &Scene,
-        asked: [u64; 2],
-        ids: &[u64],
-        wanted: bool,
-        case: &str,
-    ) {
-        let answer = check(scene, asked, ids);
-        assert_eq!(
-            answer,
-            65_536 * u64::from(wanted),
-            "{case} {asked:?} {ids:?}"
-        );
-        self.accepted += u64::from(wanted);
-        self.rejected += u64::from(!wanted);
-    }
-
-    /// A list's fault is told by both, as by the question of one input.
-    fn hold_refusal(&mut self, scene: &Scene, asked: [u64; 2], case: &str) {
-        let refusal = refusal_of_driven(scene, asked);
-        assert_ne!(refusal, 0, "{case}");
-        self.hold_finder(scene, asked, Err(refusal), case);
-        assert_eq!(check(scene, asked, &[1, 2]), refusal, "{case}");
-        self.refused += 1;
-    }
-
-    /// Lists near a trail: a member dropped, twice, exchanged for another, the
-    /// ends turned round, one more before and after, and some at random.
-    fn near(way: &[u64], ids: &[u64], random: &mut Random) -> Vec<Vec<u64>> {
-        let mut lists = vec![vec![], way.to_vec()];
-        for place in 0..way.len().min(6) {
-            let mut dropped = way.to_vec();
-            let id = dropped.remove(place);
-            lists.push(dropped);
-            let mut twice = way.to_vec();
-            twice.insert(place, id);
-            lists.push(twice);
-            if !ids.is_empty() {
-                let mut other = way.to_vec();
-                other[place] = random.pick(ids);
-                lists.push(other);
-            }
-        }
-        let mut turned = way.to_vec();
-        turned.reverse();
-        lists.push(turned);
-        for id in [random.below(12) as u64, u64::MAX, 1 << 32] {
-            lists.push([&[id], way].concat());
-            lists.push([way, &[id]].concat());
-        }
-        if !ids.is_empty() {
-            let length = 1 + random.below(5);
-            lists.push((0..length).map(|_| random.pick(ids)).collect());
-        }
-        lists
-    }
-
-    /// Every verdict of a scene, with lists near its trail, and ports without.
-    fn hold(&mut self, scene: &Scene, random: &mut Random, most: usize, case: &str) {
-        // A damaged number may be no kind or face, and a grouping connection,
-        // which has no part in this, may be damaged.
-        let Some(lists) = Lists::of(scene) else {
-            if refusal_of_driven(scene, [1, 1]) != 0 {
-                self.hold_refusal(scene, [1, 1], case);
-            }
-            return;
-        };
-        let Ok(whole) = liveness(&lists.components, &lists.ports, &lists.frontiers) else {
-            return self.hold_refusal(scene, [1, 1], case);
-        };
-        let plot = Plot::of(&lists.ports, &whole);
-        let ids: Vec<u64> = lists.components.iter().map(|it| number(it.id)).collect();
-        for row in whole.inputs.iter().take(most) {
-            let asked = [number(row.input.component), u64::from(row.input.port)];
-            let best = plot.best(row.input);
-            let driven = row.status == RequiredInputStatus::DrivenByKnownSource;
-            assert_eq!(best.is_some(), driven, "{case}: {row:?}");
-            self.hold_finder(scene, asked, best.as_deref().ok_or(NOT_DRIVEN), case);
-            let way = best.unwrap_or_default();
-            for list in Self::near(&way, &ids, random) {
-                let wanted = plot.is_trail(row.input, &list);
-                self.hold_check(scene, asked, &list, wanted, case);
-            }
-        }
-        let verdicts: BTreeSet<[u64; 2]> = whole.inputs.iter().map(|row| of(row.input)).collect();
-        for _ in 0..2 {
-            let id = if ids.is_empty() || random.once_in(3) {
-                random.below(9) as u64
-            } else {
-                random.pick(&ids)
-            };
-            let asked = [id, [0, 1, 4, 255, 256, u64::MAX][random.below(6)]];
-            if !verdicts.contains(&asked) {
-                self.hold_finder(scene, asked, Err(NO_VERDICT), case);
-                assert_eq!(check(scene, asked, &[id]), NO_VERDICT, "{case} {asked:?}");
-            }
-        }
-    }
-
-    fn told(&self, name: &str) {
-        println!(
-            "{name}: {} trails found, of up to {} ids, {} inputs not driven, {} without a verdict, \
-             {} of lists too short; {} lists accepted and {} not; {} scenes refused",
-            self.found,
-            self.longest,
-            self.not_driven,
-            self.no_verdict,
-            self.short,
-            self.accepted,
-            self.rejected,
-            self.refused
-        );
-        assert!(self.found > 100 && self.not_driven > 100 && self.accepted > 100);
-        assert!(self.rejected > 100 && self.short > 100);
-    }
-}
-
-fn of(input: PortRef) -> [u64; 2] {
-    [number(input.component), u64::from(input.port)]
-}
 
 #[test]
 fn every_trail_of_the_profiles() {
@@ -498,7 +99,7 @@ fn hold_least(runs: &mut Runs, scene: &Scene, ids: &[u64], lists: &[Vec<u64>], c
     let Some(typed) = Lists::of(scene) else {
         panic!("{case} cannot be typed");
     };
-    let Ok(whole) = liveness(&typed.components, &typed.ports, &typed.frontiers) else {
+    let Ok(whole) = liveness(RULES, &typed.components, &typed.ports, &typed.frontiers) else {
         panic!("{case} is refused");
     };
     let plot = Plot::of(&typed.ports, &whole);
@@ -619,13 +220,13 @@ fn typed_trails_are_the_same() {
                 frontiers,
                 ..
             } = &lists;
-            let Ok(whole) = liveness(components, ports, frontiers) else {
+            let Ok(whole) = liveness(RULES, components, ports, frontiers) else {
                 panic!("{} seed {seed} is refused", profile.name());
             };
             for row in whole.inputs.iter().take(10) {
                 let mut ids = vec![DIRT; components.len()];
                 let answer = find(&scene, of(row.input), &mut ids);
-                let found = trail(components, ports, frontiers, row.input);
+                let found = trail(RULES, components, ports, frontiers, row.input);
                 match found {
                     Err(refusal) => {
                         assert_eq!(u64::from(refusal.reason.number()) + 256 * 3, answer)
@@ -634,7 +235,8 @@ fn typed_trails_are_the_same() {
                         let numbers: Vec<u64> = way.iter().copied().map(number).collect();
                         assert_eq!(answer, 65_536 * way.len() as u64);
                         assert_eq!(ids.get(..way.len()), Some(numbers.as_slice()));
-                        let checked = check_trail(components, ports, frontiers, row.input, &way);
+                        let checked =
+                            check_trail(RULES, components, ports, frontiers, row.input, &way);
                         assert_eq!(checked, Ok(true));
                     }
                 }

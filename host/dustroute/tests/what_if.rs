@@ -7,8 +7,8 @@ use std::collections::BTreeSet;
 
 use dustroute::{
     Change, ComponentId, Connection, ConnectionKind, Joined, List, Liveness, Place, PortConnection,
-    PortRef, Reason, Refusal, RequiredInputStatus, TransferKind, groups, limits, liveness, what_if,
-    what_if_joined,
+    PortRef, Reason, Refusal, RequiredInputStatus, Rules, TransferKind, groups, limits, liveness,
+    what_if, what_if_joined,
 };
 use scenes::Profile;
 use scenes::random::Random;
@@ -29,6 +29,11 @@ fn on_profiles(mut check: impl FnMut(&Lists, &mut Random, &str)) {
             }
         }
     }
+}
+
+/// They go round with the lists.
+const fn rules(lists: &Lists) -> Rules {
+    Rules::ALL[lists.components.len() % 2]
 }
 
 /// Mostly a component's, else any.
@@ -155,15 +160,21 @@ fn what_changes_is_what_is_proved() {
             frontiers,
             ..
         } = lists;
-        let Ok(before) = liveness(components, ports, frontiers) else {
+        let rules = rules(lists);
+        let Ok(before) = liveness(rules, components, ports, frontiers) else {
             panic!("{case} is refused");
         };
         for _ in 0..EXTRA {
             let extra = any_feed(lists, &before, random);
             let case = format!("{case} {extra:?}");
             // In any order: here it is the first.
-            let after = liveness(components, &[&[extra], &ports[..]].concat(), frontiers);
-            let given = what_if(components, ports, frontiers, extra);
+            let after = liveness(
+                rules,
+                components,
+                &[&[extra], &ports[..]].concat(),
+                frontiers,
+            );
+            let given = what_if(rules, components, ports, frontiers, extra);
             met.asked += 1;
             let (change, after) = match (given, after) {
                 (Ok(change), Ok(after)) => (change, after),
@@ -206,7 +217,8 @@ fn what_is_joined_is_what_was_apart() {
     let (mut asked, mut joined, mut repeats, mut full) = (0, [0; 3], 0, 0);
     on_profiles(|lists, random, case| {
         let (components, connections) = (&lists.components, &lists.connections);
-        let Ok(before) = groups(components, connections) else {
+        let rules = rules(lists);
+        let Ok(before) = groups(rules, components, connections) else {
             panic!("{case} is refused");
         };
         for _ in 0..EXTRA {
@@ -216,7 +228,7 @@ fn what_is_joined_is_what_was_apart() {
             let there = connections.get(random.below(5 * connections.len()));
             let extra = there.copied().unwrap_or(drawn);
             let case = format!("{case} {extra:?}");
-            let given = what_if_joined(components, connections, extra);
+            let given = what_if_joined(rules, components, connections, extra);
             asked += 1;
             if connections.len() == limits::CONNECTIONS {
                 let long = refused(Reason::Length, connections.len());
@@ -280,14 +292,20 @@ fn what_was_refused_stays_refused() {
                 item: 1,
             }),
         };
-        let given = what_if(&components, &lists.ports, &lists.frontiers, feed);
+        let given = what_if(
+            Rules::Two,
+            &components,
+            &lists.ports,
+            &lists.frontiers,
+            feed,
+        );
         assert_eq!(given, Err(refusal), "{case}");
-        let given = what_if_joined(&components, &lists.connections, join);
+        let given = what_if_joined(Rules::Two, &components, &lists.connections, join);
         assert_eq!(given, Err(refusal), "{case}");
         components_turned += 1;
         if lists.connections.len() > 1 {
             let connections: Vec<_> = lists.connections.iter().rev().copied().collect();
-            let given = what_if_joined(&lists.components, &connections, join);
+            let given = what_if_joined(Rules::Two, &lists.components, &connections, join);
             let reason = given.map_err(|refusal| refusal.reason);
             assert_eq!(reason, Err(Reason::ConnectionOrder), "{case}");
             connections_turned += 1;

@@ -11,6 +11,18 @@ use super::walk::{Edges, regions, spread};
 const WIRE: i64 = 0;
 const TORCH: i64 = 3;
 
+/// The first rules by which a lamp is passed over like a Solid.
+const PASSIVE_LAMPS: i64 = 2;
+
+/// What is no external feed: Solid and Transparent, and from rules 2 on a lamp.
+const fn is_passive(rules: i64, kind: i64) -> bool {
+    match kind {
+        9 | 10 => true,
+        11 => rules >= PASSIVE_LAMPS,
+        _ => false,
+    }
+}
+
 /// The scene by members: component k has the k-th smallest id.
 struct Plot<'a> {
     records: Vec<&'a [i64]>,
@@ -78,8 +90,8 @@ impl<'a> Plot<'a> {
         by_kind.chain(fronts.map(|member| (member, 2))).collect()
     }
 
-    /// No drive source inside, no feed from outside but Solid or Transparent.
-    fn is_region_open(&self, region: usize, drives: &[bool]) -> bool {
+    /// No drive source inside, no feed from outside but of what is passive.
+    fn is_region_open(&self, rules: i64, region: usize, drives: &[bool]) -> bool {
         let members = 0..self.records.len();
         let holds_drive = members
             .clone()
@@ -87,7 +99,7 @@ impl<'a> Plot<'a> {
         let is_fed = self.fed.iter().any(|&(source, sink, _)| {
             self.region[sink] == region
                 && self.region[source] != region
-                && !matches!(self.kind(source), 9 | 10)
+                && !is_passive(rules, self.kind(source))
         });
         !holds_drive && !is_fed
     }
@@ -103,10 +115,10 @@ impl<'a> Plot<'a> {
         self.kind(member) == WIRE && near.len() <= 1
     }
 
-    fn inferred(&self, drives: &[bool]) -> Vec<bool> {
+    fn inferred(&self, rules: i64, drives: &[bool]) -> Vec<bool> {
         let count = self.region.iter().max().map_or(0, |last| last + 1);
         let open: Vec<bool> = (0..count)
-            .map(|it| self.is_region_open(it, drives))
+            .map(|it| self.is_region_open(rules, it, drives))
             .collect();
         (0..self.records.len())
             .map(|member| open[self.region[member]] && self.is_loose_end(member))
@@ -197,16 +209,21 @@ impl<'a> Plot<'a> {
     }
 }
 
-/// The whole answer by the paper's rules.
+/// The whole answer by the paper's words, under the rules of a number.
 #[must_use]
-pub fn liveness(components: &[i64], connections: &[i64], frontiers: &[i64]) -> Liveness {
+pub fn liveness(
+    rules: i64,
+    components: &[i64],
+    connections: &[i64],
+    frontiers: &[i64],
+) -> Liveness {
     let plot = Plot::new(components, connections);
     let sources = plot.drive_sources(frontiers);
     let mut drives = vec![false; plot.records.len()];
     for &(member, _) in &sources {
         drives[member] = true;
     }
-    let inferred = plot.inferred(&drives);
+    let inferred = plot.inferred(rules, &drives);
     let either: Vec<bool> = drives
         .iter()
         .zip(&inferred)

@@ -1,6 +1,6 @@
 //! "The sheet": its lines, its stages and what each leaves of the slices.
 
-use scenes::limits::{COMPONENT, CONNECTION, FRONTIER};
+use scenes::limits::{COMPONENT, CONNECTION, FRONTIER, RULES_OF_THE_RUST};
 use scenes::refusals::{NO_LIST, sheet_lists, too_short_slice};
 use scenes::sheets::{
     COMPONENT_KEYS, CONNECTION_KEYS, COUNT_KEYS, FRONTIER_KEYS, LAST_MAGNITUDE, Limits,
@@ -153,7 +153,9 @@ impl Sheet {
             Err(refusal) => return Self::Faulty(refusal),
         };
         let (components, connections) = (&scene.components, &scene.connections);
-        if let Some(refusal) = sheet_lists(components, connections, &scene.frontiers) {
+        if let Some(refusal) =
+            sheet_lists(RULES_OF_THE_RUST, components, connections, &scene.frontiers)
+        {
             return Self::Unsound(scene, refusal);
         }
         let report = report(components, connections, &scene.frontiers);

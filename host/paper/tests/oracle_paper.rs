@@ -1,6 +1,6 @@
 //! The unchanged Rust against the scope paper's rules, on accepted scenes.
 
-use scenes::limits::{COMPONENT, LAST_FACE, LAST_KIND};
+use scenes::limits::{COMPONENT, LAST_FACE, LAST_KIND, RULES_OF_THE_RUST};
 use scenes::random::Random;
 use scenes::{Profile, Scene, exhaustive};
 
@@ -17,7 +17,7 @@ fn hold(scene: &Scene, case: &str) {
     let kept = oracle::ports(list, connections);
     assert_eq!(kept, paper::ports(list, connections), "{case}{scene}");
     for ports in [&scene.ports, &kept.concat()] {
-        let wanted = paper::liveness(list, ports, &scene.frontiers);
+        let wanted = paper::liveness(RULES_OF_THE_RUST, list, ports, &scene.frontiers);
         let given = oracle::liveness(list, ports, &scene.frontiers);
         assert_eq!(given, wanted, "{case}{scene}\n  analysed {ports:?}");
     }

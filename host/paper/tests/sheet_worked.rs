@@ -4,6 +4,7 @@
 use paper::program::{BUFFER, plotreport};
 use paper::report::{print, report};
 use paper::sheet::{Left, Sheet, SheetLent, parse, write_sheet};
+use scenes::limits::RULES_OF_THE_RUST;
 use scenes::sheets::{Limits, sheet_of, within};
 use scenes::{Profile, Refusal, Scene, exhaustive};
 
@@ -184,7 +185,12 @@ fn hold(scene: &Scene, case: &str) {
     assert_eq!(parse(&text, Limits::NONE), Ok(wanted), "{case}{scene}");
     let (components, connections) = (&scene.components, &scene.connections);
     let kept = paper::ports(components, connections);
-    let alive = paper::liveness(components, &kept.concat(), &scene.frontiers);
+    let alive = paper::liveness(
+        RULES_OF_THE_RUST,
+        components,
+        &kept.concat(),
+        &scene.frontiers,
+    );
     let groups = paper::groups(components, connections);
     let by_the_paper = print(components, &groups, &kept, &alive);
     let given = report(components, connections, &scene.frontiers);

@@ -19,12 +19,13 @@ pub struct Counts {
 /// # Errors
 /// The refusal of lists or slices that are not as they must be.
 pub fn groups(
+    rules: i64,
     components: &[u8],
     connections: &[u8],
     nets: &mut [u8],
     fragments: &mut [u8],
 ) -> Result<Counts, Refusal> {
-    let answer = bytes::groups(components, connections, nets, fragments);
+    let answer = bytes::groups(rules, components, connections, nets, fragments);
     unpack(answer).map(|counts| Counts {
         nets: counts % 65_536,
         fragments: counts / 65_536,
@@ -51,12 +52,13 @@ pub struct RowCounts {
 /// # Errors
 /// The refusal of lists or slices that are not as they must be.
 pub fn liveness_bytes(
+    rules: i64,
     components: &[u8],
     ports: &[u8],
     frontiers: &[u8],
     lent: Lent<'_>,
 ) -> Result<RowCounts, Refusal> {
-    let answer = bytes::liveness(components, ports, frontiers, lent);
+    let answer = bytes::liveness(rules, components, ports, frontiers, lent);
     unpack(answer).map(|counts| RowCounts {
         regions: counts % 65_536,
         sources: counts / 65_536 % 65_536,
@@ -89,7 +91,12 @@ pub struct Liveness {
 ///
 /// # Errors
 /// The refusal of lists that are not as they must be.
-pub fn liveness(components: &[i64], ports: &[i64], frontiers: &[i64]) -> Result<Liveness, Refusal> {
+pub fn liveness(
+    rules: i64,
+    components: &[i64],
+    ports: &[i64],
+    frontiers: &[i64],
+) -> Result<Liveness, Refusal> {
     let count = components.len() / COMPONENT;
     let mut regions = vec![0; count * NUMBER];
     let mut sources = vec![0; 4 * count * NUMBER];
@@ -97,6 +104,7 @@ pub fn liveness(components: &[i64], ports: &[i64], frontiers: &[i64]) -> Result<
     let mut sets = vec![0; 4 * WORDS * NUMBER];
     let mut stack = vec![0; 2 * count * NUMBER];
     let counts = liveness_bytes(
+        rules,
         &lent_bytes(components),
         &lent_bytes(ports),
         &lent_bytes(frontiers),

@@ -4,8 +4,12 @@
 //! The raw declarations stay in private modules; the functions here take
 //! slices, which are never null, and give typed answers. Nothing checks the
 //! declarations against the library's source, so they are few and on numbers.
+//!
+//! `rules` is the number of the rules, of any value: those that are not known are
+//! refused.
 
 pub mod capi;
+pub mod entries;
 pub mod ports;
 pub mod query;
 pub mod report;
@@ -15,6 +19,7 @@ mod raw {
 
     unsafe extern "C" {
         pub fn probe_grouping_refusal(
+            rules: i64,
             components: *const i64,
             components_len: usize,
             connections: *const i64,
@@ -24,6 +29,7 @@ mod raw {
         ) -> u64;
 
         pub fn probe_ports_refusal(
+            rules: i64,
             components: *const i64,
             components_len: usize,
             connections: *const i64,
@@ -32,6 +38,7 @@ mod raw {
         ) -> u64;
 
         pub fn probe_liveness_refusal(
+            rules: i64,
             components: *const i64,
             components_len: usize,
             ports: *const i64,
@@ -45,6 +52,7 @@ mod raw {
         ) -> u64;
 
         pub fn probe_query_refusal(
+            rules: i64,
             components: *const i64,
             components_len: usize,
             ports: *const i64,
@@ -55,6 +63,7 @@ mod raw {
         ) -> u64;
 
         pub fn probe_sheet_refusal(
+            rules: i64,
             components: *const i64,
             components_len: usize,
             connections: *const i64,
@@ -109,6 +118,7 @@ const fn place(answer: u64) -> Option<u64> {
 /// The grouping entry's refusal, slices given by their lengths in numbers.
 #[must_use]
 pub fn grouping(
+    rules: i64,
     components: &[i64],
     connections: &[i64],
     nets: usize,
@@ -118,6 +128,7 @@ pub fn grouping(
     // which the callee only reads.
     refused(unsafe {
         raw::probe_grouping_refusal(
+            rules,
             components.as_ptr(),
             components.len(),
             connections.as_ptr(),
@@ -130,10 +141,11 @@ pub fn grouping(
 
 /// The ports entry's refusal.
 #[must_use]
-pub fn ports(components: &[i64], connections: &[i64], ports: usize) -> Option<Refusal> {
+pub fn ports(rules: i64, components: &[i64], connections: &[i64], ports: usize) -> Option<Refusal> {
     // SAFETY: as for `grouping`.
     refused(unsafe {
         raw::probe_ports_refusal(
+            rules,
             components.as_ptr(),
             components.len(),
             connections.as_ptr(),
@@ -143,20 +155,20 @@ pub fn ports(components: &[i64], connections: &[i64], ports: usize) -> Option<Re
     })
 }
 
-/// The liveness entry's refusal.
+/// The liveness entry's refusal, with slices of these lengths for regions,
+/// sources and inputs, and for the stack.
 #[must_use]
 pub fn liveness(
+    rules: i64,
     components: &[i64],
     ports: &[i64],
     frontiers: &[i64],
-    regions: usize,
-    sources: usize,
-    inputs: usize,
-    stack: usize,
+    [regions, sources, inputs, stack]: [usize; 4],
 ) -> Option<Refusal> {
     // SAFETY: as for `grouping`, with three slices.
     refused(unsafe {
         raw::probe_liveness_refusal(
+            rules,
             components.as_ptr(),
             components.len(),
             ports.as_ptr(),
@@ -174,6 +186,7 @@ pub fn liveness(
 /// The input query's refusal without its own number 8.
 #[must_use]
 pub fn query(
+    rules: i64,
     components: &[i64],
     ports: &[i64],
     frontiers: &[i64],
@@ -182,6 +195,7 @@ pub fn query(
     // SAFETY: as for `grouping`, with three slices.
     refused(unsafe {
         raw::probe_query_refusal(
+            rules,
             components.as_ptr(),
             components.len(),
             ports.as_ptr(),
@@ -193,12 +207,18 @@ pub fn query(
     })
 }
 
-/// The list checks of a sheet, 3 to 6, on whole lists within their limits.
+/// The list checks of a sheet, 11 and 3 to 6, on whole lists within their limits.
 #[must_use]
-pub fn sheet_lists(components: &[i64], connections: &[i64], frontiers: &[i64]) -> Option<Refusal> {
+pub fn sheet_lists(
+    rules: i64,
+    components: &[i64],
+    connections: &[i64],
+    frontiers: &[i64],
+) -> Option<Refusal> {
     // SAFETY: as for `grouping`, with three slices.
     refused(unsafe {
         raw::probe_sheet_refusal(
+            rules,
             components.as_ptr(),
             components.len(),
             connections.as_ptr(),

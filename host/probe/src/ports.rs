@@ -34,6 +34,7 @@ mod raw {
 
         // the product's own entry, linked by the crate `dustroute`
         pub fn dustroute_ports(
+            rules: i64,
             components: *const i64,
             components_len: usize,
             connections: *const i64,
@@ -73,6 +74,7 @@ pub fn step_between([x, y, z]: [i64; 3], [to_x, to_y, to_z]: [i64; 3]) -> [u64; 
 /// # Errors
 /// The refusal of lists or a slice that are not as they must be.
 pub fn port_connections(
+    rules: i64,
     components: &[i64],
     connections: &[i64],
     out: &mut [i64],
@@ -81,6 +83,7 @@ pub fn port_connections(
     // callee only reads the first two, and the borrow keeps the third apart.
     unpack(unsafe {
         raw::dustroute_ports(
+            rules,
             components.as_ptr(),
             components.len(),
             connections.as_ptr(),

@@ -6,6 +6,7 @@ use crate::{Refusal, refused};
 mod raw {
     unsafe extern "C" {
         pub fn probe_input_refusal(
+            rules: i64,
             components: *const i64,
             components_len: usize,
             ports: *const i64,
@@ -19,6 +20,7 @@ mod raw {
         ) -> u64;
 
         pub fn probe_immediate_word(
+            rules: i64,
             components: *const i64,
             components_len: usize,
             ports: *const i64,
@@ -33,6 +35,7 @@ mod raw {
         ) -> u64;
 
         pub fn probe_inferred_word(
+            rules: i64,
             components: *const i64,
             components_len: usize,
             ports: *const i64,
@@ -48,9 +51,10 @@ mod raw {
     }
 }
 
-/// The lists of a query, and the port asked for.
+/// The rules and the lists of a query, and the port asked for.
 #[derive(Clone, Copy, Debug)]
 pub struct Asked<'a> {
+    pub rules: i64,
     pub components: &'a [i64],
     pub ports: &'a [i64],
     pub frontiers: &'a [i64],
@@ -64,6 +68,7 @@ pub fn input_refusal(asked: &Asked<'_>, stack: &mut [usize]) -> Option<Refusal> 
     // callee only reads the lists, and the borrow keeps the stack apart.
     refused(unsafe {
         raw::probe_input_refusal(
+            asked.rules,
             asked.components.as_ptr(),
             asked.components.len(),
             asked.ports.as_ptr(),
@@ -84,6 +89,7 @@ pub fn immediate_word(asked: &Asked<'_>, k: usize, stack: &mut [usize]) -> u64 {
     // SAFETY: as for `input_refusal`.
     unsafe {
         raw::probe_immediate_word(
+            asked.rules,
             asked.components.as_ptr(),
             asked.components.len(),
             asked.ports.as_ptr(),
@@ -105,6 +111,7 @@ pub fn inferred_word(asked: &Asked<'_>, k: usize, stack: &mut [usize]) -> u64 {
     // SAFETY: as for `input_refusal`.
     unsafe {
         raw::probe_inferred_word(
+            asked.rules,
             asked.components.as_ptr(),
             asked.components.len(),
             asked.ports.as_ptr(),

@@ -1,6 +1,7 @@
 //! Lists lent as bytes, eight to a number, lowest first, and the refusals of
 //! lists lent so.
 
+use crate::Lent;
 use crate::limits::{
     COMPONENT, COMPONENTS, CONNECTION, CONNECTIONS, FRONTIER, FRONTIERS, PORT_CONNECTION,
 };
@@ -35,20 +36,23 @@ fn not_a_list(list: u64, bytes: &[u8], width: usize, limit: usize) -> Option<Ref
     })
 }
 
-/// The grouping entry by bytes: 1 to 6. The slices are given by their lengths
+/// The grouping entry by bytes: 11, 1 to 6. The slices are given by their lengths
 /// in bytes.
 #[must_use]
 pub fn grouping(
+    rules: i64,
     components: &[u8],
     connections: &[u8],
     nets: usize,
     fragments: usize,
 ) -> Option<Refusal> {
-    not_a_list(COMPONENT_LIST, components, COMPONENT, COMPONENTS)
+    refusals::unknown_rules(rules)
+        .or_else(|| not_a_list(COMPONENT_LIST, components, COMPONENT, COMPONENTS))
         .or_else(|| not_a_list(CONNECTION_LIST, connections, CONNECTION, CONNECTIONS))
         .or_else(|| {
             let lists = [components, connections].map(numbers);
-            refusals::grouping(&lists[0], &lists[1], nets / NUMBER, fragments / NUMBER)
+            let [nets, fragments] = [nets, fragments].map(|it| it / NUMBER);
+            refusals::grouping(rules, &lists[0], &lists[1], nets, fragments)
         })
 }
 
@@ -65,29 +69,30 @@ pub struct LivenessLent {
     pub stack: usize,
 }
 
-/// The liveness entry by bytes: 1 to 5 and 7. A slice of sets that is too
+/// The liveness entry by bytes: 11, 1 to 5 and 7. A slice of sets that is too
 /// short is one of the slices of number 2.
 #[must_use]
 pub fn liveness(
+    rules: i64,
     components: &[u8],
     ports: &[u8],
     frontiers: &[u8],
     lent: &LivenessLent,
 ) -> Option<Refusal> {
-    not_a_list(COMPONENT_LIST, components, COMPONENT, COMPONENTS)
+    refusals::unknown_rules(rules)
+        .or_else(|| not_a_list(COMPONENT_LIST, components, COMPONENT, COMPONENTS))
         .or_else(|| not_a_list(CONNECTION_LIST, ports, PORT_CONNECTION, CONNECTIONS))
         .or_else(|| not_a_list(FRONTIER_LIST, frontiers, FRONTIER, FRONTIERS))
         .or_else(|| (lent.sets / NUMBER < SET_WORDS).then(refusals::too_short_slice))
         .or_else(|| {
             let lists = [components, ports, frontiers].map(numbers);
-            refusals::liveness(
-                &lists[0],
-                &lists[1],
-                &lists[2],
-                lent.regions / NUMBER,
-                lent.sources / NUMBER,
-                lent.inputs / NUMBER,
-                lent.stack / NUMBER,
-            )
+            let lent = Lent {
+                regions: lent.regions / NUMBER,
+                sources: lent.sources / NUMBER,
+                inputs: lent.inputs / NUMBER,
+                stack: lent.stack / NUMBER,
+                ..Lent::default()
+            };
+            refusals::liveness(rules, &lists[0], &lists[1], &lists[2], &lent)
         })
 }

@@ -8,6 +8,7 @@ pub mod bytes;
 pub mod damage;
 mod draft;
 pub mod exhaustive;
+pub mod lamps;
 pub mod lent;
 pub mod limits;
 pub mod members;

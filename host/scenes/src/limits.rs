@@ -26,6 +26,11 @@ pub const SET_WORDS: usize = 16;
 pub const SOURCES_EACH: usize = 2;
 pub const INPUTS_EACH: usize = 4;
 
+/// The greatest rules number; the least is 1.
+pub const LAST_RULES: i64 = 2;
+/// The rules by which the unchanged Rust marks.
+pub const RULES_OF_THE_RUST: i64 = 1;
+
 pub const LAST_ID: i64 = 4_294_967_295;
 pub const FAR: i64 = 30_000_000;
 pub const LAST_KIND: i64 = 12;

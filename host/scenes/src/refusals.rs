@@ -1,16 +1,17 @@
 //! The refusal table, restated plainly from the scope paper.
 //!
-//! Each entry lists its checks by rising number; the first that finds a fault
-//! gives the answer. Within one number the lists are looked at in the order
+//! Each entry lists its checks by rising number, but for 11, which comes before
+//! all else; the first that finds a fault gives the answer. Within one number the lists are looked at in the order
 //! components, connections, frontiers, and a list from its first record on.
 
 use std::collections::BTreeSet;
 
+use crate::Lent;
 use crate::limits::{
     COMPONENT, COMPONENT_RANGES, COMPONENTS, CONNECTION, CONNECTION_RANGES, CONNECTIONS,
     DROPPED_ROW, FRONTIER, FRONTIER_RANGES, FRONTIERS, INPUT_ROW, INPUTS_EACH, KEPT_ROW,
-    PORT_CONNECTION, PORT_CONNECTION_RANGES, Range, SET_WORDS, SOURCE_ROW, SOURCES_EACH,
-    STACK_PAIR, SUPPORT,
+    LAST_RULES, PORT_CONNECTION, PORT_CONNECTION_RANGES, Range, SET_WORDS, SOURCE_ROW,
+    SOURCES_EACH, STACK_PAIR, SUPPORT,
 };
 
 /// A refusal: its number, the list it concerns and the item in that list.
@@ -32,6 +33,13 @@ const fn refusal(number: u64, list: u64, item: usize) -> Refusal {
         list,
         item: item as u64,
     }
+}
+
+/// 11: a rules number other than those that are known.
+#[must_use]
+pub fn unknown_rules(rules: i64) -> Option<Refusal> {
+    let known = 1..=LAST_RULES;
+    (!known.contains(&rules)).then(|| refusal(11, NO_LIST, 0))
 }
 
 /// 1: over the limit, or not whole records.
@@ -143,16 +151,18 @@ fn frontiers_range(frontiers: &[i64]) -> Option<Refusal> {
     out_of_range(FRONTIER_LIST, frontiers, &FRONTIER_RANGES)
 }
 
-/// The grouping entry: 1 to 6.
+/// The grouping entry: 11, 1 to 6.
 #[must_use]
 pub fn grouping(
+    rules: i64,
     components: &[i64],
     connections: &[i64],
     nets_len: usize,
     fragments_len: usize,
 ) -> Option<Refusal> {
     let n = components.len() / COMPONENT;
-    components_not_a_list(components)
+    unknown_rules(rules)
+        .or_else(|| components_not_a_list(components))
         .or_else(|| connections_not_a_list(connections))
         .or_else(|| too_short(&[(nets_len, 1, n), (fragments_len, 1, n)]))
         .or_else(|| components_range(components))
@@ -162,11 +172,17 @@ pub fn grouping(
         .or_else(|| connections_unordered(connections))
 }
 
-/// The ports entry: 1 to 6.
+/// The ports entry: 11, 1 to 6.
 #[must_use]
-pub fn ports(components: &[i64], connections: &[i64], out_len: usize) -> Option<Refusal> {
+pub fn ports(
+    rules: i64,
+    components: &[i64],
+    connections: &[i64],
+    out_len: usize,
+) -> Option<Refusal> {
     let m = connections.len() / CONNECTION;
-    components_not_a_list(components)
+    unknown_rules(rules)
+        .or_else(|| components_not_a_list(components))
         .or_else(|| connections_not_a_list(connections))
         .or_else(|| too_short(&[(out_len, KEPT_ROW, m)]))
         .or_else(|| components_range(components))
@@ -176,14 +192,16 @@ pub fn ports(components: &[i64], connections: &[i64], out_len: usize) -> Option<
         .or_else(|| connections_unordered(connections))
 }
 
-/// 1 to 5 and 7 over the three lists of the liveness entries.
+/// 11, 1 to 5 and 7 over the three lists of the liveness entries.
 fn analysed(
+    rules: i64,
     components: &[i64],
     ports: &[i64],
     frontiers: &[i64],
     slices: &[(usize, usize, usize)],
 ) -> Option<Refusal> {
-    components_not_a_list(components)
+    unknown_rules(rules)
+        .or_else(|| components_not_a_list(components))
         .or_else(|| ports_not_a_list(ports))
         .or_else(|| frontiers_not_a_list(frontiers))
         .or_else(|| too_short(slices))
@@ -195,37 +213,35 @@ fn analysed(
         .or_else(|| end_missing(components, ports))
 }
 
-/// The liveness entry: 1 to 5 and 7.
+/// The liveness entry: 11, 1 to 5 and 7. Regions, sources, inputs and the stack
+/// are lent.
 #[must_use]
 pub fn liveness(
+    rules: i64,
     components: &[i64],
     ports: &[i64],
     frontiers: &[i64],
-    regions_len: usize,
-    sources_len: usize,
-    inputs_len: usize,
-    stack_len: usize,
+    lent: &Lent,
 ) -> Option<Refusal> {
     let n = components.len() / COMPONENT;
     let slices = [
-        (regions_len, 1, n),
-        (sources_len, SOURCE_ROW, n * SOURCES_EACH),
-        (inputs_len, INPUT_ROW, n * INPUTS_EACH),
-        (stack_len, STACK_PAIR, n),
+        (lent.regions, 1, n),
+        (lent.sources, SOURCE_ROW, n * SOURCES_EACH),
+        (lent.inputs, INPUT_ROW, n * INPUTS_EACH),
+        (lent.stack, STACK_PAIR, n),
     ];
-    analysed(components, ports, frontiers, &slices)
+    analysed(rules, components, ports, frontiers, &slices)
 }
 
-/// The one pass over the regions: 1 to 5 and 7. Its sets have sixteen words each.
+/// The one pass over the regions: 11, 1 to 5 and 7. Given are the lengths of the
+/// regions, of both sets, which have sixteen words each, and of the stack.
 #[must_use]
 pub fn light(
+    rules: i64,
     components: &[i64],
     ports: &[i64],
     frontiers: &[i64],
-    regions_len: usize,
-    lit_len: usize,
-    driven_len: usize,
-    stack_len: usize,
+    [regions_len, lit_len, driven_len, stack_len]: [usize; 4],
 ) -> Option<Refusal> {
     let n = components.len() / COMPONENT;
     let slices = [
@@ -234,24 +250,32 @@ pub fn light(
         (driven_len, SET_WORDS, 1),
         (stack_len, STACK_PAIR, n),
     ];
-    analysed(components, ports, frontiers, &slices)
+    analysed(rules, components, ports, frontiers, &slices)
 }
 
-/// The input query without its own number 8: 1 to 5 and 7.
+/// The input query without its own number 8: 11, 1 to 5 and 7.
 #[must_use]
 pub fn query(
+    rules: i64,
     components: &[i64],
     ports: &[i64],
     frontiers: &[i64],
     stack_len: usize,
 ) -> Option<Refusal> {
     let n = components.len() / COMPONENT;
-    analysed(components, ports, frontiers, &[(stack_len, STACK_PAIR, n)])
+    analysed(
+        rules,
+        components,
+        ports,
+        frontiers,
+        &[(stack_len, STACK_PAIR, n)],
+    )
 }
 
-/// The clearing tool: 1 to 5, since it mends 7.
+/// The clearing tool: 11, 1 to 5, since it mends 7.
 #[must_use]
 pub fn clearing(
+    rules: i64,
     components: &[i64],
     ports: &[i64],
     frontiers: &[i64],
@@ -263,13 +287,19 @@ pub fn clearing(
         (kept_len, PORT_CONNECTION, m),
         (dropped_len, DROPPED_ROW, m),
     ];
-    analysed(components, ports, frontiers, &slices).filter(|it| it.number != 7)
+    analysed(rules, components, ports, frontiers, &slices).filter(|it| it.number != 7)
 }
 
-/// The list checks of a sheet: 3 to 6, on whole lists within their limits.
+/// The list checks of a sheet: 11, 3 to 6, on whole lists within their limits.
 #[must_use]
-pub fn sheet_lists(components: &[i64], connections: &[i64], frontiers: &[i64]) -> Option<Refusal> {
-    components_range(components)
+pub fn sheet_lists(
+    rules: i64,
+    components: &[i64],
+    connections: &[i64],
+    frontiers: &[i64],
+) -> Option<Refusal> {
+    unknown_rules(rules)
+        .or_else(|| components_range(components))
         .or_else(|| connections_range(connections))
         .or_else(|| frontiers_range(frontiers))
         .or_else(|| components_unordered(components))

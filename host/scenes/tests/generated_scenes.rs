@@ -1,25 +1,26 @@
 //! Every generated scene is valid, and the profiles reach what they promise.
 
-use scenes::limits::{COMPONENT, COMPONENTS, CONNECTION, CONNECTIONS, FRONTIER, FRONTIERS};
-use scenes::{Lent, Profile, Scene, exhaustive, refusals};
+use scenes::limits::{
+    COMPONENT, COMPONENTS, CONNECTION, CONNECTIONS, FRONTIER, FRONTIERS, LAST_RULES,
+};
+use scenes::{Lent, Profile, Scene, exhaustive, lamps, refusals};
 
 fn assert_valid(scene: &Scene, name: &str, seed: u64) {
     let lent = Lent::enough(scene);
+    let Scene {
+        components,
+        connections,
+        ports,
+        frontiers,
+    } = scene;
     let grouping = refusals::grouping(
-        &scene.components,
-        &scene.connections,
+        LAST_RULES,
+        components,
+        connections,
         lent.nets,
         lent.fragments,
     );
-    let liveness = refusals::liveness(
-        &scene.components,
-        &scene.ports,
-        &scene.frontiers,
-        lent.regions,
-        lent.sources,
-        lent.inputs,
-        lent.stack,
-    );
+    let liveness = refusals::liveness(LAST_RULES, components, ports, frontiers, &lent);
     assert!(
         grouping.is_none() && liveness.is_none(),
         "{name} seed {seed}: {grouping:?} {liveness:?}{scene}"
@@ -60,6 +61,30 @@ fn tiny_scenes_are_valid_and_different() {
     }
     println!("{count} tiny scenes");
     assert_eq!(count, 93_536);
+}
+
+#[test]
+fn plots_with_lamps_are_valid_and_different() {
+    let (mut count, mut last) = (0, None);
+    for scene in lamps::plots() {
+        assert_valid(&scene, "plot with lamps", count);
+        assert_ne!(last.as_ref(), Some(&scene));
+        last = Some(scene);
+        count += 1;
+    }
+    println!("{count} small plots with lamps");
+    assert_eq!(count, 1 + 10 + 2 * 400 + 3 * 64_000);
+    let mut with = 0_u64;
+    for seed in 0..20_000 {
+        let scene = lamps::scene(seed);
+        assert_valid(&scene, "drawn plot with lamps", seed);
+        with += u64::from(lamps::holds_a_lamp(&scene));
+        let without = lamps::with_lamps_as(lamps::AIR, &scene);
+        assert!(!lamps::holds_a_lamp(&without));
+        assert_valid(&without, "drawn plot without lamps", seed);
+    }
+    println!("{with} of 20000 drawn plots hold a lamp");
+    assert!(with > 14_000);
 }
 
 #[test]

@@ -1,7 +1,14 @@
 //! The restatement on cases worked out by hand from the scope paper.
 
-use scenes::refusals::{components_alone, grouping, liveness, ports, query, sheet_lists};
+use scenes::bytes::{self, LivenessLent};
+use scenes::limits::LAST_RULES;
+use scenes::refusals::{
+    clearing, components_alone, grouping, light, liveness, ports, query, sheet_lists,
+};
 use scenes::{Lent, Refusal, Scene};
+
+/// Rules that are known; no other refusal depends on them.
+const RULES: i64 = 1;
 
 /// A wire at x with an id.
 const fn wire(id: i64, x: i64) -> [i64; 8] {
@@ -17,23 +24,49 @@ fn given(refusal: Option<Refusal>) -> Option<(u64, u64, u64)> {
 }
 
 fn group(components: &[i64], connections: &[i64]) -> Option<(u64, u64, u64)> {
-    given(grouping(components, connections, 5_000, 5_000))
+    given(grouping(RULES, components, connections, 5_000, 5_000))
 }
 
 fn live(components: &[i64], ports: &[i64], frontiers: &[i64]) -> Option<(u64, u64, u64)> {
-    let long = 50_000;
-    given(liveness(
-        components, ports, frontiers, long, long, long, long,
-    ))
+    let long = Lent::all(50_000);
+    given(liveness(RULES, components, ports, frontiers, &long))
 }
 
 #[test]
 fn nothing_is_accepted() {
-    assert_eq!(given(grouping(&[], &[], 0, 0)), None);
-    assert_eq!(given(ports(&[], &[], 0)), None);
-    assert_eq!(given(liveness(&[], &[], &[], 0, 0, 0, 0)), None);
-    assert_eq!(given(query(&[], &[], &[], 0)), None);
-    assert_eq!(given(sheet_lists(&[], &[], &[])), None);
+    for rules in 1..=LAST_RULES {
+        let none = Lent::default();
+        assert_eq!(given(grouping(rules, &[], &[], 0, 0)), None);
+        assert_eq!(given(ports(rules, &[], &[], 0)), None);
+        assert_eq!(given(liveness(rules, &[], &[], &[], &none)), None);
+        assert_eq!(given(query(rules, &[], &[], &[], 0)), None);
+        assert_eq!(given(sheet_lists(rules, &[], &[], &[])), None);
+    }
+}
+
+/// 11 whatever the lists: over their limits, of broken records, with fields out
+/// of range.
+#[test]
+fn unknown_rules_come_before_all_else() {
+    let long = vec![-1; 8 * 1_025 + 1];
+    let none = Lent::default();
+    for rules in [i64::MIN, -1, 0, 3, 257, (1 << 32) + 1, i64::MAX] {
+        for list in [&[][..], &[7], &long] {
+            let all = [
+                grouping(rules, list, list, 0, 0),
+                ports(rules, list, list, 0),
+                liveness(rules, list, list, list, &none),
+                light(rules, list, list, list, [0; 4]),
+                query(rules, list, list, list, 0),
+                clearing(rules, list, list, list, 0, 0),
+                sheet_lists(rules, list, list, list),
+                bytes::grouping(rules, &[1], &[1], 0, 0),
+                bytes::liveness(rules, &[1], &[1], &[1], &LivenessLent::default()),
+            ];
+            assert_eq!(all.map(given), [Some((11, 3, 0)); 9], "{rules}");
+        }
+    }
+    assert_eq!(given(grouping(1, &[7], &[], 0, 0)), Some((1, 0, 0)));
 }
 
 #[test]
@@ -107,7 +140,7 @@ fn grouping_connections_ascend_strictly_and_may_lack_their_ends() {
     assert_eq!(group(&wires(1), &[5, 6, 1, 5, 6, 0]), Some((6, 1, 1)));
     assert_eq!(group(&wires(1), &[5, 6, 0, 5, 6, 1]), None);
     assert_eq!(
-        given(sheet_lists(&wires(1), &[1, 0, 0, 0, 9, 9], &[])),
+        given(sheet_lists(RULES, &wires(1), &[1, 0, 0, 0, 9, 9], &[])),
         Some((6, 1, 1))
     );
 }
@@ -123,7 +156,7 @@ fn a_port_connection_needs_its_ends_unless_it_is_support() {
     assert_eq!(live(&wires(2), &[8, 0, 9, 0, 6], &[]), None);
     assert_eq!(live(&wires(2), &[8, 256, 9, 0, 6], &[]), Some((3, 1, 0)));
     assert_eq!(
-        given(query(&wires(2), &[2, 0, 0, 0, 5], &[], 4)),
+        given(query(RULES, &wires(2), &[2, 0, 0, 0, 5], &[], 4)),
         Some((7, 1, 0))
     );
 }
@@ -141,25 +174,23 @@ fn slices_are_measured_in_whole_places_by_the_worst_case() {
         (3, 12, 12, 36, 6)
     );
     let refused = |sources, inputs, stack| {
-        given(liveness(
-            &scene.components,
-            &[],
-            &[],
-            3,
+        let lent = Lent {
             sources,
             inputs,
             stack,
-        ))
+            ..lent
+        };
+        given(liveness(RULES, &scene.components, &[], &[], &lent))
     };
     assert_eq!(refused(12, 36, 6), None);
     assert_eq!(refused(11, 36, 6), Some((2, 3, 0)));
     assert_eq!(refused(12, 35, 6), Some((2, 3, 0)));
     assert_eq!(refused(13, 37, 5), Some((2, 3, 0)));
-    let to_ports = |length| given(ports(&scene.components, &scene.connections, length));
+    let to_ports = |length| given(ports(RULES, &scene.components, &scene.connections, length));
     assert_eq!(to_ports(12), None);
     assert_eq!(to_ports(11), Some((2, 3, 0)));
     assert_eq!(
-        given(grouping(&scene.components, &[], 3, 2)),
+        given(grouping(RULES, &scene.components, &[], 3, 2)),
         Some((2, 3, 0))
     );
 }
@@ -167,7 +198,7 @@ fn slices_are_measured_in_whole_places_by_the_worst_case() {
 #[test]
 fn a_list_over_its_limit_never_asks_for_room() {
     assert_eq!(
-        given(grouping(&wires(1_025), &[], 0, 0)),
+        given(grouping(RULES, &wires(1_025), &[], 0, 0)),
         Some((1, 0, 1_024))
     );
 }
@@ -175,8 +206,8 @@ fn a_list_over_its_limit_never_asks_for_room() {
 #[test]
 fn a_short_slice_comes_before_a_range() {
     let bad = [-1, 0, 0, 0, 0, 0, 0, 0];
-    assert_eq!(given(grouping(&bad, &[], 0, 1)), Some((2, 3, 0)));
-    assert_eq!(given(grouping(&bad, &[], 1, 1)), Some((3, 0, 0)));
+    assert_eq!(given(grouping(RULES, &bad, &[], 0, 1)), Some((2, 3, 0)));
+    assert_eq!(given(grouping(RULES, &bad, &[], 1, 1)), Some((3, 0, 0)));
 }
 
 #[test]

@@ -4,6 +4,7 @@
 use std::collections::BTreeSet;
 
 use scenes::Scene;
+use scenes::limits::LAST_RULES;
 use scenes::random::Random;
 use scenes::refusals::sheet_lists;
 use scenes::sheets::edits::{Edit, drawn, of_bytes, of_counts, of_lines};
@@ -120,7 +121,7 @@ fn dense_scenes_are_valid_and_within_the_limits_of_the_program() {
         for digits in [0, 1, 7, MOST_DIGITS] {
             let scene = dense_scene(connections, digits);
             let (components, frontiers) = (&scene.components, &scene.frontiers);
-            let refusal = sheet_lists(components, &scene.connections, frontiers);
+            let refusal = sheet_lists(LAST_RULES, components, &scene.connections, frontiers);
             assert_eq!(refusal, None, "{connections} {digits}");
             assert_eq!(within(Limits::PROGRAM, &scene), scene);
             assert_eq!(scene.components.len(), 8 * 256);

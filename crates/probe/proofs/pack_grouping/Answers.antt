@@ -10,4 +10,4 @@ use Rattle.probe.proofs.pack_grouping.Goals as goal
 pub pack-requires : goal.pack-requires
 pack-requires c =
     subst (λ (x : Result ⊤ Refusal). Small x) (sym c.grouping_lists.ensures.answer)
-    (grouping_small c.args.components.now c.args.connections.now c.args.frontiers.now c.args.enough)
+    (grouping_small c.args.rules c.args.components.now c.args.connections.now c.args.frontiers.now c.args.enough)

@@ -10,4 +10,4 @@ use Rattle.probe.proofs.pack_liveness.Goals as goal
 pub pack-requires : goal.pack-requires
 pack-requires c =
     subst (λ (x : Result ⊤ Refusal). Small x) (sym c.liveness_lists.ensures.lists.answer)
-    (liveness_small c.args.components.now c.args.ports.now c.args.frontiers.now c.args.enough)
+    (liveness_small c.args.rules c.args.components.now c.args.ports.now c.args.frontiers.now c.args.enough)

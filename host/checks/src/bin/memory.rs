@@ -9,7 +9,7 @@ use checks::{ByteLists, LivenessLists};
 use dustroute::bytes::{self, Lent};
 use probe::ports::port_connections;
 use probe::query::{Asked, input_refusal};
-use scenes::limits::COMPONENT;
+use scenes::limits::{COMPONENT, LAST_RULES};
 use scenes::{Profile, Scene};
 
 /// A slice of its own on the heap.
@@ -28,6 +28,7 @@ fn grouped(scene: &Scene) -> bool {
     let mut nets = room(lists.nets, 0xa5);
     let mut fragments = room(lists.fragments, 0xa5);
     is_accepted(bytes::groups(
+        LAST_RULES,
         &components,
         &connections,
         &mut nets,
@@ -41,6 +42,7 @@ fn analyzed(scene: &Scene) -> bool {
         [lists.components, lists.ports, lists.frontiers].map(Vec::into_boxed_slice);
     let lent = lists.lent;
     is_accepted(bytes::liveness(
+        LAST_RULES,
         &components,
         &ports,
         &frontiers,
@@ -56,7 +58,7 @@ fn analyzed(scene: &Scene) -> bool {
 
 fn connected(scene: &Scene) -> bool {
     let mut out = room(scenes::Lent::enough(scene).ports, -1);
-    port_connections(&scene.components, &scene.connections, &mut out).is_ok()
+    port_connections(LAST_RULES, &scene.components, &scene.connections, &mut out).is_ok()
 }
 
 /// The query at the second port of the last component, which may have no row.
@@ -64,6 +66,7 @@ fn asked(scene: &Scene) -> bool {
     let mut stack = room(scenes::Lent::enough(scene).stack, usize::MAX);
     let last = scene.components.rchunks_exact(COMPONENT).next();
     let asked = Asked {
+        rules: LAST_RULES,
         components: &scene.components,
         ports: &scene.ports,
         frontiers: &scene.frontiers,

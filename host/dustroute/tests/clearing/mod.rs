@@ -4,7 +4,7 @@ use std::collections::BTreeSet;
 
 use crate::typed::Lists;
 use dustroute::bytes::{self, Lent, NUMBER, SETS, WORDS};
-use dustroute::{Cleared, Dropped, Missing, Refusal, clear};
+use dustroute::{Cleared, Dropped, Missing, Refusal, Rules, clear};
 use scenes::limits::{
     COMPONENT, DROPPED_ROW, INPUT_ROW, INPUTS_EACH, PORT_CONNECTION, SOURCE_ROW, SOURCES_EACH,
     STACK_PAIR, SUPPORT,
@@ -14,6 +14,7 @@ use scenes::{Scene, refusals};
 mod raw {
     unsafe extern "C" {
         pub fn dustroute_clear(
+            rules: i64,
             components: *const i64,
             components_len: usize,
             ports: *const i64,
@@ -28,7 +29,7 @@ mod raw {
     }
 }
 
-fn call(scene: &Scene, kept: &mut [i64], dropped: &mut [u64]) -> u64 {
+fn call(rules: Rules, scene: &Scene, kept: &mut [i64], dropped: &mut [u64]) -> u64 {
     let Scene {
         components,
         ports,
@@ -39,6 +40,7 @@ fn call(scene: &Scene, kept: &mut [i64], dropped: &mut [u64]) -> u64 {
     // callee only reads the first three, and the borrows keep the others apart.
     unsafe {
         raw::dustroute_clear(
+            rules.number(),
             components.as_ptr(),
             components.len(),
             ports.as_ptr(),
@@ -72,7 +74,13 @@ fn restated(scene: &Scene) -> (Vec<i64>, Vec<u64>) {
 }
 
 /// The answer of the liveness entry, its slices just long enough.
-fn analyzed(components: &[i64], ports: &[i64], frontiers: &[i64]) -> u64 {
+fn analyzed(rules: Rules, scene: &Scene) -> u64 {
+    let Scene {
+        components,
+        ports,
+        frontiers,
+        ..
+    } = scene;
     let n = components.len() / COMPONENT;
     let room = |places: usize| vec![0; places * NUMBER];
     let lent = Lent {
@@ -82,8 +90,9 @@ fn analyzed(components: &[i64], ports: &[i64], frontiers: &[i64]) -> u64 {
         sets: &mut room(SETS * WORDS),
         stack: &mut room(n * STACK_PAIR),
     };
-    let [components, ports, frontiers] = [components, ports, frontiers].map(scenes::bytes::of);
-    bytes::liveness(&components, &ports, &frontiers, lent)
+    let [components, ports, frontiers] =
+        [components, ports, frontiers].map(|list| scenes::bytes::of(list));
+    bytes::liveness(rules.number(), &components, &ports, &frontiers, lent)
 }
 
 const fn packed(refusal: refusals::Refusal) -> u64 {
@@ -138,6 +147,11 @@ pub struct Asked {
 }
 
 impl Asked {
+    /// The rules go round, and nothing depends on them.
+    fn rules(&self) -> Rules {
+        Rules::ALL[(self.calls % 2) as usize]
+    }
+
     /// A call with dirty slices in a margin: the answer, both slices at exit,
     /// and all that is no row as it was. None for a refusal.
     pub fn hold(&mut self, scene: &Scene, room: Room, case: &dyn Fn() -> String) -> Option<Scene> {
@@ -147,18 +161,20 @@ impl Asked {
         let mut dropped_slice: Vec<u64> = dirt(dropped + MARGIN, self.calls + 5).collect();
         let (mut kept_wanted, mut dropped_wanted) = (kept_slice.clone(), dropped_slice.clone());
         let answer = call(
+            self.rules(),
             scene,
             &mut kept_slice[..kept],
             &mut dropped_slice[..dropped],
         );
-        self.calls += 1;
         let Scene {
             components,
             ports,
             frontiers,
             ..
         } = scene;
-        let refusal = refusals::clearing(components, ports, frontiers, kept, dropped);
+        let rules = self.rules().number();
+        let refusal = refusals::clearing(rules, components, ports, frontiers, kept, dropped);
+        self.calls += 1;
         let cleared = match refusal {
             Some(refusal) => {
                 assert_eq!(answer, packed(refusal), "{}: {scene}", case());
@@ -197,8 +213,9 @@ impl Asked {
     /// kept, and where it refuses the given list with 7 its item is the first
     /// that was dropped.
     pub fn hold_all(&mut self, scene: &Scene, case: &dyn Fn() -> String) {
+        let rules = self.rules();
         let cleared = self.hold(scene, Room::enough(scene), case);
-        let given = analyzed(&scene.components, &scene.ports, &scene.frontiers);
+        let given = analyzed(rules, scene);
         let refused = Refusal::of(given);
         self.analyses += 1;
         let Some(cleared) = cleared else {
@@ -207,7 +224,7 @@ impl Asked {
         };
         let again = self.hold(&cleared, Room::enough(&cleared), case);
         assert_eq!(again.map(|it| it.ports).as_ref(), Some(&cleared.ports));
-        let taken = analyzed(&cleared.components, &cleared.ports, &cleared.frontiers);
+        let taken = analyzed(rules, &cleared);
         self.analyses += 1;
         assert_eq!(Refusal::of(taken), None, "{}: {scene}", case());
         let (_, items) = restated(scene);
@@ -241,7 +258,12 @@ impl Asked {
             kept: kept.ports,
             dropped: dropped.collect(),
         };
-        let found = clear(&lists.components, &lists.ports, &lists.frontiers);
+        let found = clear(
+            self.rules(),
+            &lists.components,
+            &lists.ports,
+            &lists.frontiers,
+        );
         self.calls += 1;
         assert_eq!(found, Ok(wanted), "{}: {scene}", case());
     }

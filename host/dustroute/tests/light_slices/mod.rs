@@ -1,6 +1,6 @@
 //! The call of `light` itself, with slices of any length, dirty before it.
 
-use dustroute::{Lighting, light};
+use dustroute::{Lighting, Rules, light};
 use scenes::damage::{garbage, single};
 use scenes::limits::{COMPONENT, SET_WORDS, STACK_PAIR};
 use scenes::random::Random;
@@ -11,6 +11,7 @@ use crate::typed::Lists;
 mod raw {
     unsafe extern "C" {
         pub fn dustroute_light(
+            rules: i64,
             components: *const i64,
             components_len: usize,
             ports: *const i64,
@@ -28,6 +29,9 @@ mod raw {
         ) -> u64;
     }
 }
+
+/// Nothing depends on them.
+const RULES: Rules = Rules::Two;
 
 /// Lengths of the slices that are lent.
 #[derive(Clone, Copy, Debug)]
@@ -85,6 +89,7 @@ fn call(scene: &Scene, lengths: Lengths, filling: u64) -> Left {
     // SAFETY: each pointer is to a whole vector of the length beside it.
     let answer = unsafe {
         raw::dustroute_light(
+            RULES.number(),
             scene.components.as_ptr(),
             scene.components.len(),
             scene.ports.as_ptr(),
@@ -144,7 +149,7 @@ fn lit_of(scene: &Scene) -> Option<Lighting> {
         connections: Vec::new(),
         ..scene.clone()
     })?;
-    light(&lists.components, &lists.ports, &lists.frontiers).ok()
+    light(RULES, &lists.components, &lists.ports, &lists.frontiers).ok()
 }
 
 /// Calls that were accepted, and refusals by their number.
@@ -156,14 +161,18 @@ struct Called {
 
 impl Called {
     fn hold(&mut self, scene: &Scene, lengths: Lengths, lighting: Option<&Lighting>, filling: u64) {
+        let Lengths {
+            regions,
+            lit,
+            driven,
+            stack,
+        } = lengths;
         let refusal = refusals::light(
+            RULES.number(),
             &scene.components,
             &scene.ports,
             &scene.frontiers,
-            lengths.regions,
-            lengths.lit,
-            lengths.driven,
-            lengths.stack,
+            [regions, lit, driven, stack],
         );
         let left = call(scene, lengths, filling);
         let case = || format!("{lengths:?}, {filling:x} of {scene}");

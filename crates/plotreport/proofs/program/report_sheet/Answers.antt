@@ -3,7 +3,7 @@
 use Rattle.std.specs.Prelude.{⊤, Result}
 use Rattle.lists.specs.declared.Refusal.{Refusal}
 use mathlib.Core.Path.{sym, subst, ◌∙◌}
-use Rattle.sheet.specs.Entry.{components_of, connections_of, frontiers_of}
+use Rattle.sheet.specs.Entry.{rules_of, components_of, connections_of, frontiers_of}
 use Rattle.report.specs.Report.{report_of}
 use Rattle.sheet.specs.Written.{PrintedBy}
 use Rattle.plotreport.specs.Program.{parsed_by}
@@ -19,7 +19,7 @@ returns c =
     let p = parsed_by a.text.now in
     let report = c.report in
     record {
-      by = subst (λ (checks : Result ⊤ Refusal). PrintedBy checks (report_of (components_of p) (connections_of p) (frontiers_of p)) a.out.now report.new.out report.result)
+      by = subst (λ (checks : Result ⊤ Refusal). PrintedBy checks (report_of (rules_of p) (components_of p) (connections_of p) (frontiers_of p)) a.out.now report.new.out report.result)
           (sym (short_sheet a.text.now c.if-text-gt-BYTES.false)) report.ensures.printed;
       demand = λ e. report.ensures.demand (sym (short_sheet a.text.now c.if-text-gt-BYTES.false) ∙ e);
     }

@@ -13,9 +13,10 @@ use Rattle.lists.specs.Ids.{IdTable}
 use Rattle.lists.specs.Slices.{laid}
 use Rattle.lists.proofs.Table.{table_long}
 use Rattle.scene.specs.Kept.{sloped_rows}
+use Rattle.assessment.specs.Rows.{Scanned}
 use Rattle.liveness.specs.Scene.{Scene}
 use Rattle.liveness.specs.declared.Analysis.{Analysis}
-use Rattle.report.specs.Report.{all_rows}
+use Rattle.report.specs.Report.{all_rows, unread_ids}
 use Rattle.report.specs.Printing.{component_row_by, region_row_by, Analyzed}
 use Rattle.sheet.specs.Written.{fits, PrintedBy}
 use Rattle.sheet.proofs.Fronts.{front_is}
@@ -27,23 +28,23 @@ use Rattle.report.proofs.print.print_analysis.Goals as goal
 components_inside : {cs ps : List ℤ} {keys : List ℕ} (rows : List ℕ) → Scene cs ps → IdTable cs keys → length rows ≡ 6 * component_limit → 6 * length keys ≤ length rows
 components_inside rows scene table long = omega (arith, table_long table, scene.components.few, long)
 
-regions_fit : {cs kept fs : List ℤ} {regions sources inputs : List ℕ} {r : Analysis}
-    → Analyzed cs kept fs regions sources inputs r → Scene cs kept → 2 * r.regions ≤ 2 * component_limit
+regions_fit : {rules : ℕ} {cs kept fs : List ℤ} {regions sources inputs : List ℕ} {r : Analysis}
+    → Analyzed rules cs kept fs regions sources inputs r → Scene cs kept → 2 * r.regions ≤ 2 * component_limit
 regions_fit a scene = omega (arith, regions_few a scene, scene.components.few)
 
-regions_inside : {cs kept fs : List ℤ} {regions sources inputs : List ℕ} {r : Analysis} (rows : List ℕ)
-    → Analyzed cs kept fs regions sources inputs r → Scene cs kept → length rows ≡ 2 * component_limit → 2 * r.regions ≤ length rows
+regions_inside : {rules : ℕ} {cs kept fs : List ℤ} {regions sources inputs : List ℕ} {r : Analysis} (rows : List ℕ)
+    → Analyzed rules cs kept fs regions sources inputs r → Scene cs kept → length rows ≡ 2 * component_limit → 2 * r.regions ≤ length rows
 regions_inside rows a scene long = omega (arith, regions_fit a scene, long)
 
 pub fill_components-requires-clause-components_in_bounds : goal.fill_components-requires-clause-components_in_bounds
 fill_components-requires-clause-components_in_bounds c =
-    let g = c.requires.gathered.1 in rw c.component_list.ensures (nets_long g, (fragments_long g, regions_long c.requires.analyzed.1.1))
+    let g = c.requires.gathered.1 in rw c.component_list-listed.ensures (nets_long g, (fragments_long g, regions_long c.requires.analyzed.1.1))
 
 pub fill_connections-requires : goal.fill_connections-requires
 fill_connections-requires c =
     let g = c.requires.gathered in
     record {
-      cut = (sloped_rows c.args.asked.now.components.now g.0, g.1.sloped);
+      cut = (sloped_rows c.args.asked.now.rules c.args.asked.now.components.now g.0, g.1.sloped);
       rows_in_bounds = omega (arith, slopes_few g.1 c.requires.analyzed.1.0.fed_scene.scene);
     }
 
@@ -87,19 +88,24 @@ regions_are : (cyclic drive : List ℕ) (n : ℕ) (old : List ℕ) {rows : List 
     → take (2 * n) rows ≡ all_rows (region_row_by cyclic drive) n
 regions_are cyclic drive n old e = front_is (all_rows (region_row_by cyclic drive) n) old e (2 * n) (sym (region_pairs cyclic drive n))
 
+ids_are : (rules : ℕ) (cs : List ℤ) {old rows : List ℕ} {n : ℕ} → Scanned (unread_ids rules cs (component_count cs)) 1 old rows n
+    → take n rows ≡ unread_ids rules cs (component_count cs)
+ids_are rules cs {old} {rows} {n} s = front_is (unread_ids rules cs (component_count cs)) old s.is n (omega (arith, s.count))
+
 pub returns : goal.returns
 returns c ps fs groups ready found =
     let called = c.print_rows in
     let a = c.args in
     let cs = a.asked.now.components.now in
-    let rows = sloped_rows cs ps in
+    let rows = sloped_rows a.asked.now.rules cs ps in
     let f = a.found in
     let many = table_long a.asked.now.table in
     let components-are = components_are cs a.groups.now.nets.now a.groups.now.fragments.now a.rows.now.regions.now f.drive.words f.potential.words _ _ many
-    (rw c.component_list.ensures at c.fill_components.ensures) in
+    (rw c.component_list-listed.ensures at c.fill_components.ensures) in
     let connections-are : take (6 * length a.groups.now.slopes.now) c.fill_connections.new.rows ≡ rows =
     front_is rows _ (c.fill_connections.ensures rows groups.sloped) _ (omega (arith, groups.sloped.long)) in
+    let ids-are = ids_are a.asked.now.rules cs (rw c.component_list-listed.ensures at c.fill_unread-blank.ensures) in
     let regions-are = regions_are f.cyclic.words f.has_drive.words f.regions _ c.fill_regions.ensures in
     subst (λ (t : List ℕ). PrintedBy (fits t (length a.out.now)) t a.out.now called.new.out called.result)
-    (assembled cs ps fs ready.fed_scene.scene.distinct groups found components-are connections-are regions-are)
+    (assembled a.asked.now.rules cs ps fs ready.fed_scene.scene.distinct groups found components-are connections-are regions-are ids-are)
     (called.ensures a.ports.now fs ready)

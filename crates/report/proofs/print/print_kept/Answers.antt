@@ -18,9 +18,9 @@ use Rattle.sheet.proofs.Fronts.{front_long}
 use Rattle.report.proofs.Scenes.{kept_scene, analyzed}
 use Rattle.report.proofs.print.print_kept.Goals as goal
 
-scene_of : {cs ps kept fs : List ℤ} {keys nets fragments slopes : List ℕ}
-    → Accepts cs ps fs keys → Gathered cs ps kept nets fragments slopes → Scene cs kept
-scene_of {cs} {ps} {fs = fs} a g = subst (Scene cs) (sym g.kept_are) (kept_scene a.rules cs ps fs a.accepted)
+scene_of : {rules : ℕ} {cs ps kept fs : List ℤ} {keys nets fragments slopes : List ℕ}
+    → Accepts rules cs ps fs keys → Gathered rules cs ps kept nets fragments slopes → Scene cs kept
+scene_of {rules} {cs} {ps} {fs = fs} a g = subst (Scene cs) (sym g.kept_are) (kept_scene rules cs ps fs a.accepted)
 
 pub invariant_of-linked : goal.invariant_of-linked
 invariant_of-linked c = record { within = (scene_of c.requires.1.0 c.requires.1.1).connections }
@@ -41,13 +41,13 @@ invariant_of-plot c =
       };
     }
 
-module _ {cs ps fs : List ℤ} {regions regions' sources sources' inputs inputs' stack stack' : List ℕ} {r : Analysis}
-    (a : AnalyzedBy (Ok tt) cs ps fs regions regions' sources sources' inputs inputs' stack stack' (Ok r)) where
+module _ {rules : ℕ} {cs ps fs : List ℤ} {regions regions' sources sources' inputs inputs' stack stack' : List ℕ} {r : Analysis}
+    (a : AnalyzedBy (Ok tt) rules cs ps fs regions regions' sources sources' inputs inputs' stack stack' (Ok r)) where
   sources_inside : r.sources * 2 ≤ length sources'
-  sources_inside = omega (arith, a.analysis.source_count, front_long (source_rows cs ps fs) sources a.sources_left)
+  sources_inside = omega (arith, a.analysis.source_count, front_long (source_rows rules cs ps fs) sources a.sources_left)
 
   inputs_inside : r.inputs * 3 ≤ length inputs'
-  inputs_inside = omega (arith, a.analysis.input_count, front_long (input_rows cs ps fs) inputs a.inputs_left)
+  inputs_inside = omega (arith, a.analysis.input_count, front_long (input_rows rules cs ps fs) inputs a.inputs_left)
 
 pub overflow_mul-sources : goal.overflow_mul-sources
 overflow_mul-sources c = omega (arith, sources_inside c.analyze-found.ensures, c.analyze-found.auto.sources)

@@ -34,12 +34,12 @@ pub make_ready-requires-clause-upstream : goal.make_ready-requires-clause-upstre
 make_ready-requires-clause-upstream c = rows_empty component_limit c.empty-upstream.result c.empty-upstream.ensures
 
 -- what came back stands at the fronts
-ready_fronts : {cs ps fs : List ℤ} {keys sources sinks fed labels : List ℕ} {upstream : List ComponentSet} → Accepted cs ps keys sources sinks
+ready_fronts : {rules : ℕ} {cs ps fs : List ℤ} {keys sources sinks fed labels : List ℕ} {upstream : List ComponentSet} → Accepted cs ps keys sources sinks
     → (m : ℕ) → m ≤ connection_limit
     → length fed ≡ length {A = ℕ} (take m (replicate connection_limit 0))
     → length labels ≡ length {A = ℕ} (take (length keys) (replicate component_limit 0))
-    → Ready cs ps fs fed labels upstream
-    → Ready cs ps fs (take m (fed ++ drop m (replicate connection_limit 0)))
+    → Ready rules cs ps fs fed labels upstream
+    → Ready rules cs ps fs (take m (fed ++ drop m (replicate connection_limit 0)))
     (take (length keys) (labels ++ drop (length keys) (replicate component_limit 0))) upstream
 ready_fronts {keys = keys} {fed = fed} {labels = labels} a m small e f ready =
     let n = length keys in

@@ -29,7 +29,7 @@ pub invariant_of-connected : goal.invariant_of-connected
 invariant_of-connected c = record { within = (sheet_scene _ _ _ _ c.requires.accepted).connections }
 
 -- no id is repeated, and so the table settles each id's list place
-settled : {cs ps fs : List ℤ} {keys : List ℕ} → Accepts cs ps fs keys → PlacesOfIds cs keys
+settled : {rules : ℕ} {cs ps fs : List ℤ} {keys : List ℕ} → Accepts rules cs ps fs keys → PlacesOfIds cs keys
 settled a = settled_places a.table (sheet_scene _ _ _ _ a.accepted).scene.once
 
 pub group-requires : goal.group-requires
@@ -54,25 +54,25 @@ keep_all-count-requires c =
 abbrev places : ℕ → ℕ
 places n = length (take n (replicate {A = ℕ} connection_limit 0))
 
-module _ (rules : ℕ) (cs ps fs : List ℤ) {out out' : List ℤ} {n : ℕ} (accepted : sheet_refusal rules cs ps fs ≡ Ok tt) (k : AllKept cs ps out out' n) where
+module _ (rules : ℕ) (cs ps fs : List ℤ) {out out' : List ℤ} {n : ℕ} (accepted : sheet_refusal rules cs ps fs ≡ Ok tt) (k : AllKept rules cs ps out out' n) where
   -- no more are kept than there are connections
   inside : n ≤ connection_limit
-  inside = omega (arith, k.count, kept_few cs ps, (sheet_scene rules cs ps fs accepted).connections.few)
+  inside = omega (arith, k.count, kept_few rules cs ps, (sheet_scene rules cs ps fs accepted).connections.few)
 
   places_are : places n ≡ n
   places_are = length-take-le n (replicate connection_limit 0) (omega (arith, inside, length-replicate {A = ℕ} connection_limit 0))
 
-  front : SlopedFront (sloped_rows cs ps) (places n) out'
-  front = subst (λ (m : ℕ). SlopedFront (sloped_rows cs ps) m out') (sym places_are) (sloped_front k)
+  front : SlopedFront (sloped_rows rules cs ps) (places n) out'
+  front = subst (λ (m : ℕ). SlopedFront (sloped_rows rules cs ps) m out') (sym places_are) (sloped_front k)
 
   -- cut, the front of the slice is the list that the analysis is given
   gathered : (rows : List ℤ) {nets nets' fragments fragments' slopes : List ℕ} {r : Counts}
       → ((ns : List ℕ) → SlopedFront ns (places n) out' → Cut ns (take (places n * port_width) rows) slopes)
-      → GroupedBy cs ps nets nets' fragments fragments' r → Gathered cs ps (take (n * port_width) rows) nets' fragments' slopes
+      → GroupedBy cs ps nets nets' fragments fragments' r → Gathered rules cs ps (take (n * port_width) rows) nets' fragments' slopes
   gathered rows {nets = nets} {fragments = fragments} {slopes = slopes} cut g =
-      let sloped = subst (λ (m : ℕ). Cut (sloped_rows cs ps) (take (m * port_width) rows) slopes) places_are (cut (sloped_rows cs ps) front) in
+      let sloped = subst (λ (m : ℕ). Cut (sloped_rows rules cs ps) (take (m * port_width) rows) slopes) places_are (cut (sloped_rows rules cs ps) front) in
       record {
-        kept_are = kept_cut cs ps sloped;
+        kept_are = kept_cut rules cs ps sloped;
         sloped = sloped;
         nets_old = nets;
         nets_are = g.nets_laid;
@@ -88,7 +88,7 @@ slice_bounds-slopes-end c = sym (places_are _ _ _ _ c.requires.accepted c.keep_a
 
 pub cut_slopes-requires-clause-front : goal.cut_slopes-requires-clause-front
 cut_slopes-requires-clause-front c =
-    (sloped_rows c.args.scene.now c.args.connections.now, front _ _ _ _ c.requires.accepted c.keep_all-count.ensures)
+    (sloped_rows c.args.rules c.args.scene.now c.args.connections.now, front _ _ _ _ c.requires.accepted c.keep_all-count.ensures)
 
 pub cut_slopes-requires-clause-rows_in_bounds : goal.cut_slopes-requires-clause-rows_in_bounds
 cut_slopes-requires-clause-rows_in_bounds c =

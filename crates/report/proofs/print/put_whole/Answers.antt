@@ -1,4 +1,4 @@
--- `report::print::put_whole` meets its contract: the first line, four blocks and the verdict rows, one behind the other.
+-- `report::print::put_whole` meets its contract: the first line, four blocks, the verdict rows and the last block, one behind the other.
 -- Assumes nothing.
 use Rattle.blocks.proofs.Printing.{printed_then}
 use Rattle.report.proofs.print.put_whole.Goals as goal
@@ -8,4 +8,4 @@ returns c ps fs ready =
     let blocks =
     printed_then c.put_accepted-a.ensures
     (printed_then c.put_block-b.ensures (printed_then c.put_block-c.ensures (printed_then c.put_block-d.ensures c.put_block-e.ensures))) in
-    printed_then blocks (c.put_rows.ensures ps fs ready)
+    printed_then blocks (printed_then (c.put_rows-f.ensures ps fs ready) c.put_unread.ensures)

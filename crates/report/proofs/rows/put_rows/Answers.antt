@@ -21,7 +21,7 @@ loop-device-init c ps fs ready = record {
 
 pub loop-device-preserved : goal.loop-device-preserved
 loop-device-preserved c ps fs ready =
-    let text : ℕ → ℕ → ℕ → List ℕ = asked_text c.args.asked.now.components.now ps fs in
+    let text : ℕ → ℕ → ℕ → List ℕ = asked_text c.args.asked.now.rules c.args.asked.now.components.now ps fs in
     let rows = c.args.rows.now in
     let l = c.loop-device in
     goes_on (row_text text (get_or c.as_chunks.result.0.now l.device-index [])) (lines_from text rows (3 * (l.device-index + 1)))
@@ -30,6 +30,6 @@ loop-device-preserved c ps fs ready =
 
 pub returns : goal.returns
 returns c ps fs ready =
-    let text : ℕ → ℕ → ℕ → List ℕ = asked_text c.args.asked.now.components.now ps fs in
+    let text : ℕ → ℕ → ℕ → List ℕ = asked_text c.args.asked.now.rules c.args.asked.now.components.now ps fs in
     let past : length c.args.rows.now / 3 ≤ c.loop-device.device-index = omega (arith, c.loop-device-test.false, c.as_chunks.ensures.front_len) in
     goes_done (lines_end text c.args.rows.now c.loop-device.device-index past) (c.loop-device.invariant ps fs ready)

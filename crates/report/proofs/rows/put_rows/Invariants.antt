@@ -13,6 +13,6 @@ use Rattle.report.proofs.rows.put_rows.Given as goal
 abbrev pub invariant-loop-device : goal.invariant-loop-device
 invariant-loop-device l =
     let a = l.asked in
-    (ps fs : List ℤ) → Ready a.components.now ps fs a.fed.now a.labels.now a.upstream.now
-    → Going (inputs_text a.components.now ps fs l.fn.rows) l.fn.at l.fn.out
-    (lines_from (asked_text a.components.now ps fs) l.fn.rows (3 * l.device-index)) l.out l.p
+    (ps fs : List ℤ) → Ready a.rules a.components.now ps fs a.fed.now a.labels.now a.upstream.now
+    → Going (inputs_text a.rules a.components.now ps fs l.fn.rows) l.fn.at l.fn.out
+    (lines_from (asked_text a.rules a.components.now ps fs) l.fn.rows (3 * l.device-index)) l.out l.p
