@@ -45,8 +45,10 @@ fn write_record(out: &mut [u8], form: Form, numbers: &[i64]) -> usize
 
 // Writes as many records as the numbers are.
 pub fn write_records(out: &mut [u8], form: Form, numbers: &[i64]) -> usize
-    requires { length (write_records (fields_of form.fields.now) (length numbers.now / length form.fields.now) numbers.now) ≤ length out.old }
-    ensures { Wrote (write_records (fields_of form.fields.now) (length numbers.now / length form.fields.now) numbers.now) out.old out.new result }
+    requires { length (write_records (fields_of form.fields.now) (length numbers.now / length form.fields.now) numbers.now)
+        ≤ length out.old }
+    ensures { Wrote (write_records (fields_of form.fields.now) (length numbers.now / length form.fields.now) numbers.now)
+        out.old out.new result }
 {
     let width = form.fields.len();
     let mut at = 0;
@@ -77,7 +79,8 @@ fn record_length(form: Form, numbers: &[i64]) -> usize
 }
 
 pub fn records_length(form: Form, numbers: &[i64]) -> usize
-    ensures { result ≡ min (length (write_records (fields_of form.fields.now) (length numbers.now / length form.fields.now) numbers.now)) greatest }
+    ensures { let text = write_records (fields_of form.fields.now) (length numbers.now / length form.fields.now) numbers.now in
+        result ≡ min (length text) greatest }
 {
     let width = form.fields.len();
     let mut n: usize = 0;
