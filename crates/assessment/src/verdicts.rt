@@ -6,7 +6,7 @@ ghost use Rattle.lists.specs.Records.{component_count};
 ghost use Rattle.std.specs.Option.{option_map};
 ghost use Rattle.signals.specs.Sources.{source_kind};
 ghost use Rattle.assessment.specs.Verdicts.{kind_row};
-ghost use Rattle.assessment.specs.Rows.{Put, first_required, count_by_kind, required_count, slot_fed, Scanned};
+ghost use Rattle.assessment.specs.Rows.{Put, first_required, count_by_kind, loses_input, required_count, slot_fed, Scanned};
 ghost use Rattle.assessment.specs.Rows.{source_number, sources_of, sources_below, InferredAlone};
 
 use super::sources::{SourceKind, source_kind};
@@ -32,7 +32,14 @@ fn ports_by_kind(kind: u64) -> Range<usize>
     }
 }
 
-// The ports of a kind and facing that have a verdict row: an unread Repeater or Comparator has none, an unread Piston its four.
+// Whether a kind and facing are those of an unread Repeater or Comparator: an unread Piston keeps its Inputs.
+fn loses_input(rules: u64, kind: u64, facing: u64) -> bool
+    ensures { result ≡ loses_input rules kind facing }
+{
+    is_unread(rules, kind, facing) & (kind != PISTON)
+}
+
+// The ports of a kind and facing that have a verdict row.
 #[tactic(auto, unfolding(crate::specs::Rows::required_count))]
 pub fn required_ports(rules: u64, kind: u64, facing: u64) -> Range<usize>
     ensures range { (result.start ≡ first_required kind)
@@ -40,7 +47,7 @@ pub fn required_ports(rules: u64, kind: u64, facing: u64) -> Range<usize>
     ensures few { (result.start ≤ 4) × (result.end ≤ result.start + 4) }
 {
     let ports = ports_by_kind(kind);
-    if is_unread(rules, kind, facing) & (kind != PISTON) {
+    if loses_input(rules, kind, facing) {
         return ports.start..ports.start;
     }
     ports
