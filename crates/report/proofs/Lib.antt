@@ -11,3 +11,4 @@ pub mod SheetLaws
 pub mod RowLines
 pub mod ReadBack
 mod SameReport
+mod RulesLaws

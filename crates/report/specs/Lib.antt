@@ -3,4 +3,5 @@ pub mod Report
 pub mod Demand
 pub mod Entry
 pub mod Same
+pub mod Rules
 pub mod Printing
