@@ -33,7 +33,8 @@ use Rattle.signals.specs.Drive.{members_where, drive, potential}
 use Rattle.assessment.specs.Verdicts.{fed_by, status_of, port_rows, verdict_rows, sources_at, source_rows_below}
 use Rattle.blocks.specs.Lines.{field_lines}
 use Rattle.report.specs.Report.{all_rows, port_lines, verdict_lines, report_of}
-use Rattle.report.specs.Entry.{fits, report_checked}
+use Rattle.sheet.specs.Written.{fits}
+use Rattle.report.specs.Entry.{report_checked}
 use Rattle.worked.specs.Example.{from_lever, program_parse}
 use Rattle.worked.specs.LaterRules.{UnderEach, blank_sheet, lever_and_blank, blank_report, BlankSheet}
 use Rattle.worked.proofs.Forests.{single_places_lem}
