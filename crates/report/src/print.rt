@@ -101,6 +101,8 @@ fn print_rows(asked: &Asked, rows: &TextRows, out: &mut [u8]) -> Result<usize, R
 // ---- the rows of a scene
 
 // Prints what the analysis of the kept connections gave: `rows` is what it wrote.
+// Not a part of its caller's frame: these rows and the tables of an analysis are never on the stack at the same time.
+#[inline(never)]
 fn print_analysis(
     asked: &Asked,
     ports: &[i64],
