@@ -45,6 +45,8 @@ pub struct Asked<'a> {
 // Fills what the ports of a plot are asked by: its edges by the port that they feed, the regions of its members, and the rows of the
 // inferred inputs upstream of each region, which are empty before. Leaves the stack zero. The edges forward and backward stand where
 // those by port and the pairs of regions are put after them.
+// Not a part of its caller's frame: its tables are needed here alone.
+#[inline(never)]
 pub fn make_ready(
     plot: &Plot,
     fed: &mut [u64],
