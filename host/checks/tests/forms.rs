@@ -8,7 +8,7 @@ use checks::program::{Feed, run};
 use checks::runs::{self, Seeds};
 use checks::{SheetLists, Sheets};
 use paper::sheet::Sheet;
-use probe::sheets::{convert, report};
+use probe::sheets::{convert, report, sheet};
 use scenes::random::Random;
 use scenes::sheets::drawn::{self, Drawn};
 use scenes::sheets::edits::{self, Edit};
@@ -236,6 +236,38 @@ fn there_and_back_a_hundred_thousand_times() -> io::Result<()> {
         "there and back: old and short {by_form:?}, {spelled} with rules=1 spelled out, {run_through} through the program in both forms"
     );
     assert!(by_form.iter().all(|count| *count > 40_000) && spelled > 1_000);
+    Ok(())
+}
+
+/// The thread runs the entries and nothing else; what they must answer is found
+/// outside.
+#[test]
+fn on_a_small_stack() -> io::Result<()> {
+    for form in Form::ALL {
+        let scene = Profile::Full.scene(1);
+        let text = write_form(form, 3, &scene);
+        let other = write_form(form.other(), 3, &scene);
+        let reported = Sheet::read(&text, Limits::SCENE).enough();
+        runs::within_one_mebibyte_of_stack(move || {
+            let mut lists = [
+                reported.components,
+                reported.connections,
+                reported.frontiers,
+            ]
+            .map(|it| vec![0; it]);
+            let limits = Limits::SCENE.each();
+            let mut out = vec![0; reported.out];
+            let work = lists.each_mut().map(|list| &mut list[..]);
+            let count = report(&text, limits, work, &mut out);
+            assert_eq!(count, Ok(reported.out as u64));
+            let work = lists.each_mut().map(|list| &mut list[..]);
+            let mut out = vec![0; other.len()];
+            let count = convert(&text, limits, work, &mut out);
+            assert!(count == Ok(other.len() as u64) && out == other);
+            let work = lists.each_mut().map(|list| &mut list[..]);
+            assert!(sheet(&text, work, &mut [0; 2]).is_ok());
+        })?;
+    }
     Ok(())
 }
 
