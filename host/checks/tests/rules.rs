@@ -1,4 +1,4 @@
-//! The liveness entry and the input query under the rules of either year:
+//! The liveness entry and the input query under rules 1 and 2:
 //! by rules 1 the unchanged Rust, by rules 2 the restatement, on all small plots
 //! with lamps, on drawn ones and on every profile; and what the rules must leave
 //! as it is.
