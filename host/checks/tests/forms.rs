@@ -4,7 +4,6 @@
 
 use std::io;
 
-use checks::program::{Feed, run};
 use checks::runs::{self, Seeds};
 use checks::{SheetLists, Sheets};
 use paper::sheet::Sheet;
@@ -210,10 +209,12 @@ fn turned(text: &[u8], case: &str) -> Vec<u8> {
 }
 
 /// A hundred thousand sheets into the other form and back, the sheet's own bytes but
-/// for a spelled-out `rules=1`; every fiftieth through the program in both forms.
+/// for a spelled-out `rules=1`; either form has one report, one sheet of eight asked.
+/// (`program` has sheets of both forms through `plotreport`.)
 #[test]
-fn there_and_back_a_hundred_thousand_times() -> io::Result<()> {
-    let (mut by_form, mut spelled, mut run_through) = ([0_u64; 2], 0_u64, 0_u64);
+fn there_and_back_a_hundred_thousand_times() {
+    let mut reports = Sheets::new(report);
+    let (mut by_form, mut spelled) = ([0_u64; 2], 0_u64);
     for seed in 0..100_000 {
         let case = format!("sheet seed {seed}");
         let sheet = drawn::sheet(seed);
@@ -224,19 +225,14 @@ fn there_and_back_a_hundred_thousand_times() -> io::Result<()> {
         assert!(back == there_and_back(&sheet.text), "{case}");
         by_form[usize::from(sheet.form == Form::Short)] += 1;
         spelled += u64::from(back.len() < sheet.text.len());
-        if seed % 50 == 0 {
-            let [first, second] = [&sheet.text, &other].map(|text| run(text, Feed::File));
-            let (first, second) = (first?, second?);
-            assert!(first.stdout == second.stdout, "{case}");
-            assert!(first.status.success() && second.status.success());
-            run_through += 1;
+        if seed % 8 == 0 {
+            reports.sheet(&sheet.text, Limits::SCENE, &case);
+            reports.sheet(&other, Limits::SCENE, &case);
         }
     }
-    println!(
-        "there and back: old and short {by_form:?}, {spelled} with rules=1 spelled out, {run_through} through the program in both forms"
-    );
+    println!("there and back: old and short {by_form:?}, {spelled} with rules=1 spelled out");
     assert!(by_form.iter().all(|count| *count > 40_000) && spelled > 1_000);
-    Ok(())
+    reports.assert_numbers_came_up(&[0, 2], "there and back, reports");
 }
 
 /// The thread runs the entries and nothing else; what they must answer is found
@@ -293,7 +289,7 @@ fn on_garbage() {
         "sheet=",
         "rules=",
         "\n",
-        ",",
+        "0\n",
         "4\n",
     ];
     let mut all = All::new();
@@ -302,6 +298,9 @@ fn on_garbage() {
         let mut text = Vec::new();
         if random.once_in(2) {
             text.extend_from_slice(b"sheet=2\nrules=2\n");
+        }
+        if random.once_in(2) {
+            text.extend_from_slice(b"components=0\nconnections=");
         }
         for _ in 0..random.below(9) {
             text.extend_from_slice(random.pick(&PIECES).as_bytes());

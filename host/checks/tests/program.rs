@@ -183,7 +183,7 @@ fn on_reports_at_the_end_of_the_buffer() -> io::Result<()> {
 #[test]
 fn on_drawn_sheets() -> io::Result<()> {
     let mut accepted = 0;
-    for seed in 0..600 {
+    for seed in 0..2_000 {
         let sheet = drawn::sheet(7 * seed);
         let case = format!("sheet seed {}", 7 * seed);
         let wanted = plotreport(&sheet.text);
@@ -193,8 +193,8 @@ fn on_drawn_sheets() -> io::Result<()> {
             hold(&text, &wanted, FEEDS[usize::from(seed % 9 == 0)], &case)?;
         }
     }
-    println!("600 sheets in both forms, {accepted} of them accepted");
-    assert!(accepted > 400);
+    println!("2,000 sheets in both forms, {accepted} of them accepted");
+    assert!(accepted > 1_500);
     Ok(())
 }
 

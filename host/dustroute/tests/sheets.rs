@@ -11,6 +11,7 @@ use scenes::random::Random;
 use scenes::sheets::edits;
 use scenes::sheets::forms::{self, there_and_back, write_form};
 use scenes::sheets::{Limits, drawn, fields, sheet_of};
+use scenes::sized::Shape;
 use scenes::{Profile, Scene};
 use typed::Lists;
 
@@ -84,23 +85,24 @@ fn drawn_sheets_are_read_reported_and_turned() -> Result<(), Refusal> {
     Ok(())
 }
 
-/// Reports longer than the first buffer, and lists at the library's limits.
+/// Reports longer than the first buffers, and lists at the library's limits.
 #[test]
 fn full_plots_are_read_reported_and_turned() {
+    let full = (0..2).map(|seed| Profile::Full.scene(seed));
+    let plots = Shape::ALL.map(|shape| shape.scene(1_024, 3));
     let mut bytes = 0;
-    for seed in 0..4 {
-        let scene = Profile::Full.scene(seed);
+    for (place, scene) in full.chain(plots).enumerate() {
         for form in forms::Form::ALL {
             for rules in Rules::ALL {
                 let text = write_form(form, rules.number(), &scene);
-                let case = format!("full plot, seed {seed}, {form:?}, {rules}");
+                let case = format!("full plot {place}, {form:?}, {rules}");
                 assert_eq!(hold(&text, &case), 0);
                 bytes = bytes.max(report(&text).map_or(0, |it| it.len()));
             }
         }
     }
     println!("reports of full plots: up to {bytes} bytes");
-    assert!(bytes > 1 << 17);
+    assert!(bytes > 1 << 18);
 }
 
 /// Edits of bytes, lines, heads and records of sheets of either form.
@@ -114,7 +116,7 @@ fn edited_sheets_are_refused_as_the_restatement_does() {
         let mut case = format!("sheet seed {}", 90_000 + seed);
         for _ in 0..1 + random.below(2) {
             let some = [fields::of_heads(), fields::of_records(&text)].concat();
-            let edit = match some.get(random.below(2 * some.len())) {
+            let edit = match some.get(random.below(4 * some.len())) {
                 Some(edit) => *edit,
                 None => edits::drawn(&text, random),
             };
