@@ -2,7 +2,7 @@
  * The questions of one plot, in C: whether one input is driven, the way to it,
  * the regions in lighting order, and who reaches whom. The lists are numbers as
  * the host has them. Each slice lent has a number more than is asked for, dirty,
- * and each answer is held to what it must be, the same by the rules of either
+ * and each answer is held to what it must be, the same by the rules of every
  * year.
  *
  *     cc -std=c99 -I include -o questions examples/questions.c target/staticlib/libcapi.a
@@ -175,7 +175,7 @@ static void reach_table(void)
 int main(void)
 {
     setvbuf(stdout, NULL, _IONBF, 0);
-    for (rules = 1; rules <= 2; rules++) {
+    for (rules = 1; rules <= 3; rules++) {
         one_input();
         the_way();
         two_levers();

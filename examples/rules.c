@@ -1,6 +1,7 @@
 /*
- * The rules of two school years, in C: a lamp that feeds a wire, which feeds a
- * repeater, marked by either; and numbers of rules that are not known, for which
+ * The rules of three school years, in C: a lamp that feeds a wire, which feeds a
+ * repeater, marked by each; the same plot with the repeater's facing left blank; and
+ * numbers of rules that are not known, for which
  * every entry refuses whatever lists, and writes nothing.
  *
  *     cc -std=c99 -I include -o rules examples/rules.c target/staticlib/libcapi.a
@@ -15,11 +16,13 @@
 enum { COUNT = 3 };
 
 /* id, x, y, z, kind, facing, support, conducts */
-static const int64_t plot[8 * COUNT] = {
+static int64_t plot[8 * COUNT] = {
     1, 0, 0, 0, 11, 0, 0, 1,
     2, 1, 0, 0, 0, 0, 0, 0,
     3, 2, 0, 0, 1, 2, 0, 0,
 };
+/* The place of the repeater's facing. */
+enum { FACING = 2 * 8 + 5 };
 static const int64_t fed[] = {1, 1, 2, 3, 2, 2, 1, 3, 1, 4};
 static const int64_t joined[] = {1, 2, 4, 2, 3, 5};
 
@@ -87,14 +90,36 @@ static void by_the_first_year(void)
     hold(get(out.sets, 0) == 0 && get(out.sets, 16) == 0, "nothing is driven, or would be");
 }
 
-static void by_the_second_year(void)
+static void by_a_later_year(int64_t rules)
 {
-    uint64_t answer = marked(2);
+    uint64_t answer = marked(rules);
     hold(DUSTROUTE_ACCEPTED(answer) && DUSTROUTE_COUNT(answer, 0) == 3, "the same regions");
     hold(DUSTROUTE_COUNT(answer, 1) == 1, "a source");
     hold(get(out.sources, 0) == 2 && get(out.sources, 1) == 3, "the wire is an inferred input");
     hold(DUSTROUTE_COUNT(answer, 2) == 1 && get(out.inputs, 2) == 1, "the repeater awaits it");
     hold(get(out.sets, 0) == 0 && get(out.sets, 16) == 6, "wire and repeater would be driven");
+}
+
+static unsigned kept(int64_t rules)
+{
+    uint64_t answer = dustroute_ports(rules, plot, 8 * COUNT, joined, 6, out.ports, 12);
+    hold(DUSTROUTE_ACCEPTED(answer), "connections kept");
+    return DUSTROUTE_COUNT(answer, 0);
+}
+
+/* The repeater's facing left blank: up to the second year it is taken as North, so
+   that the wire comes in from its side; by the third nobody says where it comes in,
+   nor that its input is dead. */
+static void by_the_third_year(void)
+{
+    plot[FACING] = 0;
+    for (int64_t rules = 1; rules <= 3; rules++) {
+        uint64_t answer = marked(rules);
+        hold(DUSTROUTE_ACCEPTED(answer) && DUSTROUTE_COUNT(answer, 0) == 3, "the same regions");
+        hold(DUSTROUTE_COUNT(answer, 2) == (rules < 3), "a verdict for an input that was seen");
+        hold(kept(rules) == (rules < 3 ? 2 : 1), "no connection into a repeater that was not");
+    }
+    plot[FACING] = 2;
 }
 
 /* The answers of all nine entries, whatever number of records each list has. */
@@ -121,7 +146,7 @@ static void all_answers(int64_t rules, size_t count, uint64_t answers[9])
 static void unknown_rules(void)
 {
     const int64_t unknown[] = {
-        INT64_MIN, -1, 0, 3, 4, 256 + 1, ((int64_t)1 << 32) + 1, INT64_MAX};
+        INT64_MIN, -1, 0, 4, 5, 256 + 1, ((int64_t)1 << 32) + 1, INT64_MAX};
     for (size_t k = 0; k < sizeof unknown / sizeof *unknown; k++)
         /* whole records, and a number or a byte too few or too many */
         for (size_t count = 0; count <= 8 * COUNT; count++) {
@@ -142,7 +167,9 @@ int main(void)
     setvbuf(stdout, NULL, _IONBF, 0);
     hold(dustroute_interface_2() == DUSTROUTE_INTERFACE, "the interface of the header");
     by_the_first_year();
-    by_the_second_year();
+    by_a_later_year(2);
+    by_a_later_year(3);
+    by_the_third_year();
     unknown_rules();
     if (faults == 0)
         printf("all answers are as they must be\n");

@@ -2,7 +2,7 @@
  * A host in C: a lever at the origin, and a repeater beside it that faces East
  * and that it feeds. Marks the plot by both entries and holds the answers to
  * what they must be, on that plot, on damaged copies and on a full plot; by the
- * rules of either year, which no plot here tells apart (examples/rules.c does).
+ * rules of every year, which no plot here tells apart (examples/rules.c does).
  *
  *     cc -std=c99 -I include -o worked examples/worked.c target/staticlib/libcapi.a
  *
@@ -358,7 +358,7 @@ int main(int count, char **arguments)
 {
     (void)arguments;
     setvbuf(stdout, NULL, _IONBF, 0);
-    for (rules = 1; rules <= 2; rules++)
+    for (rules = 1; rules <= 3; rules++)
         if (count > 1) {
             on_the_heap();
         } else {

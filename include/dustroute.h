@@ -4,8 +4,8 @@
  *     cc -I include host.c target/staticlib/libcapi.a
  *
  * The archive is made by `tools/build capi` and is for x86-64. It needs
- * nothing but memcpy and memset. examples/worked.c is a whole host.
- *
+ * nothing but memcpy and memset. examples/worked.c is a whole host. The entries
+ * over sheets are in dustroute_sheets.h.
  *
  * RULES
  *
@@ -15,10 +15,13 @@
  *         that only a RedstoneLamp feeds is no inferred input
  *     2   lamps are passive, as a Solid is, where external feeds of a region are
  *         sought: a wire that only a RedstoneLamp feeds may be an inferred input
+ *     3   and a facing of none is not taken as North: with it a Repeater or a
+ *         Comparator has its support port only, as port 0, a Piston its four inputs
  *
- * Only the answer of dustroute_liveness depends on it, and only in source rows of
- * kind 3, in the second set, and between the statuses 1 and 3.
- *
+ * From 1 to 2 only dustroute_liveness answers otherwise, in source rows of kind 3,
+ * in the second set, and between the statuses 1 and 3; from 2 to 3 dustroute_ports
+ * in the rows at such devices, and all that looks for a verdict row in there being
+ * none for the input of such a Repeater or Comparator.
  *
  * LISTS
  *
@@ -56,7 +59,6 @@
  *                   3 StrongPower, 4 DirectionalDevice, 5 SideControl,
  *                   6 StructuralSupport
  *
- *
  * THE ANSWER
  *
  * One number. Where its sixteen lowest bits are 0 the lists are accepted, and
@@ -79,12 +81,11 @@
  *         (dustroute_clear drops such connections)
  *     8   the port asked for has no verdict row; list 3, item 0
  *     10  the row's status is not 0; list 3, item 0
- *     11  a number of rules other than 1 and 2; list 3, item 0
+ *     11  a number of rules other than 1, 2 and 3; list 3, item 0
  *
  * 6 is of dustroute_groups and dustroute_ports alone, 7 of the others but
  * dustroute_clear; 8 is of dustroute_driven, dustroute_trail and
  * dustroute_check_trail, 10 of dustroute_trail alone.
- *
  *
  * WHAT IS WRITTEN
  *
@@ -92,7 +93,6 @@
  * front of the lent slices, and leaves the rest of them as it was; the stack,
  * which is for work, is zero throughout. Lists are only read. A slice has room
  * for as many numbers as it has whole eights of bytes.
- *
  *
  * WHAT THE HOST OWES
  *

@@ -5,11 +5,11 @@ use std::collections::{BTreeMap, BTreeSet};
 use dustroute_physical::{ComponentId, PhysicalScene, VerifiedTopology};
 use dustroute_translate::{SignalLivenessReport, analyze_signal_liveness};
 use oracle::{Groups, Input, Liveness, Region, lists};
+use paper::parse::parse;
 use paper::report::print;
-use paper::sheet::parse;
 use probe::report::report;
 use scenes::Scene;
-use scenes::limits::COMPONENT;
+use scenes::limits::{COMPONENT, RULES_OF_THE_RUST};
 use scenes::sheets::{self, Limits, sheet_of};
 
 use crate::measure::Times;
@@ -44,7 +44,9 @@ impl Subject for Whole {
 /// The restatement's reader and printer, and between them each function of the
 /// Rust once. Nothing is checked but the lines.
 fn by_the_rust(text: &[u8]) -> Vec<u8> {
-    let read = parse(text, Limits::SCENE).unwrap_or_default();
+    let read = parse(text, Limits::SCENE)
+        .map(|it| it.scene)
+        .unwrap_or_default();
     let topology = lists::topology(&read.components, &read.connections);
     let observation = lists::observation(&read.frontiers);
     let scene = PhysicalScene::from_unvalidated_topology(observation, &topology);
@@ -52,6 +54,7 @@ fn by_the_rust(text: &[u8]) -> Vec<u8> {
     let ids: Vec<i64> = read.components.iter().step_by(COMPONENT).copied().collect();
     let groups = groups(&ids, &topology);
     print(
+        RULES_OF_THE_RUST,
         &read.components,
         &groups,
         &kept(&scene),

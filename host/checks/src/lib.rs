@@ -9,6 +9,7 @@ mod ports;
 pub mod program;
 pub mod runs;
 pub mod scale;
+mod sheet_lists;
 mod sheets;
 mod unknown;
 
@@ -18,5 +19,6 @@ pub use counted::{Counted, UNKNOWN_RULES};
 pub use groups::{ByteLists, Groups};
 pub use guarded::Guarded;
 pub use ports::Ports;
+pub use sheet_lists::SheetLists;
 pub use sheets::{Entry, Sheets};
 pub use unknown::Unknown;

@@ -1,6 +1,7 @@
 //! The report of a sheet, compared byte for byte with the one that the
-//! restatement prints of the unchanged Rust's answers; refusals, and what each
-//! call leaves of the slices, with the restatement.
+//! restatement prints, by rules 1 of the unchanged Rust's answers; a sheet in its
+//! other form; refusals, and what each call leaves of the slices, with the
+//! restatement.
 
 use std::fmt::{self, Display};
 
@@ -10,17 +11,27 @@ use scenes::sheets::Limits;
 
 use crate::{Counted, Guarded};
 
-/// The entry: a text, the limits, the three work lists and the report's
-/// buffer. It answers how many bytes the report has.
+/// The entry: a text, the limits, the three work lists and the buffer. It answers
+/// how many bytes are written.
 pub type Entry = fn(&[u8], [u64; 3], [&mut [i64]; 3], &mut [u8]) -> Result<u64, probe::Refusal>;
+
+/// What the restatement says of a sheet.
+type Judge = fn(&[u8], Limits) -> Sheet;
+
+/// The highest number that a sheet can get.
+pub const LAST: usize = 12;
+
+/// Those that none can get.
+const NEVER: [usize; 3] = [7, 8, 10];
 
 /// Counts of what was compared.
 #[derive(Clone, Debug)]
 pub struct Sheets {
     entry: Entry,
+    judge: Judge,
     sheets: usize,
     calls: usize,
-    by_number: [u64; 10],
+    by_number: [u64; LAST + 1],
     /// Refusals with the work lists as before, and with them zero.
     left: [u64; 2],
     bytes_read: u64,
@@ -36,7 +47,7 @@ const FOR_A_FAULT: SheetLent = SheetLent {
 };
 
 /// A text as it is printed beside a fault, not more than its front.
-struct Shown<'a>(&'a [u8]);
+pub struct Shown<'a>(pub &'a [u8]);
 
 impl Display for Shown<'_> {
     fn fmt(&self, out: &mut fmt::Formatter<'_>) -> fmt::Result {
@@ -90,13 +101,25 @@ impl Slices {
 }
 
 impl Sheets {
+    /// An entry that writes the report.
     #[must_use]
     pub const fn new(entry: Entry) -> Self {
+        Self::judged(entry, Sheet::read)
+    }
+
+    /// An entry that writes the sheet in its other form.
+    #[must_use]
+    pub const fn turning(entry: Entry) -> Self {
+        Self::judged(entry, Sheet::turned)
+    }
+
+    const fn judged(entry: Entry, judge: Judge) -> Self {
         Self {
             entry,
+            judge,
             sheets: 0,
             calls: 0,
-            by_number: [0; 10],
+            by_number: [0; LAST + 1],
             left: [0; 2],
             bytes_read: 0,
             bytes_written: 0,
@@ -132,9 +155,9 @@ impl Sheets {
     fn count(&mut self, text: &[u8], wanted: Result<&[u8], scenes::Refusal>, left: Left) {
         self.bytes_read += text.len() as u64;
         match wanted {
-            Ok(report) => {
+            Ok(written) => {
                 self.by_number[0] += 1;
-                self.bytes_written += report.len() as u64;
+                self.bytes_written += written.len() as u64;
             }
             Err(refusal) => {
                 self.by_number[usize::try_from(refusal.number).unwrap_or(0)] += 1;
@@ -149,7 +172,7 @@ impl Sheets {
     /// # Panics
     /// Where something differs; `case` is printed then.
     pub fn sheet(&mut self, text: &[u8], limits: Limits, case: &dyn Display) {
-        let sheet = Sheet::read(text, limits);
+        let sheet = (self.judge)(text, limits);
         let enough = enough(&sheet);
         self.call(text, limits, &sheet, &enough, case);
         let others = others(&enough);
@@ -164,7 +187,7 @@ impl Sheets {
     /// # Panics
     /// Where something differs; `case` is printed then.
     pub fn sheet_with_every_length(&mut self, text: &[u8], limits: Limits, case: &dyn Display) {
-        let sheet = Sheet::read(text, limits);
+        let sheet = (self.judge)(text, limits);
         let enough = enough(&sheet);
         self.call(text, limits, &sheet, &enough, case);
         for lent in others(&enough) {
@@ -189,12 +212,12 @@ impl Sheets {
         for number in numbers {
             assert!(self.count_of(*number) > 0, "{number} never came up");
         }
-        assert_eq!([7, 8].map(|number| self.count_of(number)), [0, 0]);
+        assert_eq!(NEVER.map(|number| self.count_of(number)), [0; 3]);
     }
 }
 
 impl Counted for Sheets {
-    const LAST: usize = 9;
+    const LAST: usize = LAST;
 
     fn count_of(&self, number: usize) -> u64 {
         self.by_number.get(number).copied().unwrap_or(0)

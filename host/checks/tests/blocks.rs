@@ -1,17 +1,26 @@
 //! The proved ports of single blocks and faces of single steps against the
-//! unchanged Rust, and what they give outside the ranges of their codes; the
-//! slopes of steps against the words of the request.
+//! unchanged Rust, by rules 3 against the restatement, and what they give outside
+//! the ranges of their codes; the slopes of steps against the words of the request.
 
 use probe::ports::{Block, port, port_count, step_between};
-use scenes::limits::{FAR, LAST_FACE, LAST_KIND};
+use scenes::limits::{FAR, LAST_FACE, LAST_KIND, LAST_RULES, UNREAD_BLANKS};
 
 type Cell = [i64; 3];
 
-/// The Rust's ports of a block, packed as role, face and channel.
-fn wanted_ports(codes: [i64; 4]) -> Vec<u64> {
+/// Numbers of rules. By those that are not known, what does not depend on an entry
+/// is as by the nearest that are.
+const RULES: [i64; 8] = [1, 2, LAST_RULES, i64::MIN, -1, 0, LAST_RULES + 1, i64::MAX];
+
+/// The Rust's ports of a block, by rules 3 the restatement's, packed as role, face
+/// and channel.
+fn wanted_ports(rules: i64, codes: [i64; 4]) -> Vec<u64> {
     let [kind, facing, support, conducts] = codes;
     let component = [0, 0, 0, 0, kind, facing, support, conducts];
-    let ports = oracle::ports_of(&component).concat();
+    let ports = if rules < UNREAD_BLANKS {
+        oracle::ports_of(&component).concat()
+    } else {
+        paper::ports_of(rules, &component).concat()
+    };
     let pack = |[role, face, channel]: [i64; 3]| role + 256 * face + 65_536 * channel;
     ports
         .into_iter()
@@ -19,14 +28,16 @@ fn wanted_ports(codes: [i64; 4]) -> Vec<u64> {
         .collect()
 }
 
-fn hold_ports(block: Block, wanted: &[u64]) {
-    assert_eq!(port_count(block), wanted.len() as u64, "count of {block:?}");
+fn hold_ports(rules: i64, block: Block, wanted: &[u64]) {
+    let count = port_count(rules, block);
+    assert_eq!(count, wanted.len() as u64, "count of {block:?} by {rules}");
     let beyond = [7, 8, 255, 256, 1 << 32, u64::MAX];
     for place in (0..7).chain(beyond) {
         let at = usize::try_from(place).ok();
         let there = at.and_then(|place| wanted.get(place));
         let wanted = there.copied().unwrap_or(0);
-        assert_eq!(port(block, place), wanted, "port {place} of {block:?}");
+        let given = port(rules, block, place);
+        assert_eq!(given, wanted, "port {place} of {block:?} by {rules}");
     }
 }
 
@@ -38,14 +49,17 @@ fn every_block_has_the_ports_of_the_rust() {
             for support in 0..=LAST_FACE {
                 for conducts in 0..=1 {
                     let codes = [kind, facing, support, conducts];
-                    hold_ports(codes.map(i64::unsigned_abs), &wanted_ports(codes));
-                    count += 1;
+                    for rules in RULES {
+                        let wanted = wanted_ports(rules, codes);
+                        hold_ports(rules, codes.map(i64::unsigned_abs), &wanted);
+                        count += 1;
+                    }
                 }
             }
         }
     }
-    println!("{count} blocks");
-    assert_eq!(count, 1_274);
+    println!("{count} blocks by rules of eight numbers");
+    assert_eq!(count, 1_274 * RULES.len());
 }
 
 /// Codes with those beyond their range, also such as a narrower number would
@@ -56,8 +70,8 @@ fn codes(last: u64) -> Vec<u64> {
     (0..=last).chain(beyond).chain(far).collect()
 }
 
-/// No port for an unknown kind; an unknown face counts as none, and only 1
-/// conducts.
+/// No port for an unknown kind; an unknown face counts as none, but by rules 3 as
+/// North, since only 0 is a blank; and only 1 conducts.
 #[test]
 fn unknown_codes_have_the_ports_of_the_nearest_meaning() {
     let none = |face: i64| {
@@ -75,14 +89,17 @@ fn unknown_codes_have_the_ports_of_the_nearest_meaning() {
                 for conducts in codes(1) {
                     let block = [kind, facing, support, conducts];
                     let [kind, facing, support, conducts] = block.map(known);
-                    let meant = [kind, none(facing), none(support), i64::from(conducts == 1)];
-                    let wanted = if kind <= LAST_KIND {
-                        wanted_ports(meant)
-                    } else {
-                        Vec::new()
-                    };
-                    hold_ports(block, &wanted);
-                    count += 1;
+                    for rules in [1, LAST_RULES] {
+                        let facing = if facing == 0 { 0 } else { none(facing).max(1) };
+                        let meant = [kind, facing, none(support), i64::from(conducts == 1)];
+                        let wanted = if kind <= LAST_KIND {
+                            wanted_ports(rules, meant)
+                        } else {
+                            Vec::new()
+                        };
+                        hold_ports(rules, block, &wanted);
+                        count += 1;
+                    }
                 }
             }
         }

@@ -125,6 +125,11 @@ fn the_rules_in_c_under_valgrind() {
 }
 
 #[test]
+fn sheets_in_c_under_valgrind() {
+    hold_host("sheets.c", "sheets");
+}
+
+#[test]
 fn a_host_in_rust_under_valgrind() {
     let program = Path::new(env!("CARGO_BIN_EXE_memory"));
     if let Some(said) = checked(program, &[]) {

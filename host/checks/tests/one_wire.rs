@@ -1,5 +1,5 @@
 //! How much one port connection more can do, held to the answers of the
-//! proved entry by the rules of either year: pairs of accepted scenes, of which
+//! proved entry by the rules of every year: pairs of accepted scenes, of which
 //! the second has one connection that the first has not. Nothing here knows how
 //! the entry works.
 

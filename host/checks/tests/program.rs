@@ -13,9 +13,11 @@ use checks::runs::{self, Seeds};
 use paper::program::{BUFFER, plotreport};
 use paper::report::report;
 use scenes::Scene;
+use scenes::limits::RULES_OF_THE_RUST;
 use scenes::sheets::edits;
+use scenes::sheets::forms::{Form, write_form};
 use scenes::sheets::lengths::{MOST_DIGITS, dense_scene, sheet_of_length};
-use scenes::sheets::{Limits, sheet_of, within, write_sheet};
+use scenes::sheets::{Limits, drawn, fields, sheet_of, within, write_sheet};
 
 const FEEDS: [Feed; 4] = [
     Feed::File,
@@ -55,7 +57,10 @@ fn on_the_examples() -> io::Result<()> {
     for folder in [examples.clone(), examples.join("refused")] {
         for entry in folder.read_dir()? {
             let path = entry?.path();
-            if path.extension().is_some_and(|it| it == "sheet") {
+            if path
+                .extension()
+                .is_some_and(|it| it == "sheet" || it == "short")
+            {
                 let wanted = std::fs::read(path.with_extension("report"))?;
                 let given = hold_by_every_feed(&std::fs::read(&path)?, &path.to_string_lossy())?;
                 assert!(given == wanted, "{}", path.display());
@@ -64,7 +69,7 @@ fn on_the_examples() -> io::Result<()> {
         }
     }
     println!("{count} examples printed as they stand");
-    assert!(count >= 30);
+    assert!(count >= 48);
     Ok(())
 }
 
@@ -130,7 +135,13 @@ fn on_sheets_at_the_end_of_the_buffer() -> io::Result<()> {
 }
 
 fn report_of(scene: &Scene) -> Vec<u8> {
-    report(&scene.components, &scene.connections, &scene.frontiers)
+    let rules = RULES_OF_THE_RUST;
+    report(
+        rules,
+        &scene.components,
+        &scene.connections,
+        &scene.frontiers,
+    )
 }
 
 /// The scene with a report of so many bytes: the most connections that do not
@@ -168,18 +179,46 @@ fn on_reports_at_the_end_of_the_buffer() -> io::Result<()> {
     Ok(())
 }
 
+/// Both forms under all rules, and there and back.
+#[test]
+fn on_drawn_sheets() -> io::Result<()> {
+    let mut accepted = 0;
+    for seed in 0..2_000 {
+        let sheet = drawn::sheet(7 * seed);
+        let case = format!("sheet seed {}", 7 * seed);
+        let wanted = plotreport(&sheet.text);
+        accepted += usize::from(wanted.starts_with(b"answer=0\n"));
+        let other = write_form(sheet.form.other(), sheet.rules, &sheet.scene);
+        for text in [sheet.text, other] {
+            hold(&text, &wanted, FEEDS[usize::from(seed % 9 == 0)], &case)?;
+        }
+    }
+    println!("2,000 sheets in both forms, {accepted} of them accepted");
+    assert!(accepted > 1_500);
+    Ok(())
+}
+
 #[test]
 fn on_edited_sheets() -> io::Result<()> {
     let wire = |id, x| [id, x, 0, 0, 0, 0, 0, 0];
     let components = [wire(1, -1), wire(3, 0), wire(2, 1)].concat();
-    let text = write_sheet(&components, &[1, 3, 0, 3, 2, 0], &[0; 6]);
-    let all = [edits::of_bytes(&text), edits::of_lines(&text)].concat();
+    let scene = Scene {
+        components,
+        connections: vec![1, 3, 0, 3, 2, 0],
+        frontiers: vec![0; 6],
+        ports: Vec::new(),
+    };
     let mut count = 0;
-    for edit in all.iter().step_by(29) {
-        let edited = edit.apply(&text);
-        let feed = FEEDS[count % 2];
-        hold(&edited, &plotreport(&edited), feed, &format!("{edit:?}"))?;
-        count += 1;
+    for form in Form::ALL {
+        let text = write_form(form, 3, &scene);
+        let bytes_and_lines = [edits::of_bytes(&text), edits::of_lines(&text)].concat();
+        let others = [fields::of_heads(), fields::of_records(&text)].concat();
+        for edit in [bytes_and_lines, others].concat().iter().step_by(37) {
+            let edited = edit.apply(&text);
+            let feed = FEEDS[count % 2];
+            hold(&edited, &plotreport(&edited), feed, &format!("{edit:?}"))?;
+            count += 1;
+        }
     }
     println!("{count} edited sheets");
     Ok(())

@@ -1,4 +1,4 @@
-//! The liveness entry and the input query under the rules of either year:
+//! The liveness entry and the input query under rules 1 and 2:
 //! by rules 1 the unchanged Rust, by rules 2 the restatement, on all small plots
 //! with lamps, on drawn ones and on every profile; and what the rules must leave
 //! as it is.
@@ -7,7 +7,7 @@ use checks::runs::{self, Seeds};
 use checks::{Alive, Counted, LivenessLists};
 use probe::capi::{self, Liveness, liveness};
 use probe::ports::port_connections;
-use scenes::limits::{LAST_RULES, RULES_OF_THE_RUST};
+use scenes::limits::{PASSIVE_LAMPS, RULES_OF_THE_RUST};
 use scenes::{Lent, Scene, bytes, lamps};
 
 fn by(rules: i64, scene: &Scene) -> LivenessLists {
@@ -107,7 +107,7 @@ impl Met {
     /// a lamp is a Solid to all that the entry answers.
     fn hold(&mut self, scene: &Scene, case: &str) {
         let old = answer(RULES_OF_THE_RUST, scene, case);
-        let new = answer(LAST_RULES, scene, case);
+        let new = answer(PASSIVE_LAMPS, scene, case);
         let case = format!("{case}{scene}");
         if lamps::holds_a_lamp(scene) {
             let solids = lamps::with_lamps_as(lamps::SOLID, scene);

@@ -137,6 +137,6 @@ fn the_checks_by_themselves() {
 fn within_one_mebibyte_of_stack() -> std::io::Result<()> {
     runs::within_one_mebibyte_of_stack(|| {
         let scene = Profile::Full.scene(3);
-        Unknown::default().call(3, &scene, 0, &"full, small stack");
+        Unknown::default().call(LAST_RULES + 1, &scene, 0, &"full, small stack");
     })
 }

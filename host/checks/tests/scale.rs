@@ -8,6 +8,7 @@
 use checks::scale::Run;
 use checks::{Alive, ByteLists, Counted, Groups, LivenessLists, Ports, Tally};
 use scenes::damage::{garbage, pair};
+use scenes::limits::LAST_RULES;
 use scenes::random::Random;
 use scenes::{Lent, Scene};
 
@@ -32,7 +33,7 @@ fn ports() {
 }
 
 /// The scene's own port connections, or those that are kept of its grouping
-/// connections; one scene of four by rules 2. The input query is asked on one
+/// connections; one scene of four by rules 2 and 3 in turn. The input query is asked on one
 /// scene of sixteen.
 #[test]
 #[ignore = "ten million scenes"]
@@ -41,7 +42,7 @@ fn liveness() {
     Run::asked_for().each("liveness", |scene, seed, case| {
         let mut lists = LivenessLists::of(scene);
         if seed % 4 == 3 {
-            lists.rules = 2;
+            lists.rules = 2 + i64::from(seed % 8 == 7);
         }
         if Random::new(seed).once_in(2) {
             let kept = oracle::ports(&scene.components, &scene.connections);
@@ -80,7 +81,7 @@ fn refusals() {
             let variants = lent.variants();
             lent = variants[random.below(variants.len())];
         }
-        let rules = [1, 1, 2, 3][usize::try_from(seed % 4).unwrap_or(0)];
+        let rules = [1, 2, LAST_RULES, LAST_RULES + 1][usize::try_from(seed % 4).unwrap_or(0)];
         tally.refusals_by(rules, &scene, &lent, &case);
         match random.below(3) {
             0 => groups.call(&ByteLists::of(&scene), &case),

@@ -16,8 +16,8 @@ use scenes::{Profile, Scene};
 /// Accepted where the slices are enough, else 2; nothing else.
 fn assert_all_reported(sheets: &Sheets, at_least: usize, title: &str) {
     sheets.assert_numbers_came_up(&[0, 2], title);
-    let refused = [1, 3, 4, 5, 6, 9].map(|number| sheets.count_of(number));
-    assert_eq!(refused, [0; 6], "{title}");
+    let refused = [1, 3, 4, 5, 6, 9, 11, 12].map(|number| sheets.count_of(number));
+    assert_eq!(refused, [0; 8], "{title}");
     assert!(sheets.sheets() >= at_least, "{title}");
 }
 
@@ -47,7 +47,10 @@ fn on_the_examples() -> io::Result<()> {
     let folder = PathBuf::from(env!("CARGO_MANIFEST_DIR")).join("../../examples");
     for entry in folder.read_dir()? {
         let path = entry?.path();
-        if path.extension().is_some_and(|it| it == "sheet") {
+        if path
+            .extension()
+            .is_some_and(|it| it == "sheet" || it == "short")
+        {
             let text = std::fs::read(&path)?;
             sheets.sheet_with_every_length(&text, Limits::PROGRAM, &path.display());
         }

@@ -19,8 +19,11 @@
 //!   table of who reaches whom, which can be printed.
 //! - [`what_if`] and [`what_if_joined`] find what one connection more would
 //!   change of either answer.
+//! - [`read_sheet`] reads the lists of a sheet, [`report`] marks one as the program
+//!   `plotreport` does, and [`convert`] writes it in its other form.
 //!
-//! Each takes the [`Rules`] first, by which year's rules the plot is marked.
+//! Each takes the [`Rules`] first, by which year's rules the plot is marked; a sheet
+//! has its own.
 //!
 //! Every list gets an answer or one [`Refusal`] with the place of the fault.
 //! Nothing here panics, and nothing is kept from call to call: every function
@@ -84,8 +87,10 @@ mod refusal;
 mod rows;
 mod rules;
 mod scene;
+mod sheet;
 mod trail;
 mod what_if;
+mod work;
 
 pub use clear::{Cleared, Dropped, Missing, clear};
 pub use codes::{BlockKind, ConnectionKind, Facing, Slope, TransferKind};
@@ -102,6 +107,7 @@ pub use reach_table::{ReachTable, reach_table};
 pub use refusal::{List, Place, Reason, Refusal};
 pub use rules::Rules;
 pub use scene::{Component, ComponentId, Connection, PortConnection, PortRef, Position};
+pub use sheet::{Form, Sheet, convert, read_sheet, report};
 pub use trail::{check_trail, trail};
 pub use what_if::{Change, ChangedInput, Joined, what_if, what_if_joined};
 

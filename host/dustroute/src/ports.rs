@@ -33,7 +33,9 @@ pub struct KeptConnection {
 /// The grouping connections that go from port to port, in order, each with the
 /// slope of its step. At either end it is the first port with the face of the
 /// step that also fits. A connection with an end that has no component, face or
-/// port is left out, and so is support. The rows are the same under all rules.
+/// port is left out, and so is support. Under rules 3 a device whose facing was
+/// left blank has fewer ports, see [`Rules`], so that the connections at them are
+/// left out; else the rows are the same under all rules.
 ///
 /// # Errors
 /// A list that is not as it must be.

@@ -5,7 +5,8 @@ use std::fmt;
 
 /// The first fault of the lists: the one with the lowest [`Reason`], at its
 /// earliest place, components before connections before frontiers. Unknown rules
-/// alone, which have a high number, come before all of these.
+/// alone, which have a high number, come before all of these. Of a sheet it is the
+/// first line that is not as it must be, and only then its lists.
 ///
 /// ```
 /// use dustroute::{BlockKind, Component, ComponentId, Position, Rules, groups};
@@ -24,12 +25,12 @@ pub struct Refusal {
     pub place: Option<Place>,
 }
 
-/// An item of a list.
+/// An item of a list, or a line of a sheet.
 #[derive(Clone, Copy, Debug, Eq, Hash, PartialEq)]
 pub struct Place {
     /// The list at fault.
     pub list: List,
-    /// The item at fault, from 0. Of the lists that [`groups`](crate::groups)
+    /// The item at fault, from 0: of [`List::Lines`] the line. Of the lists that [`groups`](crate::groups)
     /// and [`liveness`](crate::liveness) were handed there is always such an
     /// item: for [`Reason::Length`] the first beyond the limit, for
     /// [`Reason::ComponentOrder`], [`Reason::RepeatedId`] and
@@ -46,6 +47,8 @@ pub enum List {
     Connections,
     /// List 2.
     Frontiers,
+    /// List 3: no list, but the lines of a sheet, each as it stands there.
+    Lines,
 }
 
 impl fmt::Display for List {
@@ -54,6 +57,7 @@ impl fmt::Display for List {
             Self::Components => "components",
             Self::Connections => "connections",
             Self::Frontiers => "frontiers",
+            Self::Lines => "lines",
         })
     }
 }
@@ -65,7 +69,8 @@ pub enum Reason {
     /// [bytes](crate::bytes) can be).
     Length,
     /// 2: an output or work slice shorter than the worst case for these lists.
-    /// Only where slices are lent, by [`bytes`](crate::bytes).
+    /// Only where slices are lent, by [`bytes`](crate::bytes): those of a sheet are
+    /// made as long as they must be.
     ShortSlice,
     /// 3: a field outside its range. In typed lists only coordinates can be.
     OutOfRange,
@@ -82,20 +87,26 @@ pub enum Reason {
     /// port is no required input of it. Only of [`driven`](crate::driven),
     /// [`trail`](crate::trail) and [`check_trail`](crate::check_trail).
     NoVerdict,
+    /// 9: a line of a sheet that is not as it must be, that is missing, or that is
+    /// one too many. Only of sheets.
+    BadLine,
     /// 10: the input is not driven, so that no way leads to it. Only of
     /// [`trail`](crate::trail).
     NotDriven,
     /// 11: rules that are not known. Only where they are given by a number: by
-    /// [bytes](crate::bytes), and by [`Rules::try_from`](crate::Rules).
+    /// [bytes](crate::bytes), by [`Rules::try_from`](crate::Rules), and by the line
+    /// of a sheet, which is then its place.
     UnknownRules,
+    /// 12: the line `sheet=` has another number than 2. Only of sheets.
+    UnknownForm,
     /// No refusal: the answer is none that the library's contract allows, so
     /// the archive that was linked is not the one of this crate's version.
     Unreadable,
 }
 
 impl Reason {
-    /// The reasons that a list's entry gives, by rising number.
-    const ALL: [Self; 10] = [
+    /// The reasons that an entry gives, by rising number.
+    const ALL: [Self; 12] = [
         Self::Length,
         Self::ShortSlice,
         Self::OutOfRange,
@@ -104,9 +115,16 @@ impl Reason {
         Self::ConnectionOrder,
         Self::MissingEndpoint,
         Self::NoVerdict,
+        Self::BadLine,
         Self::NotDriven,
         Self::UnknownRules,
+        Self::UnknownForm,
     ];
+
+    /// Whether it is of a line wherever it is given.
+    const fn is_of_a_line(self) -> bool {
+        matches!(self, Self::BadLine | Self::UnknownForm)
+    }
 
     /// The number of the refusal, 0 for [`Reason::Unreadable`].
     #[must_use]
@@ -121,8 +139,10 @@ impl Reason {
             Self::ConnectionOrder => 6,
             Self::MissingEndpoint => 7,
             Self::NoVerdict => 8,
+            Self::BadLine => 9,
             Self::NotDriven => 10,
             Self::UnknownRules => 11,
+            Self::UnknownForm => 12,
         }
     }
 }
@@ -143,8 +163,10 @@ impl fmt::Display for Reason {
                  (`clear` drops such connections)"
             }
             Self::NoVerdict => "the port asked for is no required input",
+            Self::BadLine => "not the line that belongs there",
             Self::NotDriven => "the input asked for is not driven",
             Self::UnknownRules => "rules that are not known",
+            Self::UnknownForm => "a form of a sheet that is not known",
             Self::Unreadable => "the answer of an archive of another version",
         })
     }
@@ -178,10 +200,29 @@ impl Refusal {
         Some(Self::read(number, list, answer >> 16).unwrap_or(Self::UNREADABLE))
     }
 
+    /// The refusal that an entry of sheets answered: the rules, too, are those of a
+    /// line there.
+    pub(crate) fn of_sheet(answer: u64) -> Option<Self> {
+        let refusal = Self::of(answer)?;
+        if refusal.reason != Reason::UnknownRules {
+            return Some(refusal);
+        }
+        let line = usize::try_from(answer >> 16).map(|item| Self {
+            place: Some(Place {
+                list: List::Lines,
+                item,
+            }),
+            ..refusal
+        });
+        Some(line.unwrap_or(Self::UNREADABLE))
+    }
+
     fn read(number: u8, list: u8, item: u64) -> Option<Self> {
         let mut reasons = Reason::ALL.into_iter();
         let reason = reasons.find(|it| it.number() == number)?;
         let list = match list {
+            3 if reason.is_of_a_line() => List::Lines,
+            _ if reason.is_of_a_line() => return None,
             0 => List::Components,
             1 => List::Connections,
             2 => List::Frontiers,
@@ -203,8 +244,13 @@ impl fmt::Display for Refusal {
     fn fmt(&self, out: &mut fmt::Formatter<'_>) -> fmt::Result {
         let reason = self.reason;
         write!(out, "refusal {}", reason.number())?;
-        if let Some(Place { list, item }) = self.place {
-            write!(out, " at item {item} of the {list}")?;
+        match self.place {
+            Some(Place {
+                list: List::Lines,
+                item,
+            }) => write!(out, " at line {item}")?,
+            Some(Place { list, item }) => write!(out, " at item {item} of the {list}")?,
+            None => {}
         }
         write!(out, ": {reason}")
     }
@@ -219,17 +265,41 @@ mod tests {
 
     #[test]
     fn every_number_is_read() {
-        let numbers = [1, 2, 3, 4, 5, 6, 7, 8, 10, 11];
-        for (number, reason) in numbers.into_iter().zip(Reason::ALL) {
+        for (number, reason) in (1..=12).zip(Reason::ALL) {
             assert_eq!(reason.number(), number);
             let refusal = Refusal::of(u64::from(number) + 256 * 3);
-            assert_eq!(
-                refusal,
-                Some(Refusal {
-                    reason,
-                    place: None
-                })
-            );
+            let line = Place {
+                list: List::Lines,
+                item: 0,
+            };
+            let place = [9, 12].contains(&number).then_some(line);
+            assert_eq!(refusal, Some(Refusal { reason, place }));
+        }
+    }
+
+    /// What a sheet's line has told before stays as it was for a list's entry.
+    #[test]
+    fn lines_are_those_of_a_sheet() {
+        let said = |answer: u64| Refusal::of_sheet(answer).map(|it| it.to_string());
+        for (number, words) in [
+            (9, "not the line that belongs there"),
+            (11, "rules that are not known"),
+            (12, "a form of a sheet that is not known"),
+        ] {
+            for line in [0, 1, 65_535] {
+                let wanted = format!("refusal {number} at line {line}: {words}");
+                assert_eq!(said(number + 256 * 3 + 65_536 * line), Some(wanted));
+            }
+        }
+        for answer in [
+            0,
+            65_536 * 7,
+            2 + 256 * 3,
+            1 + 256 + 65_536 * 4_096,
+            9,
+            12 + 256,
+        ] {
+            assert_eq!(Refusal::of_sheet(answer), Refusal::of(answer));
         }
     }
 
@@ -256,7 +326,17 @@ mod tests {
 
     #[test]
     fn other_answers_are_unreadable() {
-        for answer in [9, 12, 255, 256, 1 + 256 * 4, 65_535, u64::MAX] {
+        for answer in [
+            9,
+            12,
+            9 + 256,
+            13 + 256 * 3,
+            255,
+            256,
+            1 + 256 * 4,
+            65_535,
+            u64::MAX,
+        ] {
             assert_eq!(Refusal::of(answer), Some(Refusal::UNREADABLE), "{answer}");
         }
         assert_eq!(Reason::Unreadable.number(), 0);

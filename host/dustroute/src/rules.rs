@@ -8,10 +8,15 @@ use crate::{Reason, Refusal};
 /// still taught from, so that every year's rules remain, and a caller says which
 /// are meant: none are taken for granted.
 ///
-/// They differ in lamps alone, and there only in what
-/// [`liveness`](crate::liveness) says of inferred inputs: of them, of what they
-/// would drive, and whether a required input awaits one. Nets, fragments, ports,
-/// regions, drive sources and what these drive are the same under all rules.
+/// Each year's rules have what those before it have. Rules 1 and 2 differ in lamps
+/// alone, and there only in what [`liveness`](crate::liveness) says of inferred
+/// inputs: of them, of what they would drive, and whether a required input awaits
+/// one. Rules 3 also take no blank facing for North: they differ from rules 2 in
+/// the ports of devices without a facing, so in what [`ports`](crate::ports) keeps
+/// of a plot, in which required inputs there are, and in the last block of a
+/// [`report`](crate::report). On the same port connections regions, sources and
+/// what these drive are the same under rules 2 and 3; nets and fragments are the
+/// same under all.
 ///
 /// ```
 /// use dustroute::{
@@ -61,11 +66,18 @@ pub enum Rules {
     /// either. So a wire that only a lamp feeds may be an inferred input. All
     /// else is as by number 1.
     Two,
+    /// Number 3: those of number 2, and a facing that was left blank is not read as
+    /// North. A [`Repeater`](crate::BlockKind::Repeater) or
+    /// [`Comparator`](crate::BlockKind::Comparator) without one has its support
+    /// port only, as port 0, and so no required input; a
+    /// [`Piston`](crate::BlockKind::Piston) has its four inputs only. Such devices
+    /// are listed at the end of a [`report`](crate::report).
+    Three,
 }
 
 impl Rules {
     /// All rules, by rising number.
-    pub const ALL: [Self; 2] = [Self::One, Self::Two];
+    pub const ALL: [Self; 3] = [Self::One, Self::Two, Self::Three];
 
     /// The number, as a sheet has it in its line `rules=` and as the calls on
     /// [bytes](crate::bytes) take it.
@@ -73,13 +85,14 @@ impl Rules {
     /// ```
     /// use dustroute::Rules;
     ///
-    /// assert_eq!(Rules::ALL.map(Rules::number), [1, 2]);
+    /// assert_eq!(Rules::ALL.map(Rules::number), [1, 2, 3]);
     /// ```
     #[must_use]
     pub const fn number(self) -> i64 {
         match self {
             Self::One => 1,
             Self::Two => 2,
+            Self::Three => 3,
         }
     }
 }
@@ -97,7 +110,7 @@ impl fmt::Display for Rules {
 /// use dustroute::{Reason, Rules};
 ///
 /// assert_eq!(Rules::try_from(2), Ok(Rules::Two));
-/// let refused = Rules::try_from(3);
+/// let refused = Rules::try_from(4);
 /// assert_eq!(refused.map_err(|refusal| refusal.reason), Err(Reason::UnknownRules));
 /// ```
 impl TryFrom<i64> for Rules {
@@ -123,8 +136,9 @@ mod tests {
         for rules in Rules::ALL {
             assert_eq!(Rules::try_from(rules.number()), Ok(rules));
         }
-        assert_eq!(Rules::ALL.map(|it| it.to_string()), ["rules 1", "rules 2"]);
-        assert!(Rules::One < Rules::Two);
+        let said = Rules::ALL.map(|it| it.to_string());
+        assert_eq!(said, ["rules 1", "rules 2", "rules 3"]);
+        assert!(Rules::One < Rules::Two && Rules::Two < Rules::Three);
     }
 
     /// Also those that a narrower number would take for a known one.
@@ -140,7 +154,7 @@ mod tests {
             -2,
             -1,
             0,
-            3,
+            4,
             257,
             (1 << 32) + 1,
             i64::MAX,

@@ -129,6 +129,7 @@ fn plain(refusal: Refusal) -> [u64; 3] {
         List::Components => 0,
         List::Connections => 1,
         List::Frontiers => 2,
+        List::Lines => 3,
     };
     [number, list, item as u64]
 }

@@ -111,7 +111,7 @@ impl Asked {
             ..
         } = &lists;
         // They go round, and nothing here depends on them.
-        let rules = Rules::ALL[(self.accepted % 2) as usize];
+        let rules = Rules::ALL[(self.accepted % 3) as usize];
         let lighting = light(rules, components, ports, frontiers);
         let whole = liveness(rules, components, ports, frontiers);
         let (lighting, whole) = match (lighting, whole) {

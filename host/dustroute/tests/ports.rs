@@ -17,7 +17,7 @@ use scenes::sized::Shape;
 use scenes::{Profile, Scene, exhaustive, refusals};
 use typed::Lists;
 
-/// No row depends on them.
+/// As by rules 1: `unread` has what rules 3 change.
 const RULES: Rules = Rules::Two;
 
 fn numbers(kept: &KeptConnection) -> [i64; 6] {
@@ -70,7 +70,7 @@ impl Asked {
             refusals::ports(RULES.number(), components, connections, usize::MAX),
         ) {
             (Ok(kept), None) => {
-                let wanted = paper::ports(components, connections);
+                let wanted = paper::ports(RULES.number(), components, connections);
                 let wanted = paper::sloped(components, &wanted);
                 let rows: Vec<[i64; 6]> = kept.iter().map(numbers).collect();
                 assert_eq!(rows, wanted, "{case}{scene}");
@@ -116,6 +116,7 @@ fn plain(refusal: Refusal) -> [u64; 3] {
         List::Components => 0,
         List::Connections => 1,
         List::Frontiers => 2,
+        List::Lines => 3,
     };
     [number, list, item as u64]
 }

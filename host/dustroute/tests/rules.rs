@@ -1,5 +1,5 @@
-//! The rules of two school years by the typed functions: what `liveness`
-//! says by either is the restatement's, and what must not depend on the rules does
+//! The rules of every school year by the typed functions: what `liveness` says by
+//! each is the restatement's, and what must not depend on rules 1 or 2 does
 //! not. By a number that is not known nothing is answered and nothing written.
 
 mod answers;
@@ -12,7 +12,7 @@ use dustroute::{
     SignalSourceKind, check_trail, clear, driven, groups, light, liveness, ports, reach_table,
     trail, what_if, what_if_joined,
 };
-use scenes::limits::{LAST_RULES, RULES_OF_THE_RUST};
+use scenes::limits::{LAST_RULES, PASSIVE_LAMPS, RULES_OF_THE_RUST, UNREAD_BLANKS};
 use scenes::{Profile, Scene, exhaustive, lamps};
 use typed::Lists;
 
@@ -39,13 +39,13 @@ fn plots(step: usize, drawn: u64) -> impl Iterator<Item = Named> {
 #[test]
 fn the_numbers_are_those_of_the_judge() {
     let numbers = Rules::ALL.map(Rules::number);
-    assert_eq!(numbers[0], RULES_OF_THE_RUST);
-    assert_eq!(numbers[1..], [LAST_RULES]);
+    assert_eq!(numbers, [RULES_OF_THE_RUST, PASSIVE_LAMPS, UNREAD_BLANKS]);
+    assert_eq!(numbers.last(), Some(&LAST_RULES));
 }
 
 #[test]
-fn liveness_by_either_is_the_restatement() {
-    let mut counts = [0_u64; 2];
+fn liveness_by_each_is_the_restatement() {
+    let mut counts = [0_u64; 3];
     for (lists, scene, case) in plots(3, 60_000) {
         for (rules, count) in Rules::ALL.into_iter().zip(&mut counts) {
             let Scene {
@@ -62,7 +62,7 @@ fn liveness_by_either_is_the_restatement() {
             *count += 1;
         }
     }
-    println!("typed liveness by rules 1 and 2: {counts:?} scenes");
+    println!("typed liveness by rules 1, 2 and 3: {counts:?} scenes");
     assert!(counts.iter().all(|count| *count > 100_000));
 }
 
@@ -221,7 +221,7 @@ fn unknown_numbers_are_refused() {
         reason: Reason::UnknownRules,
         place: None,
     };
-    let numbers = [i64::MIN, -1, 0, 3, 4, 256 + 1, (1 << 32) + 1, i64::MAX];
+    let numbers = [i64::MIN, -1, 0, 4, 5, 256 + 1, (1 << 32) + 1, i64::MAX];
     for rules in numbers {
         assert_eq!(Rules::try_from(rules), Err(refusal));
         for length in [0, 7, 64, 64 * 1_025 + 3] {

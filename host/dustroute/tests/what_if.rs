@@ -33,7 +33,7 @@ fn on_profiles(mut check: impl FnMut(&Lists, &mut Random, &str)) {
 
 /// They go round with the lists.
 const fn rules(lists: &Lists) -> Rules {
-    Rules::ALL[lists.components.len() % 2]
+    Rules::ALL[lists.components.len() % 3]
 }
 
 /// Mostly a component's, else any.

@@ -4,11 +4,12 @@
 //! They follow the paper's words rule by rule, and the answers have the shape
 //! of the crate `oracle`, so that the unchanged Rust can be held to the paper.
 //! Only the channels of ports are taken from the Rust, where the paper itself
-//! points to it. A report prints the Rust's own answers, but for slopes, which
-//! the Rust does not have.
+//! points to it. A report by rules 1 prints the Rust's own answers, but for slopes,
+//! which the Rust does not have.
 
 mod groups;
 mod liveness;
+pub mod parse;
 mod ports;
 pub mod program;
 pub mod report;
@@ -17,4 +18,4 @@ mod walk;
 
 pub use groups::{greatest_ranks, groups};
 pub use liveness::liveness;
-pub use ports::{ports, ports_of, sloped};
+pub use ports::{is_unread, ports, ports_of, sloped};

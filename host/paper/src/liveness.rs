@@ -3,16 +3,13 @@
 use std::collections::BTreeSet;
 
 use oracle::{Input, Liveness, Region};
-use scenes::limits::{COMPONENT, FRONTIER, PORT_CONNECTION, SUPPORT};
+use scenes::limits::{COMPONENT, FRONTIER, PASSIVE_LAMPS, PORT_CONNECTION, SUPPORT};
 
 use super::ports::ports_of;
 use super::walk::{Edges, regions, spread};
 
 const WIRE: i64 = 0;
 const TORCH: i64 = 3;
-
-/// The first rules by which a lamp is passed over like a Solid.
-const PASSIVE_LAMPS: i64 = 2;
 
 /// What is no external feed: Solid and Transparent, and from rules 2 on a lamp.
 const fn is_passive(rules: i64, kind: i64) -> bool {
@@ -175,8 +172,9 @@ impl<'a> Plot<'a> {
         }
     }
 
-    /// Input ports of devices, and the torch's Control.
-    fn verdicts(&self, sets: &[Vec<bool>; 3]) -> Vec<Input> {
+    /// Input ports of devices, and the torch's Control. A device without such a
+    /// port has no row.
+    fn verdicts(&self, rules: i64, sets: &[Vec<bool>; 3]) -> Vec<Input> {
         let mut rows = Vec::new();
         for &member in &self.listed {
             let kind = self.kind(member);
@@ -184,7 +182,7 @@ impl<'a> Plot<'a> {
                 continue;
             }
             let role = if kind == TORCH { 3 } else { 0 };
-            let ports = ports_of(self.records[member]).concat();
+            let ports = ports_of(rules, self.records[member]).concat();
             let asked = (0..).zip(ports).filter(|(_, port)| port[0] == role);
             rows.extend(asked.map(|(port, _)| self.verdict(member, port, sets)));
         }
@@ -237,6 +235,6 @@ pub fn liveness(
         sources: plot.source_rows(&sources, &sets[2]),
         drive: plot.ids(&sets[0]),
         potential: plot.ids(&sets[1]),
-        inputs: plot.verdicts(&sets),
+        inputs: plot.verdicts(rules, &sets),
     }
 }

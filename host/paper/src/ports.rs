@@ -2,7 +2,7 @@
 
 use std::collections::BTreeMap;
 
-use scenes::limits::{COMPONENT, CONNECTION};
+use scenes::limits::{COMPONENT, CONNECTION, UNREAD_BLANKS};
 
 const INPUT: i64 = 0;
 const OUTPUT: i64 = 1;
@@ -59,10 +59,31 @@ fn repeater(facing: i64) -> Vec<Port> {
     ports
 }
 
-/// The ports of one component.
-fn of(record: &[i64]) -> Vec<Port> {
+/// Repeater, Comparator and Piston.
+const TURNING: [i64; 3] = [1, 2, PISTON];
+const PISTON: i64 = 8;
+
+/// Whether a device has no facing under rules by which that is not taken as North.
+#[must_use]
+pub fn is_unread(rules: i64, record: &[i64]) -> bool {
+    rules >= UNREAD_BLANKS && record[5] == 0 && TURNING.contains(&record[4])
+}
+
+/// "Facing 0 gives a Repeater or Comparator its Support port only, as port 0, and
+/// gives a Piston its four Inputs only."
+fn unread(kind: i64) -> Vec<Port> {
+    if kind == PISTON {
+        four(INPUT, SIGNAL)
+    } else {
+        vec![[SUPPORT, DOWN, STRUCTURAL]]
+    }
+}
+
+/// The ports of one component, under the rules of a number.
+fn of(rules: i64, record: &[i64]) -> Vec<Port> {
     let (facing, support, conducts) = (record[5], record[6], record[7]);
     match record[4] {
+        kind if is_unread(rules, record) => unread(kind),
         0 => {
             let mut ports = six(SIGNAL);
             ports.push([SUPPORT, DOWN, STRUCTURAL]);
@@ -75,7 +96,7 @@ fn of(record: &[i64]) -> Vec<Port> {
             ports
         }
         4..=7 => four(OUTPUT, STRONG),
-        8 => {
+        PISTON => {
             let mut ports = four(INPUT, SIGNAL);
             ports.push([OUTPUT, or(facing, NORTH), MECHANICAL]);
             ports
@@ -87,8 +108,9 @@ fn of(record: &[i64]) -> Vec<Port> {
 
 /// The ports of each component.
 #[must_use]
-pub fn ports_of(components: &[i64]) -> Vec<Vec<Port>> {
-    components.chunks_exact(COMPONENT).map(of).collect()
+pub fn ports_of(rules: i64, components: &[i64]) -> Vec<Vec<Port>> {
+    let records = components.chunks_exact(COMPONENT);
+    records.map(|record| of(rules, record)).collect()
 }
 
 /// The face of a step, sink minus source.
@@ -116,8 +138,8 @@ fn slope(source: &[i64], sink: &[i64]) -> i64 {
 }
 
 /// The first port with the face that also fits.
-fn choose(record: &[i64], face: i64, fits: impl Fn(Port) -> bool) -> Option<i64> {
-    let ports = of(record).into_iter().zip(0..);
+fn choose(rules: i64, record: &[i64], face: i64, fits: impl Fn(Port) -> bool) -> Option<i64> {
+    let ports = of(rules, record).into_iter().zip(0..);
     let mut fitting = ports.filter(|(port, _)| port[1] == face && fits(*port));
     fitting.next().map(|(_, number)| number)
 }
@@ -162,13 +184,13 @@ pub fn sloped(components: &[i64], kept: &[[i64; 5]]) -> Vec<[i64; 6]> {
 
 /// The connections that are kept, in order.
 #[must_use]
-pub fn ports(components: &[i64], connections: &[i64]) -> Vec<[i64; 5]> {
+pub fn ports(rules: i64, components: &[i64], connections: &[i64]) -> Vec<[i64; 5]> {
     let by_id = by_id(components);
     let keep = |row: &[i64]| {
         let (source, sink, kind) = (by_id.get(&row[0])?, by_id.get(&row[1])?, row[2]);
         let face = face(source, sink)?;
-        let out = choose(source, face, |port| fits_source(kind, port))?;
-        let into = choose(sink, opposite(face), |port| fits_sink(kind, port))?;
+        let out = choose(rules, source, face, |port| fits_source(kind, port))?;
+        let into = choose(rules, sink, opposite(face), |port| fits_sink(kind, port))?;
         let transfer = TRANSFERS[usize::try_from(kind).ok()?];
         Some([row[0], out, row[1], into, transfer])
     };

@@ -4,9 +4,10 @@ use std::fmt::{Display, Write};
 
 use oracle::{Groups, Input, Liveness};
 use scenes::Refusal;
-use scenes::limits::COMPONENT;
+use scenes::limits::{COMPONENT, RULES_OF_THE_RUST, UNREAD_BLANKS};
 
-use crate::sloped;
+use crate::ports::is_unread;
+use crate::{liveness, ports, sloped};
 
 const COMPONENT_KEYS: [&str; 6] = ["id", "net", "fragment", "region", "drive", "potential"];
 const CONNECTION_KEYS: [&str; 6] = [
@@ -70,10 +71,27 @@ fn component_rows(components: &[i64], groups: &Groups, alive: &Liveness) -> Vec<
     ids.zip(numbers).map(row).collect()
 }
 
+/// "Such devices are listed in the report's last block, `unread=` with a count and
+/// then an `id=` line each in list order. Rules 1 and 2 print no such block."
+fn unread(text: &mut String, rules: i64, components: &[i64]) {
+    if rules >= UNREAD_BLANKS {
+        let records = components.chunks_exact(COMPONENT);
+        let unread = records.filter(|record| is_unread(rules, record));
+        let rows: Vec<[i64; 1]> = unread.map(|record| [record[0]]).collect();
+        block(text, "unread", &["id"], &rows);
+    }
+}
+
 /// The report of a scene of these components, of which these are the groups,
 /// the kept port connections and the analysis.
 #[must_use]
-pub fn print(components: &[i64], groups: &Groups, kept: &[[i64; 5]], alive: &Liveness) -> Vec<u8> {
+pub fn print(
+    rules: i64,
+    components: &[i64],
+    groups: &Groups,
+    kept: &[[i64; 5]],
+    alive: &Liveness,
+) -> Vec<u8> {
     let mut text = String::new();
     line(&mut text, "answer", 0);
     let rows = component_rows(components, groups, alive);
@@ -89,16 +107,25 @@ pub fn print(components: &[i64], groups: &Groups, kept: &[[i64; 5]], alive: &Liv
     for row in &alive.inputs {
         input(&mut text, row);
     }
+    unread(&mut text, rules, components);
     text.into_bytes()
 }
 
-/// The report of a scene by the unchanged Rust's answers, slopes aside.
+/// The report of a scene: by rules 1 of the unchanged Rust's answers, slopes
+/// aside; by others of its groups and of the restatement.
 #[must_use]
-pub fn report(components: &[i64], connections: &[i64], frontiers: &[i64]) -> Vec<u8> {
+pub fn report(rules: i64, components: &[i64], connections: &[i64], frontiers: &[i64]) -> Vec<u8> {
     let groups = oracle::groups(components, connections);
-    let kept = oracle::ports(components, connections);
-    let alive = oracle::liveness(components, &kept.concat(), frontiers);
-    print(components, &groups, &kept, &alive)
+    let (kept, alive) = if rules == RULES_OF_THE_RUST {
+        let kept = oracle::ports(components, connections);
+        let alive = oracle::liveness(components, &kept.concat(), frontiers);
+        (kept, alive)
+    } else {
+        let kept = ports(rules, components, connections);
+        let alive = liveness(rules, components, &kept.concat(), frontiers);
+        (kept, alive)
+    };
+    print(rules, components, &groups, &kept, &alive)
 }
 
 /// What is printed of a refusal.

@@ -11,11 +11,15 @@ fn hold(scene: &Scene, case: &str) {
     assert_eq!(groups, paper::groups(list, connections), "{case}{scene}");
     assert_eq!(
         oracle::ports_of(list),
-        paper::ports_of(list),
+        paper::ports_of(RULES_OF_THE_RUST, list),
         "{case}{scene}"
     );
     let kept = oracle::ports(list, connections);
-    assert_eq!(kept, paper::ports(list, connections), "{case}{scene}");
+    assert_eq!(
+        kept,
+        paper::ports(RULES_OF_THE_RUST, list, connections),
+        "{case}{scene}"
+    );
     for ports in [&scene.ports, &kept.concat()] {
         let wanted = paper::liveness(RULES_OF_THE_RUST, list, ports, &scene.frontiers);
         let given = oracle::liveness(list, ports, &scene.frontiers);
@@ -54,7 +58,10 @@ fn every_block_has_the_ports_of_the_paper() {
             for support in 0..=LAST_FACE {
                 for conducts in 0..=1 {
                     let block = [0, 0, 0, 0, kind, facing, support, conducts];
-                    assert_eq!(oracle::ports_of(&block), paper::ports_of(&block));
+                    assert_eq!(
+                        oracle::ports_of(&block),
+                        paper::ports_of(RULES_OF_THE_RUST, &block)
+                    );
                     count += 1;
                 }
             }
@@ -75,7 +82,7 @@ fn every_step_between_two_blocks_agrees() {
             for kind in 0..10 {
                 let scene = two_blocks(step, kinds, kind, random);
                 let given = oracle::ports(&scene.components, &scene.connections);
-                let wanted = paper::ports(&scene.components, &scene.connections);
+                let wanted = paper::ports(RULES_OF_THE_RUST, &scene.components, &scene.connections);
                 assert_eq!(given, wanted, "step {step:?}{scene}");
                 count += 1;
             }

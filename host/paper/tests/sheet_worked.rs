@@ -1,11 +1,13 @@
 //! The restatement of sheets and reports, on the scope paper's worked example
 //! and on cases worked out by hand.
 
+use paper::parse::{Parsed, parse};
 use paper::program::{BUFFER, plotreport};
 use paper::report::{print, report};
-use paper::sheet::{Left, Sheet, SheetLent, parse, write_sheet};
+use paper::sheet::{Left, Sheet, SheetLent};
 use scenes::limits::RULES_OF_THE_RUST;
-use scenes::sheets::{Limits, sheet_of, within};
+use scenes::sheets::forms::Form;
+use scenes::sheets::{Limits, sheet_of, within, write_sheet};
 use scenes::{Profile, Refusal, Scene, exhaustive};
 
 const LEVER_AND_REPEATER: &str = "\
@@ -68,7 +70,12 @@ fn lever_and_repeater_is_printed_byte_for_byte() {
         connections: connections.to_vec(),
         ..Scene::default()
     };
-    assert_eq!(sheet, Sheet::Sound(scene, wanted.clone()));
+    let said = Parsed {
+        form: Form::Old,
+        rules: RULES_OF_THE_RUST,
+        scene,
+    };
+    assert_eq!(sheet, Sheet::Sound(said, wanted.clone()));
     assert_eq!(plotreport(text), wanted);
 }
 
@@ -182,18 +189,15 @@ fn a_long_sheet_comes_before_all_else() {
 fn hold(scene: &Scene, case: &str) {
     let text = sheet_of(scene);
     let wanted = within(Limits::NONE, scene);
-    assert_eq!(parse(&text, Limits::NONE), Ok(wanted), "{case}{scene}");
+    let said = parse(&text, Limits::NONE).map(|parsed| parsed.scene);
+    assert_eq!(said, Ok(wanted), "{case}{scene}");
     let (components, connections) = (&scene.components, &scene.connections);
-    let kept = paper::ports(components, connections);
-    let alive = paper::liveness(
-        RULES_OF_THE_RUST,
-        components,
-        &kept.concat(),
-        &scene.frontiers,
-    );
+    let rules = RULES_OF_THE_RUST;
+    let kept = paper::ports(rules, components, connections);
+    let alive = paper::liveness(rules, components, &kept.concat(), &scene.frontiers);
     let groups = paper::groups(components, connections);
-    let by_the_paper = print(components, &groups, &kept, &alive);
-    let given = report(components, connections, &scene.frontiers);
+    let by_the_paper = print(rules, components, &groups, &kept, &alive);
+    let given = report(rules, components, connections, &scene.frontiers);
     assert!(given == by_the_paper, "{case}{scene}");
 }
 

@@ -13,6 +13,7 @@ pub mod entries;
 pub mod ports;
 pub mod query;
 pub mod report;
+pub mod sheets;
 
 mod raw {
     //! A slice passes as a pointer and then a length in numbers.

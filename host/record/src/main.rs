@@ -1,6 +1,6 @@
 //! Writes the recorded answers into the folder that is named first, a report
-//! beside each sheet of the folder that is named second, and what the program
-//! `replay` reads into the file that is named third.
+//! and the shorter form beside each sheet of the folder that is named second, and
+//! what the program `replay` reads into the file that is named third.
 
 use std::path::Path;
 use std::process::ExitCode;
@@ -22,6 +22,11 @@ fn write_reports(folder: &Path) -> std::io::Result<()> {
         let path = examples::report_path(&sheet);
         std::fs::write(&path, examples::report(&sheet)?)?;
         println!("{}", path.display());
+        if let Some(text) = examples::turned(&sheet)? {
+            let path = examples::short_path(&sheet);
+            std::fs::write(&path, text)?;
+            println!("{}", path.display());
+        }
     }
     Ok(())
 }

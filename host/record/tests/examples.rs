@@ -1,11 +1,14 @@
 //! Each sheet under `examples/` has the report beside it that the unchanged
-//! Rust's answers give, and no report stands alone.
+//! Rust's answers give, by rules 1, and the restatement's, by others; each that is
+//! accepted also the shorter form, with the same report. No report and no shorter
+//! form stands alone.
 
 use std::collections::BTreeSet;
 use std::io;
 use std::path::PathBuf;
 
 use record::examples;
+use scenes::sheets::forms::there_and_back;
 
 fn folder() -> PathBuf {
     PathBuf::from(env!("CARGO_MANIFEST_DIR")).join("../../examples")
@@ -23,10 +26,35 @@ fn each_sheet_has_its_report() -> io::Result<()> {
         let is_accepted = kept.starts_with(b"answer=0\n");
         assert_ne!(is_refused, is_accepted, "{}", sheet.display());
         accepted += usize::from(is_accepted);
-        numbers.extend(kept.get("answer=".len()).copied());
+        let answer = String::from_utf8_lossy(&kept).into_owned();
+        let answer = answer.lines().next().map(str::to_string);
+        numbers.extend(answer);
     }
     println!("{} sheets, {accepted} of them accepted", sheets.len());
-    assert!(numbers.is_superset(&BTreeSet::from(*b"0134569")));
+    for number in [0, 1, 3, 4, 5, 6, 9, 11, 12] {
+        assert!(numbers.contains(&format!("answer={number}")), "{number}");
+    }
+    Ok(())
+}
+
+#[test]
+fn each_accepted_sheet_has_its_shorter_form() -> io::Result<()> {
+    let mut wanted = Vec::new();
+    for sheet in examples::sheets(&folder())? {
+        let Some(text) = examples::turned(&sheet)? else {
+            continue;
+        };
+        let short = examples::short_path(&sheet);
+        assert!(std::fs::read(&short)? == text, "{}", short.display());
+        let same = examples::report(&short)? == examples::report(&sheet)?;
+        assert!(same, "{}", short.display());
+        let back = examples::turned(&short)?;
+        let own = std::fs::read(&sheet)?;
+        assert!(back.as_deref() == Some(there_and_back(&own)));
+        wanted.push(short);
+    }
+    println!("{} shorter forms", wanted.len());
+    assert_eq!(examples::shorts(&folder())?, wanted);
     Ok(())
 }
 

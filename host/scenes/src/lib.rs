@@ -4,6 +4,7 @@
 //! Everything here is plain Rust over flat lists of numbers and depends on no
 //! other crate, so that it can stand as a judge beside other code.
 
+pub mod blanks;
 pub mod bytes;
 pub mod damage;
 mod draft;

@@ -27,7 +27,11 @@ pub const SOURCES_EACH: usize = 2;
 pub const INPUTS_EACH: usize = 4;
 
 /// The greatest rules number; the least is 1.
-pub const LAST_RULES: i64 = 2;
+pub const LAST_RULES: i64 = 3;
+/// The first rules by which a lamp is passed over like a Solid.
+pub const PASSIVE_LAMPS: i64 = 2;
+/// The first rules by which a facing of none is not taken as North.
+pub const UNREAD_BLANKS: i64 = 3;
 /// The rules by which the unchanged Rust marks.
 pub const RULES_OF_THE_RUST: i64 = 1;
 

@@ -3,7 +3,7 @@
 use scenes::limits::{
     COMPONENT, COMPONENTS, CONNECTION, CONNECTIONS, FRONTIER, FRONTIERS, LAST_RULES,
 };
-use scenes::{Lent, Profile, Scene, exhaustive, lamps, refusals};
+use scenes::{Lent, Profile, Scene, blanks, exhaustive, lamps, refusals};
 
 fn assert_valid(scene: &Scene, name: &str, seed: u64) {
     let lent = Lent::enough(scene);
@@ -97,4 +97,25 @@ fn full_scenes_are_full() {
         .map(|seed| Profile::DeepMerge.scene(seed).components.len() / COMPONENT)
         .collect();
     assert!(sizes.contains(&COMPONENTS));
+}
+
+#[test]
+fn plots_with_blank_facings_are_valid() {
+    let (mut count, mut with) = (0, 0_u64);
+    for scene in blanks::pairs() {
+        assert_valid(&scene, "pair", count);
+        with += u64::from(blanks::holds_a_blank(&scene));
+        count += 1;
+    }
+    println!("{count} pairs, {with} with a device that nobody saw");
+    assert_eq!(count, 3 * 7 * (10 + 3 * 7) * 7 * 2);
+    let mut drawn = 0_u64;
+    for seed in 0..20_000 {
+        let scene = blanks::scene(seed);
+        assert_valid(&scene, "drawn plot with blank facings", seed);
+        drawn += u64::from(blanks::holds_a_blank(&scene));
+        let seen = blanks::with_blanks_as(4, &scene);
+        assert!(!blanks::holds_a_blank(&seen));
+    }
+    assert!(with > 1_000 && drawn > 10_000);
 }

@@ -50,7 +50,15 @@ fn nothing_is_accepted() {
 fn unknown_rules_come_before_all_else() {
     let long = vec![-1; 8 * 1_025 + 1];
     let none = Lent::default();
-    for rules in [i64::MIN, -1, 0, 3, 257, (1 << 32) + 1, i64::MAX] {
+    for rules in [
+        i64::MIN,
+        -1,
+        0,
+        LAST_RULES + 1,
+        257,
+        (1 << 32) + 1,
+        i64::MAX,
+    ] {
         for list in [&[][..], &[7], &long] {
             let all = [
                 grouping(rules, list, list, 0, 0),

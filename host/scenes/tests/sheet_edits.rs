@@ -8,8 +8,10 @@ use scenes::limits::LAST_RULES;
 use scenes::random::Random;
 use scenes::refusals::sheet_lists;
 use scenes::sheets::edits::{Edit, drawn, of_bytes, of_counts, of_lines};
+use scenes::sheets::fields::{of_heads, of_records};
+use scenes::sheets::forms::{Form, spelled_out, there_and_back, write_form};
 use scenes::sheets::lengths::{MOST_DIGITS, dense_scene, sheet_of_length};
-use scenes::sheets::{Limits, sheet_of, within, write_sheet};
+use scenes::sheets::{Limits, drawn as sheets, sheet_of, within, write_sheet};
 
 const TEXT: &[u8] = b"components=0\nconnections=1\nsource=3\nsink=-4\nkind=5\nfrontiers=0\n";
 
@@ -71,6 +73,76 @@ fn edits_of_lines() {
     is(Edit::Swap { line }, "sink=-4\n");
     assert_eq!(Edit::Swap { line: 5 }.apply(TEXT), TEXT);
     assert!(edited(Edit::Behind { text: "x" }).ends_with("frontiers=0\nx"));
+}
+
+const SHORT: &[u8] = b"sheet=2\nrules=7\ncomponents=0\nconnections=1\nn=3,-4,5\nfrontiers=0\n";
+
+#[test]
+fn a_record_of_the_shorter_form_is_a_line() {
+    let scene = Scene {
+        connections: vec![3, -4, 5],
+        ..Scene::default()
+    };
+    assert_eq!(write_form(Form::Short, 7, &scene), SHORT);
+    assert_eq!(write_form(Form::Old, 1, &scene), TEXT);
+    let spelled = spelled_out(1, &scene);
+    assert_eq!(spelled, [b"rules=1\n", TEXT].concat());
+    assert_eq!(
+        write_form(Form::Old, -2, &scene),
+        [b"rules=-2\n", TEXT].concat()
+    );
+    assert_eq!(there_and_back(&spelled), TEXT);
+    assert_eq!(there_and_back(SHORT), SHORT);
+}
+
+#[test]
+fn edits_of_records() {
+    let is = |edit: Edit, wanted: &str| {
+        let text = String::from_utf8_lossy(&edit.apply(SHORT)).into_owned();
+        assert_eq!(text.lines().nth(4), Some(wanted));
+    };
+    let (line, field) = (4, 1);
+    let spelling = "01";
+    is(
+        Edit::Field {
+            line,
+            field,
+            spelling,
+        },
+        "n=3,01,5",
+    );
+    is(Edit::NoField { line, field }, "n=3,5");
+    is(Edit::NoField { line, field: 0 }, "n=-4,5");
+    is(Edit::NoField { line, field: 3 }, "n=3,-4,5");
+    let all = of_records(SHORT);
+    assert!(all.len() > 40 && of_records(TEXT).is_empty());
+    let texts: BTreeSet<Vec<u8>> = all.iter().map(|edit| edit.apply(SHORT)).collect();
+    assert!(texts.len() > all.len() * 4 / 5 && of_heads().len() > 80);
+}
+
+/// Every form under every rules number, and old sheets that spell out rules 1.
+#[test]
+fn sheets_are_drawn_in_both_forms_under_all_rules() {
+    let (mut met, mut spelled) = (BTreeSet::new(), 0);
+    for seed in 0..600 {
+        let sheet = sheets::sheet(seed);
+        met.insert((sheet.form.number(), sheet.rules));
+        spelled += usize::from(sheet.text.starts_with(b"rules=1\n"));
+        let Scene {
+            components,
+            connections,
+            frontiers,
+            ..
+        } = &sheet.scene;
+        assert_eq!(
+            sheet_lists(sheet.rules, components, connections, frontiers),
+            None
+        );
+        let text = write_form(sheet.form, sheet.rules, &sheet.scene);
+        assert_eq!(there_and_back(&sheet.text), text, "sheet seed {seed}");
+    }
+    assert_eq!(met.len(), 2 * usize::try_from(LAST_RULES).unwrap_or(0));
+    assert!(spelled > 10);
 }
 
 #[test]

@@ -9,7 +9,10 @@ use checks::{ByteLists, LivenessLists};
 use dustroute::bytes::{self, Lent};
 use probe::ports::port_connections;
 use probe::query::{Asked, input_refusal};
+use probe::sheets::{convert, report, sheet};
 use scenes::limits::{COMPONENT, LAST_RULES};
+use scenes::sheets::forms::{Form, write_form};
+use scenes::sheets::{Limits, lists};
 use scenes::{Profile, Scene};
 
 /// A slice of its own on the heap.
@@ -76,9 +79,36 @@ fn asked(scene: &Scene) -> bool {
     input_refusal(&asked, &mut stack).is_none_or(|refusal| refusal.number == 8)
 }
 
+/// Bytes that are enough for the report of any scene here.
+const REPORT: usize = 1 << 22;
+
+/// Lists, report and the other form of the scene's sheet in a form; the lists and
+/// the other form have just room enough.
+fn sheeted(form: Form, scene: &Scene) -> bool {
+    let text = write_form(form, LAST_RULES, scene).into_boxed_slice();
+    let other = write_form(form.other(), LAST_RULES, scene).len();
+    let work = || lists(scene).map(|list| room(list.len(), -1));
+    let (mut first, mut second, mut third) = (work(), work(), work());
+    let limits = Limits::SCENE.each();
+    let read = sheet(&text, first.each_mut().map(|it| &mut **it), &mut room(2, 9));
+    let out = &mut room(REPORT, 0xa5);
+    let told = report(&text, limits, second.each_mut().map(|it| &mut **it), out);
+    let out = &mut room(other, 0xa5);
+    let turned = convert(&text, limits, third.each_mut().map(|it| &mut **it), out);
+    read.is_ok() && told.is_ok() && turned.is_ok()
+}
+
+fn old_sheet(scene: &Scene) -> bool {
+    sheeted(Form::Old, scene)
+}
+
+fn short_sheet(scene: &Scene) -> bool {
+    sheeted(Form::Short, scene)
+}
+
 /// Every entry on scenes of every profile, and refused with a number missing.
 fn main() -> ExitCode {
-    let entries = [grouped, analyzed, connected, asked];
+    let entries = [grouped, analyzed, connected, asked, old_sheet, short_sheet];
     let (mut accepted, mut refused) = (0, 0);
     for profile in Profile::ALL {
         for seed in 0..2 {

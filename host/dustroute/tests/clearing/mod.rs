@@ -149,7 +149,7 @@ pub struct Asked {
 impl Asked {
     /// The rules go round, and nothing depends on them.
     fn rules(&self) -> Rules {
-        Rules::ALL[(self.calls % 2) as usize]
+        Rules::ALL[(self.calls % 3) as usize]
     }
 
     /// A call with dirty slices in a margin: the answer, both slices at exit,

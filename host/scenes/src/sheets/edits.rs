@@ -25,6 +25,14 @@ pub enum Edit {
     Grow { line: usize, by: i64 },
     /// The key of a line is another.
     Key { line: usize, key: &'static str },
+    /// One of the numbers between commas is spelt so.
+    Field {
+        line: usize,
+        field: usize,
+        spelling: &'static str,
+    },
+    /// One of them is left out, with its comma.
+    NoField { line: usize, field: usize },
     /// What stands between key and value.
     Sign { line: usize, sign: &'static str },
     /// A line ends in something else than LF.
@@ -42,17 +50,19 @@ pub enum Edit {
 }
 
 /// Bytes that may matter where another belongs: digits, signs, ends of lines,
-/// blanks, and the first and last byte.
-const BYTES: [u8; 14] = *b"0159-+=\n\r \t\0\xffx";
+/// commas, blanks, and the first and last byte.
+const BYTES: [u8; 15] = *b"0159-+=,\n\r \t\0\xffx";
 
 /// Spellings of a value, good and bad.
-const SPELLINGS: [&str; 52] = [
+const SPELLINGS: [&str; 54] = [
     "",
     "-",
     "+",
     "0",
     "1",
     "2",
+    "3",
+    "4",
     "9",
     "10",
     "13",
@@ -102,8 +112,12 @@ const SPELLINGS: [&str; 52] = [
 ];
 
 /// Keys that are another's, or nearly right.
-const KEYS: [&str; 20] = [
+const KEYS: [&str; 24] = [
     "",
+    "rules",
+    "sheet",
+    "c",
+    "f",
     "id",
     "x",
     "y",
@@ -129,7 +143,15 @@ const SIGNS: [&str; 6] = ["", "==", ":", " =", "= ", "\n"];
 
 const ENDS: [&str; 7] = ["", "\r\n", "\r", " \n", "\n\n", "\0\n", ";\n"];
 
-const BEFORE: [&str; 5] = ["\n", "\r\n", "x=0\n", "#\n", "\u{feff}"];
+const BEFORE: [&str; 7] = [
+    "\n",
+    "\r\n",
+    "x=0\n",
+    "#\n",
+    "\u{feff}",
+    "rules=2\n",
+    "sheet=2\n",
+];
 
 const BEHIND: [&str; 9] = [
     "\n",
@@ -158,6 +180,19 @@ fn parts(line: &[u8]) -> (&[u8], &[u8]) {
         Some(sign) => (&line[..sign], &line[sign + 1..]),
         None => (line, b""),
     }
+}
+
+/// A value whose numbers between commas are others: the one at a place, or none.
+fn with_field(value: &[u8], place: usize, to: Option<&str>) -> Vec<u8> {
+    let mut fields: Vec<&[u8]> = value.split(|byte| *byte == b',').collect();
+    match to {
+        _ if place >= fields.len() => {}
+        Some(spelling) => fields[place] = spelling.as_bytes(),
+        None => {
+            fields.remove(place);
+        }
+    }
+    fields.join(&b',')
 }
 
 fn line_of(key: &[u8], sign: &[u8], value: &[u8], end: &[u8]) -> Vec<u8> {
@@ -216,6 +251,20 @@ impl Edit {
             Self::Grow { line, by } => {
                 let (key, value) = parts_of(line)?;
                 (line, line_of(key, b"=", &grown(value, by), b"\n"))
+            }
+            Self::Field {
+                line,
+                field,
+                spelling,
+            } => {
+                let (key, value) = parts_of(line)?;
+                let value = with_field(value, field, Some(spelling));
+                (line, line_of(key, b"=", &value, b"\n"))
+            }
+            Self::NoField { line, field } => {
+                let (key, value) = parts_of(line)?;
+                let value = with_field(value, field, None);
+                (line, line_of(key, b"=", &value, b"\n"))
             }
             Self::Key { line, key } => {
                 let (_, value) = parts_of(line)?;

@@ -1,7 +1,10 @@
 //! Sheets: three lists written as lines `key=value`, and the limits that a
 //! caller sets to their counts.
 
+pub mod drawn;
 pub mod edits;
+pub mod fields;
+pub mod forms;
 pub mod lengths;
 
 use std::fmt::Write;
@@ -74,14 +77,18 @@ pub const fn lists(scene: &Scene) -> [&Vec<i64>; 3] {
 }
 
 /// Writing to a string cannot fail.
+fn push_count(text: &mut String, count_key: &str, count: usize) {
+    let _ = writeln!(text, "{count_key}={count}");
+}
+
 fn push_list(text: &mut String, count_key: &str, keys: &[&str], numbers: &[i64]) {
-    let _ = writeln!(text, "{count_key}={}", numbers.len() / keys.len());
+    push_count(text, count_key, numbers.len() / keys.len());
     for (number, key) in numbers.iter().zip(keys.iter().cycle()) {
         let _ = writeln!(text, "{key}={number}");
     }
 }
 
-/// The sheet of three lists. Numbers behind the last whole record are written
+/// The old sheet of three lists under rules 1. Numbers behind the last whole record are written
 /// too, though not counted; such a sheet is no good one.
 #[must_use]
 pub fn write_sheet(components: &[i64], connections: &[i64], frontiers: &[i64]) -> Vec<u8> {
@@ -92,7 +99,8 @@ pub fn write_sheet(components: &[i64], connections: &[i64], frontiers: &[i64]) -
     text.into_bytes()
 }
 
-/// The sheet of a scene: of its components, grouping connections and frontiers.
+/// The old sheet of a scene under rules 1: of its components, grouping connections
+/// and frontiers.
 #[must_use]
 pub fn sheet_of(scene: &Scene) -> Vec<u8> {
     write_sheet(&scene.components, &scene.connections, &scene.frontiers)
