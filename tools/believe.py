@@ -30,6 +30,7 @@ ENTRIES = {
     "reach_table/lib": ["slow_regions"],
     "records/lib": ["analyze_records"],
     "sheet/lib": ["read_sheet"],
+    "convert/lib": ["convert_sheet"],
     "report/lib": ["report"],
     "plotreport/program": ["answer"],
     "capi/lib": ["dustroute_groups", "dustroute_liveness"],
@@ -39,6 +40,7 @@ ENTRIES = {
     "capi/kept": ["dustroute_ports"],
     "capi/light": ["dustroute_light"],
     "capi/region_table": ["dustroute_reach_table"],
+    "capi/texts": ["dustroute_sheet", "dustroute_report", "dustroute_convert"],
 }
 STATEMENTS = [
     ("lists", "Places", "PlacesLaws"),
@@ -60,7 +62,15 @@ STATEMENTS = [
     ("one_wire", "Grouping", "OneGroupingConnection"),
     ("one_wire", "Ports", "OnePortConnection"),
     ("one_wire", "Ports", "RepeatedPortConnection"),
-    ("sheet", "Writing", "sheet_of"),
+    ("forms", "Writing", "sheet_text"),
+    ("report", "Same", "SameReport"),
+    ("report", "Rules", "LampsAlone"),
+    ("convert", "Laws", "Converts"),
+    ("assessment", "RulesLaws", "RulesAgree"),
+    ("assessment", "RulesLaws", "SameButInferred"),
+    ("assessment", "RulesLaws", "UnreadRows"),
+    ("faces", "Unread", "UnreadPorts"),
+    ("scene", "Unread", "UnreadDropped"),
 ]
 HEAD = re.compile(r"^(?:abbrev |unfoldable |pub |record |data )*([^\s:]+)")
 WORD = re.compile(r"[^\s(){}\[\],;.]+")
