@@ -9,7 +9,7 @@ use Rattle.std.specs.Option.{option_map}
 use Rattle.std.specs.Bool.{then_some}
 use Rattle.assessment.specs.declared.sources.SourceKind.{SourceKind}
 use mathlib.Core.Path.{◌≡◌, refl, sym, ◌∙◌}
-use mathlib.Core.Bool.{Bool, true, false}
+use mathlib.Core.Bool.{Bool, true, false, cond}
 use mathlib.Core.List.{List, [], ◌∷◌, ◌++◌}
 use Prim.Native.Nat.{ℕ, zero, suc, ◌+◌, ◌*◌, ◌≤◌, ◌<◌}
 use native.Mathlib.Nat.{zero-add, add-mul, zero-mul, mul-suc}
@@ -20,7 +20,7 @@ use lib.ListN.{length, length-append}
 use Rattle.lists.proofs.Search.{never}
 use Rattle.signals.specs.Sources.{source_kind}
 use Rattle.assessment.specs.Verdicts.{row_if, kind_row}
-use Rattle.assessment.specs.Rows.{Put, Scanned, device_rows, first_required, required_count, rows_of, source_number, sources_of}
+use Rattle.assessment.specs.Rows.{Put, Scanned, device_rows, first_required, count_by_kind, loses_input, required_count, rows_of, source_number, sources_of}
 use Rattle.assessment.proofs.Written.{put_nothing, put_more}
 
 -- ---- the ports of a device
@@ -59,18 +59,27 @@ pub record Few (row : List ℕ) (width most : ℕ) : Type 0 where
   pub whole : length row ≡ turns * width
   pub few : length row ≤ most
 
-pub count_most : (kind : ℕ) → required_count kind ≤ 4
+kind_most : (kind : ℕ) → count_by_kind kind ≤ 4
+unfolding count_by_kind
+kind_most kind = grind (arith, common_steps)
+
+pub count_most : (rules kind facing : ℕ) → required_count rules kind facing ≤ 4
 unfolding required_count
-count_most kind = grind (arith, common_steps)
+count_most rules kind facing = go (loses_input rules kind facing)
+  where
+    go : (t : Bool) → cond t 0 (count_by_kind kind) ≤ 4
+    go true = omega arith
+    go false = kind_most kind
 
 pub first_most : (kind : ℕ) → first_required kind ≤ 4
 unfolding first_required
 first_most kind = grind (arith, common_steps)
 
-pub device_few : (id kind first : ℕ) (status : ℕ → ℕ) → Few (device_rows id first status (required_count kind)) 3 12
-device_few id kind first status =
-    let long = device_length id first status (required_count kind) in
-    record { turns = required_count kind; whole = long; few = omega (arith, count_most kind) }
+pub device_few : (rules id kind facing first : ℕ) (status : ℕ → ℕ) → Few (device_rows id first status (required_count rules kind facing)) 3 12
+device_few rules id kind facing first status =
+    let n = required_count rules kind facing in
+    let long = device_length id first status n in
+    record { turns = n; whole = long; few = omega (arith, count_most rules kind facing) }
 
 pub sources_few : (id : ℕ) (found : Option ℕ) (frontier inferred : Bool) → (inferred ≡ true → frontier ≡ false) → Few (sources_of id found frontier inferred) 2 4
 sources_few id found true true alone = never (sym (alone refl))
@@ -89,9 +98,9 @@ row_is test id kind = grind (arith, common_steps)
 
 -- ---- numbers read from the list
 
-pub rows_read : (id id' kind kind' : ℕ) (status : ℕ → ℕ) → id ≡ id' → kind ≡ kind'
-    → {at r : ℕ} {old new : List ℕ} → Put (rows_of id kind status) at old new r → Put (rows_of id' kind' status) at old new r
-rows_read id id' kind kind' status e f p = rw (← e, ← f) p
+pub rows_read : (rules id id' kind kind' facing facing' : ℕ) (status : ℕ → ℕ) → id ≡ id' → kind ≡ kind' → facing ≡ facing'
+    → {at r : ℕ} {old new : List ℕ} → Put (rows_of rules id kind facing status) at old new r → Put (rows_of rules id' kind' facing' status) at old new r
+rows_read rules id id' kind kind' facing facing' status e f g p = rw (← e, ← f, ← g) p
 
 pub sources_read : (id id' kind kind' : ℕ) (frontier inferred : Bool) → id ≡ id' → kind ≡ kind'
     → {at r : ℕ} {old new : List ℕ} → Put (sources_of id (source_kind kind) frontier inferred) at old new r → Put (sources_of id' (source_kind kind') frontier inferred) at old new r

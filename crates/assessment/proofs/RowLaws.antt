@@ -66,7 +66,7 @@ pub members_within : (cs : List ℤ) {members : List ℕ} → component_count cs
     → Indices (component_count cs) component_limit members
 members_within cs few numbers = record { long = numbers.long; below = λ p h. omega (arith, numbers.at p h, member_below cs p h) }
 
-pub no_rows : (rules : ℕ) (cs ps fs : List ℤ) → NoneRequired cs → (n : ℕ) → n ≤ component_count cs → verdict_rows rules cs ps fs n ≡ []
+pub no_rows : (rules : ℕ) (cs ps fs : List ℤ) → NoneRequired rules cs → (n : ℕ) → n ≤ component_count cs → verdict_rows rules cs ps fs n ≡ []
 unfolding verdict_rows device_rows
 no_rows rules cs ps fs none zero h = refl
 no_rows rules cs ps fs none (suc p) h = rw (no_rows rules cs ps fs none p (omega arith), port_rows_lem rules cs ps fs p, none.at p (omega arith))
@@ -78,21 +78,22 @@ rows_cong id first P Q zero h = refl
 rows_cong id first P Q (suc n) h = rw (rows_cong id first P Q n (λ j l. h j (omega arith)), h n (omega arith))
 
 module _ (rules : ℕ) (cs ps fs : List ℤ) (status : ℕ → ℕ → ℕ) (same : (p port : ℕ) → p < component_count cs → port < places → status p port ≡ status_of rules cs ps fs p port) where
-  by_status : (n : ℕ) → n ≤ component_count cs → rows_below cs status n ≡ verdict_rows rules cs ps fs n
+  by_status : (n : ℕ) → n ≤ component_count cs → rows_below rules cs status n ≡ verdict_rows rules cs ps fs n
   unfolding rows_below verdict_rows
   by_status zero h = refl
   by_status (suc p) h =
       let kind = (component cs p).kind in
+      let facing = (component cs p).facing in
       rw (by_status p (omega arith), port_rows_lem rules cs ps fs p)
       (ap (λ (r : List ℕ). verdict_rows rules cs ps fs p ++ r)
-      (rows_cong (component cs p).id (first_required kind) (status p) (status_of rules cs ps fs p) (required_count kind)
-      (λ j l. same p (first_required kind + j) (omega arith) (omega (arith, count_most kind, first_most kind)))))
+      (rows_cong (component cs p).id (first_required kind) (status p) (status_of rules cs ps fs p) (required_count rules kind facing)
+      (λ j l. same p (first_required kind + j) (omega arith) (omega (arith, count_most rules kind facing, first_most kind)))))
 
 module _ {cs ps : List ℤ} {sources sinks members : List ℕ} {drive potential : List Bool} {slots : List Slot} (few : component_count cs ≤ component_limit)
     (s : Settled cs ps 0 sources) (t : Settled cs ps 2 sinks) (ends : first_end_missing cs ps ≡ None) (numbers : Numbers (component_count cs) (member_of cs) members)
     (f : SlotFlags (port_count ps) ps sources sinks drive potential slots) (room : length slots ≡ slot_count) where
   pub verdicts_are : (rules : ℕ) (fs : List ℤ) → LiveMarks rules cs ps fs drive potential
-      → rows_below cs (λ p port. status_at slots (slot_of (get_or members p 0) port)) (component_count cs) ≡ input_rows rules cs ps fs
+      → rows_below rules cs (λ p port. status_at slots (slot_of (get_or members p 0) port)) (component_count cs) ≡ input_rows rules cs ps fs
   verdicts_are rules fs live =
       by_status rules cs ps fs (λ p port. status_at slots (slot_of (get_or members p 0) port))
       (λ p port h l. ap (λ (m : ℕ). status_at slots (slot_of m port)) (numbers.at p h) ∙ status_is few s t ends p port h l f room rules fs live)

@@ -1,15 +1,16 @@
--- How the rows of an answer are written one after the other, and the ports that have a verdict row, by kind.
+-- How the rows of an answer are written one after the other, and the ports that have a verdict row, by rules, kind and facing.
 --     device_rows, rows_below        the verdict rows of a device, and of the first n components, by statuses
 --     sources_of, sources_below      their source rows, by flags
 -- Assumes nothing: these are definitions.
 use Rattle.std.specs.Prelude.{Option}
-use Rattle.std.specs.Prelude.{ℕ, zero, suc, ◌+◌, ◌*◌, ◌/◌, ◌%◌, ◌<◌, ◌≡◌, Bool, true, false, List, [], ◌∷◌, ◌++◌, length, get_or, take, drop, ℤ}
+use Rattle.std.specs.Prelude.{ℕ, zero, suc, ◌+◌, ◌*◌, ◌/◌, ◌%◌, ◌<◌, ◌≡◌, Bool, true, false, not, cond, ◌&&◌, List, [], ◌∷◌, ◌++◌, eqb, length, get_or, take, drop, ℤ}
 use Rattle.tables.specs.Order.{member}
 use Rattle.tables.specs.Pairs.{pair, span}
 use Rattle.lists.specs.Limits.{component_limit}
 use Rattle.lists.specs.Records.{component, component_count}
 use Rattle.lists.specs.First.{some}
 use Rattle.lists.specs.Slices.{laid}
+use Rattle.faces.specs.Ports.{piston_kind, is_unread}
 use Rattle.regions.specs.Graph.{marked}
 use Rattle.signals.specs.Keys.{slot, ports}
 use Rattle.signals.specs.Sources.{source_kind}
@@ -21,16 +22,23 @@ pub record Put (rows : List ℕ) (at : ℕ) (old new : List ℕ) (r : ℕ) : Typ
   pub place : r ≡ at + length rows
   pub is : new ≡ take at old ++ (rows ++ drop (at + length rows) old)
 
--- the first required port of a kind and how many there are: Repeater and Comparator port 1, Torch port 4, Piston ports 0 to 3
+-- the first required port of a kind and how many a kind has: Repeater and Comparator port 1, Torch port 4, Piston ports 0 to 3
 unfoldable pub first_required : ℕ → ℕ
 first_required kind = get_or (0 ∷ 1 ∷ 1 ∷ 4 ∷ []) kind 0
 
-unfoldable pub required_count : ℕ → ℕ
-required_count kind = get_or (0 ∷ 1 ∷ 1 ∷ 1 ∷ 0 ∷ 0 ∷ 0 ∷ 0 ∷ 4 ∷ []) kind 0
+unfoldable pub count_by_kind : ℕ → ℕ
+count_by_kind kind = get_or (0 ∷ 1 ∷ 1 ∷ 1 ∷ 0 ∷ 0 ∷ 0 ∷ 0 ∷ 4 ∷ []) kind 0
+
+-- an unread Repeater or Comparator has none (document 02, R-7), an unread Piston those of its kind
+abbrev pub loses_input : ℕ → ℕ → ℕ → Bool
+loses_input rules kind facing = is_unread rules kind facing && not (eqb kind piston_kind)
+
+unfoldable pub required_count : ℕ → ℕ → ℕ → ℕ
+required_count rules kind facing = cond (loses_input rules kind facing) 0 (count_by_kind kind)
 
 -- no component has a required port
-pub record NoneRequired (cs : List ℤ) : Type 0 where
-  pub at : (p : ℕ) → p < component_count cs → required_count (component cs p).kind ≡ 0
+pub record NoneRequired (rules : ℕ) (cs : List ℤ) : Type 0 where
+  pub at : (p : ℕ) → p < component_count cs → required_count rules (component cs p).kind (component cs p).facing ≡ 0
 
 -- some key of the slot
 unfoldable pub slot_fed : List ℕ → ℕ → Bool
@@ -56,14 +64,15 @@ unfoldable pub device_rows : ℕ → ℕ → (ℕ → ℕ) → ℕ → List ℕ
 device_rows id first status zero = []
 device_rows id first status (suc k) = device_rows id first status k ++ (id ∷ (first + k) ∷ status (first + k) ∷ [])
 
--- the rows of the required ports of a kind, by the status of each port
-abbrev pub rows_of : ℕ → ℕ → (ℕ → ℕ) → List ℕ
-rows_of id kind status = device_rows id (first_required kind) status (required_count kind)
+-- the rows of the required ports of a kind and facing, by the status of each port
+abbrev pub rows_of : ℕ → ℕ → ℕ → ℕ → (ℕ → ℕ) → List ℕ
+rows_of rules id kind facing status = device_rows id (first_required kind) status (required_count rules kind facing)
 
 -- those of the first n components, by the status of each port of the component at a list place
-unfoldable pub rows_below : List ℤ → (ℕ → ℕ → ℕ) → ℕ → List ℕ
-rows_below cs status zero = []
-rows_below cs status (suc p) = rows_below cs status p ++ rows_of (component cs p).id (component cs p).kind (status p)
+unfoldable pub rows_below : ℕ → List ℤ → (ℕ → ℕ → ℕ) → ℕ → List ℕ
+rows_below rules cs status zero = []
+rows_below rules cs status (suc p) =
+    rows_below rules cs status p ++ rows_of rules (component cs p).id (component cs p).kind (component cs p).facing (status p)
 
 -- ---- source rows
 

@@ -4,7 +4,7 @@
 --     source_rows        id, source kind, by list order, then kind
 -- Assumes nothing: these are definitions.
 use Rattle.std.specs.Prelude.{Option, Some, None}
-use Rattle.std.specs.Prelude.{ℕ, zero, suc, Bool, not, cond, ◌&&◌, ◌||◌, List, [], ◌∷◌, ◌++◌, eqb, length, ℤ}
+use Rattle.std.specs.Prelude.{ℕ, zero, suc, Bool, not, cond, ◌&&◌, ◌||◌, List, [], ◌∷◌, ◌++◌, eqb, ltb, length, ℤ}
 use Rattle.lists.specs.Records.{Component, component, port_connection, component_count, port_count}
 use Rattle.lists.specs.First.{some}
 use Rattle.faces.specs.Ports.{ports_of, Input, Control}
@@ -43,23 +43,28 @@ torch = 3
 abbrev pub is_device : ℕ → Bool
 is_device kind = eqb kind 1 || (eqb kind 2 || (eqb kind torch || eqb kind 8))
 
--- port k of a device has a row: it is an Input, or the Torch's Control
-abbrev pub is_required : Component → ℕ → Bool
-is_required c k =
+-- port k of a device has a row, by the ports under the rules: it is an Input, or the Torch's Control
+abbrev pub is_required : ℕ → Component → ℕ → Bool
+is_required rules c k =
     is_device c.kind
-    && (eqb (port_at (ports_of c) k).role Input || (eqb c.kind torch && eqb (port_at (ports_of c) k).role Control))
+    && (eqb (port_at (ports_of rules c) k).role Input || (eqb c.kind torch && eqb (port_at (ports_of rules c) k).role Control))
+
+-- there is a port k, and it has a row
+abbrev pub has_row : ℕ → Component → ℕ → Bool
+has_row rules c k = ltb k (length (ports_of rules c)) && is_required rules c k
 
 -- the rows of the first m ports of the component at p
 unfoldable pub port_rows : ℕ → List ℤ → List ℤ → List ℤ → ℕ → ℕ → List ℕ
 port_rows rules cs ps fs p zero = []
 port_rows rules cs ps fs p (suc k) =
     port_rows rules cs ps fs p k
-    ++ cond (is_required (component cs p) k) ((component cs p).id ∷ k ∷ status_of rules cs ps fs p k ∷ []) []
+    ++ cond (is_required rules (component cs p) k) ((component cs p).id ∷ k ∷ status_of rules cs ps fs p k ∷ []) []
 
 -- the rows of the first n components
 unfoldable pub verdict_rows : ℕ → List ℤ → List ℤ → List ℤ → ℕ → List ℕ
 verdict_rows rules cs ps fs zero = []
-verdict_rows rules cs ps fs (suc p) = verdict_rows rules cs ps fs p ++ port_rows rules cs ps fs p (length (ports_of (component cs p)))
+verdict_rows rules cs ps fs (suc p) =
+    verdict_rows rules cs ps fs p ++ port_rows rules cs ps fs p (length (ports_of rules (component cs p)))
 
 abbrev pub input_rows : ℕ → List ℤ → List ℤ → List ℤ → List ℕ
 input_rows rules cs ps fs = verdict_rows rules cs ps fs (component_count cs)

@@ -125,8 +125,10 @@ impl Slot {
 
 // Writes the rows of a device's required ports from a place on, and answers the place after them.
 fn put_ports(
+    rules: u64,
     id: u64,
     kind: u64,
+    facing: u64,
     member: usize,
     slots: &[Slot; SLOTS],
     out: &mut [u64],
@@ -134,11 +136,11 @@ fn put_ports(
 ) -> usize
     requires member_bound { member < component_limit }
     requires at_in_bounds { at + 12 ≤ length out.old }
-    ensures { Put (rows_of id kind (λ port. status_at slots.now (slot_of member port)))
+    ensures { Put (rows_of rules id kind facing (λ port. status_at slots.now (slot_of member port)))
         at out.old out.new result }
 {
     let mut place = at;
-    for port in required_ports(kind) {
+    for port in required_ports(rules, kind, facing) {
         let status = slots[member * PLACES + port].status();
         place = put_row(out, place, &[id, port as u64, u64::from(status)]);
     }
@@ -148,6 +150,7 @@ fn put_ports(
 // Writes the rows of all components, in list order, and answers how many there are. Not one with `put_sources`: they share a loop of three
 // lines, and the clauses of a closure that writes a component's rows would be longer.
 fn put_rows(
+    rules: u64,
     components: ComponentList,
     members: &[usize],
     slots: &[Slot; SLOTS],
@@ -155,15 +158,17 @@ fn put_rows(
 ) -> usize
     requires members { Indices (component_count components.numbers.now) component_limit members.now }
     requires out_len { 12 * component_count components.numbers.now ≤ length out.old }
-    ensures { Scanned (rows_below components.entry.numbers.now
+    ensures { Scanned (rows_below rules components.entry.numbers.now
         (λ p port. status_at slots.now (slot_of (get_or members.now p 0) port))
         (component_count components.entry.numbers.now)) 3 out.old out.new result }
 {
     let mut at = 0;
     for p in 0..components.count() {
         at = put_ports(
+            rules,
             components.id(p),
             components.kind(p),
+            components.facing(p),
             members[p],
             slots,
             out,
@@ -174,11 +179,11 @@ fn put_rows(
 }
 
 // Whether some component may have a port with a verdict row.
-fn any_required(components: ComponentList) -> bool
-    ensures { result ≡ false → NoneRequired components.entry.numbers.now }
+fn any_required(rules: u64, components: ComponentList) -> bool
+    ensures { result ≡ false → NoneRequired rules components.entry.numbers.now }
 {
     for p in 0..components.count() {
-        if !required_ports(components.kind(p)).is_empty() {
+        if !required_ports(rules, components.kind(p), components.facing(p)).is_empty() {
             return true;
         }
     }
@@ -188,6 +193,7 @@ fn any_required(components: ComponentList) -> bool
 // Writes the verdict rows of all components, in list order, and answers how many there are: given each component's member, the members at
 // the ends of each port connection, and the members that are driven and those that may be.
 pub fn write_verdicts(
+    rules: u64,
     components: ComponentList,
     members: &[usize],
     ports: PortList,
@@ -202,11 +208,11 @@ pub fn write_verdicts(
     requires ports_in_bounds { port_count ports.numbers.now ≤ length ends.now }
     requires numbers { Numbers (component_count components.numbers.now) (member_of components.numbers.now) members.now
         × (12 * component_count components.numbers.now ≤ length out.old) }
-    ensures { (rules : ℕ) (fs : List ℤ) → LiveMarks rules components.entry.numbers.now ports.entry.numbers.now fs drive.now potential.now →
+    ensures { (fs : List ℤ) → LiveMarks rules components.entry.numbers.now ports.entry.numbers.now fs drive.now potential.now →
         Scanned (input_rows rules components.entry.numbers.now ports.entry.numbers.now fs) 3 out.old out.new result }
 {
     // A plot of wires alone needs no flags.
-    if !any_required(components) {
+    if !any_required(rules, components) {
         return 0;
     }
     let mut slots = [Slot {
@@ -215,5 +221,5 @@ pub fn write_verdicts(
         possible: false,
     }; SLOTS];
     mark_slots(ports, ends, drive, potential, &mut slots);
-    put_rows(components, members, &slots, out)
+    put_rows(rules, components, members, &slots, out)
 }

@@ -6,19 +6,22 @@ ghost use Rattle.lists.specs.Records.{component_count};
 ghost use Rattle.std.specs.Option.{option_map};
 ghost use Rattle.signals.specs.Sources.{source_kind};
 ghost use Rattle.assessment.specs.Verdicts.{kind_row};
-ghost use Rattle.assessment.specs.Rows.{Put, first_required, required_count, slot_fed, Scanned};
+ghost use Rattle.assessment.specs.Rows.{Put, first_required, count_by_kind, loses_input, required_count, slot_fed, Scanned};
 ghost use Rattle.assessment.specs.Rows.{source_number, sources_of, sources_below, InferredAlone};
 
 use super::sources::{SourceKind, source_kind};
+use faces::ports::is_unread;
 use lists::kinds::BlockKind;
 use lists::views::ComponentList;
 use std::ops::Range;
 use tables::SPAN;
 
-// The ports of a kind that have a verdict row.
-#[tactic(auto, unfolding(crate::specs::Rows::first_required, crate::specs::Rows::required_count))]
-pub fn required_ports(kind: u64) -> Range<usize>
-    ensures range { (result.start ≡ first_required kind) × (result.end ≡ first_required kind + required_count kind) }
+const PISTON: u64 = BlockKind::Piston as u64;
+
+// The ports of a kind that have a verdict row, where its facing is read.
+#[tactic(auto, unfolding(crate::specs::Rows::first_required, crate::specs::Rows::count_by_kind))]
+fn ports_by_kind(kind: u64) -> Range<usize>
+    ensures range { (result.start ≡ first_required kind) × (result.end ≡ first_required kind + count_by_kind kind) }
     ensures few { (result.start ≤ 4) × (result.end ≤ result.start + 4) }
 {
     match BlockKind::try_from(kind) {
@@ -27,6 +30,27 @@ pub fn required_ports(kind: u64) -> Range<usize>
         Ok(BlockKind::Piston) => 0..4,
         _ => 0..0,
     }
+}
+
+// Whether a kind and facing are those of an unread Repeater or Comparator: an unread Piston keeps its Inputs.
+fn loses_input(rules: u64, kind: u64, facing: u64) -> bool
+    ensures { result ≡ loses_input rules kind facing }
+{
+    is_unread(rules, kind, facing) & (kind != PISTON)
+}
+
+// The ports of a kind and facing that have a verdict row.
+#[tactic(auto, unfolding(crate::specs::Rows::required_count))]
+pub fn required_ports(rules: u64, kind: u64, facing: u64) -> Range<usize>
+    ensures range { (result.start ≡ first_required kind)
+        × (result.end ≡ first_required kind + required_count rules kind facing) }
+    ensures few { (result.start ≤ 4) × (result.end ≤ result.start + 4) }
+{
+    let ports = ports_by_kind(kind);
+    if loses_input(rules, kind, facing) {
+        return ports.start..ports.start;
+    }
+    ports
 }
 
 // Whether some key has the slot, given where its keys begin. The product cuts the keys of a slot itself (`inputs`); this is for who only

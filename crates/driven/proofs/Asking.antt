@@ -63,8 +63,8 @@ module _ {cs ps : List ℤ} (fs : List ℤ) {keys sources sinks backward : List 
 
 -- ---- by what was found
 
-pub asked_found : {cs ps fs : List ℤ} {port : ℕ} {stack stack' : List ℕ} {r : Result DrivenInput Refusal} (id : ℕ) {found : Option ℕ} → row_place cs id port ≡ found
+pub asked_found : (rules : ℕ) {cs ps fs : List ℤ} {port : ℕ} {stack stack' : List ℕ} {r : Result DrivenInput Refusal} (id : ℕ) {found : Option ℕ} → row_place rules cs id port ≡ found
     → AskedBy (refuse Fault.NoVerdictRow None (too_short (is_found found))) cs ps fs found port stack stack' r
-    → AskedBy (refuse Fault.NoVerdictRow None (too_short (is_found (row_place cs id port)))) cs ps fs (row_place cs id port) port stack stack' r
-asked_found {cs} {ps} {fs} {port} {stack} {stack'} {r} id e a =
+    → AskedBy (refuse Fault.NoVerdictRow None (too_short (is_found (row_place rules cs id port)))) cs ps fs (row_place rules cs id port) port stack stack' r
+asked_found rules {cs} {ps} {fs} {port} {stack} {stack'} {r} id e a =
     subst (λ (f : Option ℕ). AskedBy (refuse Fault.NoVerdictRow None (too_short (is_found f))) cs ps fs f port stack stack' r) (sym e) a

@@ -122,13 +122,13 @@ module _ {rules : ℕ} {cs ps fs : List ℤ} {id port : ℕ} {stack stack' : Lis
   checks : input_refusal rules cs ps fs id port (length stack) ≡ Ok tt
   checks = sym a.by.answer
 
-  parts : (query_refusal rules cs ps fs (length stack) ≡ Ok tt) × (refuse Fault.NoVerdictRow None (too_short (is_found (row_place cs id port))) ≡ Ok tt)
-  parts = both_accept (query_refusal rules cs ps fs (length stack)) (refuse Fault.NoVerdictRow None (too_short (is_found (row_place cs id port)))) checks
+  parts : (query_refusal rules cs ps fs (length stack) ≡ Ok tt) × (refuse Fault.NoVerdictRow None (too_short (is_found (row_place rules cs id port))) ≡ Ok tt)
+  parts = both_accept (query_refusal rules cs ps fs (length stack)) (refuse Fault.NoVerdictRow None (too_short (is_found (row_place rules cs id port)))) checks
 
   scene : Scene cs ps
   scene = scene_of_lem (liveness_accept rules cs ps fs (room_for (component_count cs) 2 (length stack)) parts.0)
 
-  answered : (p : ℕ) → row_place cs id port ≡ Some p → AnswerLaws cs ps fs id port r
+  answered : (p : ℕ) → row_place rules cs id port ≡ Some p → AnswerLaws rules cs ps fs id port r
   answered p e =
       let at : PortDriven cs ps fs (Some p) port r = subst (λ (f : Option ℕ). PortDriven cs ps fs f port r) e a.by.found in
       let laws = driven_laws cs ps fs scene p port in
@@ -138,9 +138,9 @@ module _ {rules : ℕ} {cs ps fs : List ℤ} {id port : ℕ} {stack stack' : Lis
         place = p;
         row = e;
         status = λ by. (λ h. (laws.status by).0 (sym yes ∙ h), λ h. yes ∙ (laws.status by).1 h);
-        reported = λ by. (
-          λ h. subst (λ (s : ℕ). HasRow id port s (input_rows by cs ps fs)) ((laws.status by).0 (sym yes ∙ h)) (row_there by cs ps fs id port p e),
-          λ h. yes ∙ (laws.status by).1 (row_status by cs ps fs id port p e scene.distinct 0 h),
+        reported = λ by there. (
+          λ h. subst (λ (s : ℕ). HasRow id port s (input_rows by cs ps fs)) ((laws.status by).0 (sym yes ∙ h)) (row_there by cs ps fs id port p there),
+          λ h. yes ∙ (laws.status by).1 (row_status by cs ps fs id port p there scene.distinct 0 h),
         );
         met_upstream = λ k h. laws.met_upstream k (sym (met k) ∙ h);
         one_drive = λ h. let o = laws.one_drive (sym yes ∙ h) in (o.0, met o.0 ∙ o.1, o.2, λ k m d. o.3 k (sym (met k) ∙ m) d);
@@ -148,9 +148,9 @@ module _ {rules : ℕ} {cs ps fs : List ℤ} {id port : ℕ} {stack stack' : Lis
         no_drive = λ h k m. laws.no_drive (sym yes ∙ h) k (sym (met k) ∙ m);
       }
 
-  pub answer_laws : AnswerLaws cs ps fs id port r
-  answer_laws = go (row_place cs id port) refl parts.1
+  pub answer_laws : AnswerLaws rules cs ps fs id port r
+  answer_laws = go (row_place rules cs id port) refl parts.1
     where
-      go : (f : Option ℕ) → row_place cs id port ≡ f → refuse Fault.NoVerdictRow None (too_short (is_found f)) ≡ Ok tt → AnswerLaws cs ps fs id port r
+      go : (f : Option ℕ) → row_place rules cs id port ≡ f → refuse Fault.NoVerdictRow None (too_short (is_found f)) ≡ Ok tt → AnswerLaws rules cs ps fs id port r
       go (Some p) e h = answered p e
       go None e h = absurd (refused_not h)

@@ -40,4 +40,4 @@ pub record AskedBy (checks : Result ⊤ Refusal) (cs ps fs : List ℤ) (place : 
 
 -- from the lists, an id, a port and the lent stack, with the refusals of the input query
 pub record Asked (rules : ℕ) (cs ps fs : List ℤ) (id port : ℕ) (stack stack' : List ℕ) (r : Result DrivenInput Refusal) : Type 0 where
-  pub by : AskedBy (input_refusal rules cs ps fs id port (length stack)) cs ps fs (row_place cs id port) port stack stack' r
+  pub by : AskedBy (input_refusal rules cs ps fs id port (length stack)) cs ps fs (row_place rules cs id port) port stack stack' r

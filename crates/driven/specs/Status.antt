@@ -31,16 +31,16 @@ pub record DrivenLaws (cs ps fs : List ℤ) (p port : ℕ) : Type 0 where
   -- each member has an entry
   pub long : length (upstream_from cs ps fs p port).met ≡ component_count cs
 
--- ---- the answer of `is_driven`, where its checks accept
+-- ---- the answer of `is_driven` under a rules number, where its checks accept
 
-pub record AnswerLaws (cs ps fs : List ℤ) (id port : ℕ) (r : DrivenInput) : Type 0 where
+pub record AnswerLaws (rules : ℕ) (cs ps fs : List ℤ) (id port : ℕ) (r : DrivenInput) : Type 0 where
   -- the port has a verdict row, of the component at this place
   pub place : ℕ
-  pub row : row_place cs id port ≡ Some place
+  pub row : row_place rules cs id port ≡ Some place
   -- yes exactly if the status of that row is 0, by whatever rules: the search knows of none
   pub status : (rules : ℕ) → (r.driven ≡ true) ↔ (status_of rules cs ps fs place port ≡ 0)
-  -- and so exactly if the whole analysis has a verdict row of the id and the port with status 0
-  pub reported : (rules : ℕ) → (r.driven ≡ true) ↔ HasRow id port 0 (input_rows rules cs ps fs)
+  -- and so exactly if the whole analysis has a verdict row of the id and the port with status 0, by whatever rules under which it has a row
+  pub reported : (by : ℕ) → row_place by cs id port ≡ Some place → (r.driven ≡ true) ↔ HasRow id port 0 (input_rows by cs ps fs)
   -- each member met is an immediate source or upstream of one
   pub met_upstream : (a : ℕ) → member_of r.met.words a ≡ true → marked (upstream cs ps place port) a ≡ true
   -- at a yes exactly one is a drive source

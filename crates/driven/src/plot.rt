@@ -120,11 +120,11 @@ pub(crate) fn driven_plot(
     stack: &mut [usize],
 ) -> Result<DrivenInput, Refusal>
     requires { 2 * component_count plot.now.components.now ≤ length stack.old }
-    ensures { let l = plot.now in let place = row_place l.components.now id port in
+    ensures { let l = plot.now in let place = row_place l.rules l.components.now id port in
         AskedBy (refuse Fault.NoVerdictRow None (too_short (is_found place)))
         l.components.now l.ports.now l.frontiers.now place port stack.old stack.new result }
 {
-    row_place(plot.keys, plot.component_list(), id, port).ok_or(Refusal {
+    row_place(plot.rules, plot.keys, plot.component_list(), id, port).ok_or(Refusal {
         fault: Fault::NoVerdictRow,
         list: None,
         item: 0,

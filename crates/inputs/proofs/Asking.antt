@@ -245,6 +245,6 @@ module _ {rules : ℕ} {cs ps fs : List ℤ} {p port : ℕ} {fed labelled : List
   port_sets = record { immediate_set = immediate; inferred_set = inferred }
 
 -- by what was found
-pub sets_at : {rules : ℕ} {cs ps fs : List ℤ} (id : ℕ) {port : ℕ} {found : Option ℕ} {r : InputSources} → row_place cs id port ≡ found → PortSets rules cs ps fs found port r
-    → PortSets rules cs ps fs (row_place cs id port) port r
+pub sets_at : {rules : ℕ} {cs ps fs : List ℤ} (id : ℕ) {port : ℕ} {found : Option ℕ} {r : InputSources} → row_place rules cs id port ≡ found → PortSets rules cs ps fs found port r
+    → PortSets rules cs ps fs (row_place rules cs id port) port r
 sets_at {rules} {cs} {ps} {fs} id {port} {r = r} e s = subst (λ (f : Option ℕ). PortSets rules cs ps fs f port r) (sym e) s

@@ -47,7 +47,7 @@ use Rattle.regions.specs.Kosaraju.{reached}
 use Rattle.regions.proofs.Theorems.{keys_reach}
 use Rattle.signals.specs.Signals.{is_signal, source_member, sink_member, signals}
 use Rattle.signals.specs.Drive.{members_where}
-use Rattle.assessment.specs.Verdicts.{is_required}
+use Rattle.assessment.specs.Verdicts.{is_required, has_row}
 use Rattle.lists.specs.Ends.{Settled}
 use Rattle.signals.specs.Keys.{Slots, KeysOf, slot, ports}
 use Rattle.signals.specs.Flags.{Flags}
@@ -312,9 +312,10 @@ module _ {rules : ℕ} {cs ps fs : List ℤ} {p port : ℕ} {fed backward : List
 
 -- ---- the port asked for
 
-pub row_place_lem : (cs : List ℤ) (id port : ℕ) {found : Option ℕ} → place_of cs id ≡ found → row_place cs id port ≡ with_row cs port found
+pub row_place_lem : (rules : ℕ) (cs : List ℤ) (id port : ℕ) {found : Option ℕ} → place_of cs id ≡ found
+    → row_place rules cs id port ≡ with_row rules cs port found
 unfolding row_place
-row_place_lem cs id port e = ap (with_row cs port) e
+row_place_lem rules cs id port e = ap (with_row rules cs port) e
 
 pub place_below_lem : (cs : List ℤ) (id : ℕ) {p : ℕ} → place_of cs id ≡ Some p → p < component_count cs
 unfolding place_below
@@ -330,22 +331,22 @@ pub record RowAt (cs : List ℤ) (id port p : ℕ) : Type 0 where
   pub port_small : port < ports
   pub id_is : (component cs p).id ≡ id
 
-pub row_found : (cs : List ℤ) (id port : ℕ) {p : ℕ} → row_place cs id port ≡ Some p → RowAt cs id port p
+pub row_found : (rules : ℕ) (cs : List ℤ) (id port : ℕ) {p : ℕ} → row_place rules cs id port ≡ Some p → RowAt cs id port p
 unfolding row_place
-row_found cs id port {p} e = go (place_of cs id) refl e
+row_found rules cs id port {p} e = go (place_of cs id) refl e
   where
     at : (q : ℕ) (t : Bool) → cond t (Some q) None ≡ Some p → (t ≡ true) × (q ≡ p)
     at q true f = (refl, cc)
     at q false f = let z : ◌≡◌ {A = ℕ} 0 1 = cc in absurd (omega arith)
 
-    go : (found : Option ℕ) → place_of cs id ≡ found → with_row cs port found ≡ Some p → RowAt cs id port p
+    go : (found : Option ℕ) → place_of cs id ≡ found → with_row rules cs port found ≡ Some p → RowAt cs id port p
     go (Some q) f g =
         let c = component cs q in
-        let is = at q (ltb port (length (ports_of c)) && is_required c port) g in
-        let small = ltb-true port (length (ports_of c)) (both (ltb port (length (ports_of c))) (is_required c port) is.0).0 in
+        let is = at q (has_row rules c port) g in
+        let small = ltb-true port (length (ports_of rules c)) (both (ltb port (length (ports_of rules c))) (is_required rules c port) is.0).0 in
         record {
           below = omega (arith, is.1, place_below_lem cs id f);
-          port_small = omega (arith, small, ports_few c.kind c.facing c.support c.conducts);
+          port_small = omega (arith, small, ports_few rules c.kind c.facing c.support c.conducts);
           id_is = ap (λ (k : ℕ). (component cs k).id) (sym is.1) ∙ place_id cs id f;
         }
     go None f g = let z : ◌≡◌ {A = ℕ} 0 1 = cc in absurd (omega arith)
@@ -373,6 +374,6 @@ row_slot {cs} {port = port} f row e = record {
 
 module _ {rules : ℕ} {cs ps fs : List ℤ} {port : ℕ} {stack stack' : List ℕ} {r : Result InputSources Refusal} where
   -- by what was found, with 8 where nothing was
-  pub inputs_found : (id : ℕ) {found : Option ℕ} → row_place cs id port ≡ found → InputsBy (refuse Fault.NoVerdictRow None (too_short (is_found found))) rules cs ps fs found port stack stack' r
-      → InputsBy (refuse Fault.NoVerdictRow None (too_short (is_found (row_place cs id port)))) rules cs ps fs (row_place cs id port) port stack stack' r
+  pub inputs_found : (id : ℕ) {found : Option ℕ} → row_place rules cs id port ≡ found → InputsBy (refuse Fault.NoVerdictRow None (too_short (is_found found))) rules cs ps fs found port stack stack' r
+      → InputsBy (refuse Fault.NoVerdictRow None (too_short (is_found (row_place rules cs id port)))) rules cs ps fs (row_place rules cs id port) port stack stack' r
   inputs_found id e a = subst (λ (f : Option ℕ). InputsBy (refuse Fault.NoVerdictRow None (too_short (is_found f))) rules cs ps fs f port stack stack' r) (sym e) a

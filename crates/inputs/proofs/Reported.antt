@@ -71,9 +71,9 @@ module _ (rules : ℕ) (cs ps fs : List ℤ) where
   ports_whole : (p n : ℕ) → Whole (port_rows rules cs ps fs p n)
   unfolding port_rows
   ports_whole p zero = tt
-  ports_whole p (suc k) = whole-++ (port_rows rules cs ps fs p k) (row_at p k (is_required (component cs p) k)) (ports_whole p k) (row_whole p k (is_required (component cs p) k))
+  ports_whole p (suc k) = whole-++ (port_rows rules cs ps fs p k) (row_at p k (is_required rules (component cs p) k)) (ports_whole p k) (row_whole p k (is_required rules (component cs p) k))
 
-  ports_has : (p k n : ℕ) → k < n → is_required (component cs p) k ≡ true → HasRow (component cs p).id k (status_of rules cs ps fs p k) (port_rows rules cs ps fs p n)
+  ports_has : (p k n : ℕ) → k < n → is_required rules (component cs p) k ≡ true → HasRow (component cs p).id k (status_of rules cs ps fs p k) (port_rows rules cs ps fs p n)
   unfolding port_rows
   ports_has p k zero h e = absurd (omega arith)
   ports_has p k (suc n) h e = go (eq-or-lt_of_le (let w : k ≤ n = omega arith in w)) (ports_has p k n)
@@ -81,13 +81,13 @@ module _ (rules : ℕ) (cs ps fs : List ℤ) where
       id : ℕ
       id = (component cs p).id
 
-      go : (k ≡ n) ⊎ (k < n) → (k < n → is_required (component cs p) k ≡ true → HasRow id k (status_of rules cs ps fs p k) (port_rows rules cs ps fs p n))
-          → HasRow id k (status_of rules cs ps fs p k) (port_rows rules cs ps fs p n ++ row_at p n (is_required (component cs p) n))
+      go : (k ≡ n) ⊎ (k < n) → (k < n → is_required rules (component cs p) k ≡ true → HasRow id k (status_of rules cs ps fs p k) (port_rows rules cs ps fs p n))
+          → HasRow id k (status_of rules cs ps fs p k) (port_rows rules cs ps fs p n ++ row_at p n (is_required rules (component cs p) n))
       go (inl same) ih =
-          has_right id k (status_of rules cs ps fs p k) (port_rows rules cs ps fs p n) (row_at p n (is_required (component cs p) n)) (ports_whole p n)
-          (subst (λ (t : Bool). HasRow id k (status_of rules cs ps fs p k) (row_at p n t)) (sym (ap (is_required (component cs p)) (sym same) ∙ e))
+          has_right id k (status_of rules cs ps fs p k) (port_rows rules cs ps fs p n) (row_at p n (is_required rules (component cs p) n)) (ports_whole p n)
+          (subst (λ (t : Bool). HasRow id k (status_of rules cs ps fs p k) (row_at p n t)) (sym (ap (is_required rules (component cs p)) (sym same) ∙ e))
           (inl (refl, sym same, ap (status_of rules cs ps fs p) (sym same))))
-      go (inr less) ih = has_left id k (status_of rules cs ps fs p k) (port_rows rules cs ps fs p n) (row_at p n (is_required (component cs p) n)) (ih less e)
+      go (inr less) ih = has_left id k (status_of rules cs ps fs p k) (port_rows rules cs ps fs p n) (row_at p n (is_required rules (component cs p) n)) (ih less e)
 
   row_from : (p k : ℕ) (t : Bool) (a b c : ℕ) → HasRow a b c (row_at p k t) → ((component cs p).id ≡ a) × (status_of rules cs ps fs p b ≡ c)
   row_from p k true a b c (inl e) = (e.0, ap (status_of rules cs ps fs p) (sym e.1) ∙ e.2)
@@ -98,18 +98,18 @@ module _ (rules : ℕ) (cs ps fs : List ℤ) where
   unfolding port_rows
   ports_from p zero a b c h = absurd h
   ports_from p (suc k) a b c h =
-      ⊎_elim (ports_from p k a b c) (row_from p k (is_required (component cs p) k) a b c)
-      (has_either a b c (port_rows rules cs ps fs p k) (row_at p k (is_required (component cs p) k)) (ports_whole p k) h)
+      ⊎_elim (ports_from p k a b c) (row_from p k (is_required rules (component cs p) k) a b c)
+      (has_either a b c (port_rows rules cs ps fs p k) (row_at p k (is_required rules (component cs p) k)) (ports_whole p k) h)
 
   -- ---- the rows of all components
 
   abbrev rows_of : ℕ → List ℕ
-  rows_of p = port_rows rules cs ps fs p (length (ports_of (component cs p)))
+  rows_of p = port_rows rules cs ps fs p (length (ports_of rules (component cs p)))
 
   all_whole : (n : ℕ) → Whole (verdict_rows rules cs ps fs n)
   unfolding verdict_rows
   all_whole zero = tt
-  all_whole (suc p) = whole-++ (verdict_rows rules cs ps fs p) (rows_of p) (all_whole p) (ports_whole p (length (ports_of (component cs p))))
+  all_whole (suc p) = whole-++ (verdict_rows rules cs ps fs p) (rows_of p) (all_whole p) (ports_whole p (length (ports_of rules (component cs p))))
 
   all_has : (a b c p n : ℕ) → p < n → HasRow a b c (rows_of p) → HasRow a b c (verdict_rows rules cs ps fs n)
   unfolding verdict_rows
@@ -126,13 +126,13 @@ module _ (rules : ℕ) (cs ps fs : List ℤ) where
   all_from a b c (suc n) h =
       ⊎_elim
       (λ r. let f = all_from a b c n r in (f.0, omega (arith, f.1), f.2, f.3))
-      (λ r. let f = ports_from n (length (ports_of (component cs n))) a b c r in (n, omega arith, f.0, f.1))
+      (λ r. let f = ports_from n (length (ports_of rules (component cs n))) a b c r in (n, omega arith, f.0, f.1))
       (has_either a b c (verdict_rows rules cs ps fs n) (rows_of n) (all_whole n) h)
 
   -- ---- the row of the port asked for
 
-  module _ (id port p : ℕ) (found : row_place cs id port ≡ Some p) where
-    required : (port < length (ports_of (component cs p))) × (is_required (component cs p) port ≡ true)
+  module _ (id port p : ℕ) (found : row_place rules cs id port ≡ Some p) where
+    required : (port < length (ports_of rules (component cs p))) × (is_required rules (component cs p) port ≡ true)
     unfolding row_place
     required = go (place_of cs id) found
       where
@@ -140,24 +140,24 @@ module _ (rules : ℕ) (cs ps fs : List ℤ) where
         at q true f = (refl, cc)
         at q false f = let z : ◌≡◌ {A = ℕ} 0 1 = cc in absurd (omega arith)
 
-        go : (place : Option ℕ) → with_row cs port place ≡ Some p → (port < length (ports_of (component cs p))) × (is_required (component cs p) port ≡ true)
+        go : (place : Option ℕ) → with_row rules cs port place ≡ Some p → (port < length (ports_of rules (component cs p))) × (is_required rules (component cs p) port ≡ true)
         go (Some q) e =
-            let is = at q (ltb port (length (ports_of (component cs q))) && is_required (component cs q) port) e in
-            let parts = both (ltb port (length (ports_of (component cs q)))) (is_required (component cs q) port) is.0 in
-            subst (λ (k : ℕ). (port < length (ports_of (component cs k))) × (is_required (component cs k) port ≡ true)) is.1
-            (ltb-true port (length (ports_of (component cs q))) parts.0, parts.1)
+            let is = at q (ltb port (length (ports_of rules (component cs q))) && is_required rules (component cs q) port) e in
+            let parts = both (ltb port (length (ports_of rules (component cs q)))) (is_required rules (component cs q) port) is.0 in
+            subst (λ (k : ℕ). (port < length (ports_of rules (component cs k))) × (is_required rules (component cs k) port ≡ true)) is.1
+            (ltb-true port (length (ports_of rules (component cs q))) parts.0, parts.1)
         go None e = let z : ◌≡◌ {A = ℕ} 0 1 = cc in absurd (omega arith)
 
     pub row_there : HasRow id port (status_of rules cs ps fs p port) (input_rows rules cs ps fs)
     row_there =
-        let row = row_found cs id port found in
+        let row = row_found rules cs id port found in
         let s = status_of rules cs ps fs p port in
         all_has id port s p (component_count cs) row.below
-        (subst (λ (k : ℕ). HasRow k port s (rows_of p)) row.id_is (ports_has p port (length (ports_of (component cs p))) required.0 required.1))
+        (subst (λ (k : ℕ). HasRow k port s (rows_of p)) row.id_is (ports_has p port (length (ports_of rules (component cs p))) required.0 required.1))
 
     pub row_status : first_repeated cs ≡ None → (s : ℕ) → HasRow id port s (input_rows rules cs ps fs) → status_of rules cs ps fs p port ≡ s
     row_status once s h =
         let f = all_from id port s (component_count cs) h in
-        let row = row_found cs id port found in
+        let row = row_found rules cs id port found in
         let same : f.0 ≡ p = member_inj cs once f.0 p f.1 row.below (ap (smaller_ids cs) (f.2 ∙ sym row.id_is)) in
         subst (λ (k : ℕ). status_of rules cs ps fs k port ≡ s) same f.3

@@ -131,7 +131,7 @@ module _ (cs ps qs fs : List ℤ) (same : SameConnections ps qs) where
     pub verdicts_same : (n : ℕ) → verdict_rows rules cs ps fs n ≡ verdict_rows rules cs qs fs n
     unfolding verdict_rows
     verdicts_same zero = refl
-    verdicts_same (suc p) = rw (verdicts_same p, ports_same p (length (ports_of (component cs p))))
+    verdicts_same (suc p) = rw (verdicts_same p, ports_same p (length (ports_of rules (component cs p))))
 
     pub sources_same : (n : ℕ) → source_rows_below rules cs ps fs n ≡ source_rows_below rules cs qs fs n
     unfolding source_rows_below sources_at

@@ -25,5 +25,5 @@ row_small false = omega arith
 
 pub input_small : (rules : ℕ) (cs ps fs : List ℤ) (id port stack : ℕ) → Small (input_refusal rules cs ps fs id port stack)
 input_small rules cs ps fs id port stack =
-    or_small (query_refusal rules cs ps fs stack) (refuse Fault.NoVerdictRow None (too_short (is_found (row_place cs id port))))
-    (liveness_small rules cs ps fs (room_for (component_count cs) 2 stack)) (row_small (is_found (row_place cs id port)))
+    or_small (query_refusal rules cs ps fs stack) (refuse Fault.NoVerdictRow None (too_short (is_found (row_place rules cs id port))))
+    (liveness_small rules cs ps fs (room_for (component_count cs) 2 stack)) (row_small (is_found (row_place rules cs id port)))

@@ -91,18 +91,18 @@ module _ {cs ps : List ℤ} (scene : Scene cs ps) where
 -- ---- the answer of a query that the checks of the lists accept
 
 -- 8, the last of the checks
-abbrev row_checked : List ℤ → ℕ → ℕ → Result ⊤ Refusal
-row_checked cs id port = refuse Fault.NoVerdictRow None (too_short (is_found (row_place cs id port)))
+abbrev row_checked : ℕ → List ℤ → ℕ → ℕ → Result ⊤ Refusal
+row_checked rules cs id port = refuse Fault.NoVerdictRow None (too_short (is_found (row_place rules cs id port)))
 
 module _ {rules : ℕ} {cs ps fs : List ℤ} (id : ℕ) {port : ℕ} {stack stack' : List ℕ} where
-  answer_upstream : (r : Result InputSources Refusal) → Scene cs ps → InputsBy (row_checked cs id port) rules cs ps fs (row_place cs id port) port stack stack' r
-      → IfOk r (λ s. (p : ℕ) → row_place cs id port ≡ Some p → UpstreamOf rules cs ps fs p port s)
+  answer_upstream : (r : Result InputSources Refusal) → Scene cs ps → InputsBy (row_checked rules cs id port) rules cs ps fs (row_place rules cs id port) port stack stack' r
+      → IfOk r (λ s. (p : ℕ) → row_place rules cs id port ≡ Some p → UpstreamOf rules cs ps fs p port s)
   answer_upstream (Ok s) scene a = λ p e. upstream_of scene (subst (λ (f : Option ℕ). PortSets rules cs ps fs f port s) e a.sets)
   answer_upstream (Err refused) scene a = tt
 
   pub answered : {r : Result InputSources Refusal} → query_refusal rules cs ps fs (length stack) ≡ Ok tt
-      → InputsBy (row_checked cs id port) rules cs ps fs (row_place cs id port) port stack stack' r → Answered rules cs ps fs id port stack stack' r
+      → InputsBy (row_checked rules cs id port) rules cs ps fs (row_place rules cs id port) port stack stack' r → Answered rules cs ps fs id port stack stack' r
   answered {r} e a = record {
-    by = subst (λ (c : Result ⊤ Refusal). InputsBy (c or_else row_checked cs id port) rules cs ps fs (row_place cs id port) port stack stack' r) (sym e) a;
+    by = subst (λ (c : Result ⊤ Refusal). InputsBy (c or_else row_checked rules cs id port) rules cs ps fs (row_place rules cs id port) port stack stack' r) (sym e) a;
     upstream = answer_upstream r (scene_of_lem (liveness_accept _ _ _ _ _ e)) a;
   }

@@ -7,7 +7,7 @@
 use Rattle.lists.specs.declared.Fault.{Fault}
 use Rattle.std.specs.Prelude.{⊤, Option, Some, None, Result, Ok, Err, IfOk}
 use Rattle.lists.specs.declared.Refusal.{Refusal}
-use Rattle.std.specs.Prelude.{ℕ, ◌<◌, ◌≡◌, Bool, true, false, cond, ◌&&◌, List, [], ◌∷◌, ◌↔◌, eqb, ltb, length, ℤ}
+use Rattle.std.specs.Prelude.{ℕ, ◌<◌, ◌≡◌, Bool, true, false, cond, ◌&&◌, List, [], ◌∷◌, ◌↔◌, eqb, length, ℤ}
 use Rattle.sets.specs.Members.{member_of}
 use Rattle.lists.specs.Records.{component, port_connection, component_count, port_count}
 use Rattle.lists.specs.First.{is_found, some, tabulate}
@@ -15,13 +15,12 @@ use Rattle.lists.specs.Ids as Ids
 use Rattle.lists.specs.Ids.{place_of}
 use Rattle.checks.specs.Refusals.{refuse, too_short, ◌or_else◌, query_refusal, refusal_numbers, numbers_by}
 use Rattle.lists.specs.Slices.{work_of}
-use Rattle.faces.specs.Ports.{ports_of}
 use Rattle.regions.specs.Graph.{marked, flip}
 use Rattle.regions.specs.Kosaraju.{reached}
 use Rattle.signals.specs.Signals.{signals, source_member}
 use Rattle.signals.specs.Regions.{is_inferred}
 use Rattle.signals.specs.Drive.{members_where}
-use Rattle.assessment.specs.Verdicts.{feeds_port, is_required}
+use Rattle.assessment.specs.Verdicts.{feeds_port, has_row}
 use Rattle.liveness.specs.Demand.{Chain}
 use Rattle.liveness.specs.Sets.{SetWhere, checked}
 use Rattle.inputs.specs.declared.InputSources.{InputSources}
@@ -41,16 +40,16 @@ is_inferred_for rules cs ps fs p port a = marked (upstream cs ps p port) a && ma
 -- ---- the port asked for, by an id and a port
 
 -- the place, where the port of its component has a verdict row
-abbrev pub with_row : List ℤ → ℕ → Option ℕ → Option ℕ
-with_row cs port (Some p) = cond (ltb port (length (ports_of (component cs p))) && is_required (component cs p) port) (Some p) None
-with_row cs port None = None
+abbrev pub with_row : ℕ → List ℤ → ℕ → Option ℕ → Option ℕ
+with_row rules cs port (Some p) = cond (has_row rules (component cs p) port) (Some p) None
+with_row rules cs port None = None
 
-unfoldable pub row_place : List ℤ → ℕ → ℕ → Option ℕ
-row_place cs id port = with_row cs port (place_of cs id)
+unfoldable pub row_place : ℕ → List ℤ → ℕ → ℕ → Option ℕ
+row_place rules cs id port = with_row rules cs port (place_of cs id)
 
 -- the refusals of the lists, then 8
 abbrev pub input_refusal : ℕ → List ℤ → List ℤ → List ℤ → ℕ → ℕ → ℕ → Result ⊤ Refusal
-input_refusal rules cs ps fs id port stack = query_refusal rules cs ps fs stack or_else refuse Fault.NoVerdictRow None (too_short (is_found (row_place cs id port)))
+input_refusal rules cs ps fs id port stack = query_refusal rules cs ps fs stack or_else refuse Fault.NoVerdictRow None (too_short (is_found (row_place rules cs id port)))
 
 -- a test at a place that was found
 abbrev pub at_place : (ℕ → ℕ → Bool) → Option ℕ → ℕ → Bool
@@ -83,5 +82,5 @@ pub record InputsBy (checks : Result ⊤ Refusal) (rules : ℕ) (cs ps fs : List
 
 -- from a rules number, the lists, an id, a port and the lent stack
 pub record Answered (rules : ℕ) (cs ps fs : List ℤ) (id port : ℕ) (stack stack' : List ℕ) (r : Result InputSources Refusal) : Type 0 where
-  pub by : InputsBy (input_refusal rules cs ps fs id port (length stack)) rules cs ps fs (row_place cs id port) port stack stack' r
-  pub upstream : IfOk r (λ s. (p : ℕ) → row_place cs id port ≡ Some p → UpstreamOf rules cs ps fs p port s)
+  pub by : InputsBy (input_refusal rules cs ps fs id port (length stack)) rules cs ps fs (row_place rules cs id port) port stack stack' r
+  pub upstream : IfOk r (λ s. (p : ℕ) → row_place rules cs id port ≡ Some p → UpstreamOf rules cs ps fs p port s)

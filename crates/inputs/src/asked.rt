@@ -28,17 +28,18 @@ use signals::edges::PORTS;
 use signals::stages::build_fed;
 use tables::SPAN;
 
-// What the ports of a scene are asked by: the table of its components' ids, its edges by the port that they feed, the regions of its
+// What the ports of a scene are asked by: the rules number, the table of its components' ids, its edges by the port that they feed, the regions of its
 // members, and the rows of the inferred inputs upstream of each region.
 #[derive(Clone, Copy)]
 pub struct Asked<'a> {
+    pub rules: u64,
     pub keys: &'a [u64],
     pub components: &'a [i64],
     pub fed: &'a [u64],
     pub labels: &'a [usize],
     pub upstream: &'a [ComponentSet; COMPONENTS],
     pub ghost table: { IdTable components.now keys.now } by { Prim.hlevel props },
-    pub ghost ready: { ∥ ((rules : ℕ) × (ps fs : List ℤ) × Ready rules components.now ps fs fed.now labels.now upstream.now) ∥₁ },
+    pub ghost ready: { ∥ ((ps fs : List ℤ) × Ready rules components.now ps fs fed.now labels.now upstream.now) ∥₁ },
 }
 
 // Fills what the ports of a plot are asked by: its edges by the port that they feed, the regions of its members, and the rows of the
@@ -111,10 +112,10 @@ impl<'a> Asked<'a> {
     // The sets of a port by the id of its component, empty where it has no verdict row: those of every scene that the tables are of.
     pub fn sources(&self, id: u64, port: u64) -> InputSources
         ensures { let a = self.now in
-            (rules : ℕ) (ps fs : List ℤ) → Ready rules a.components.now ps fs a.fed.now a.labels.now a.upstream.now →
-            PortSets rules a.components.now ps fs (row_place a.components.now id port) port result }
+            (ps fs : List ℤ) → Ready a.rules a.components.now ps fs a.fed.now a.labels.now a.upstream.now →
+            PortSets a.rules a.components.now ps fs (row_place a.rules a.components.now id port) port result }
     {
-        match row_place(self.keys, self.component_list(), id, port) {
+        match row_place(self.rules, self.keys, self.component_list(), id, port) {
             Some(_) => slot_sources(
                 self.fed,
                 member_of(self.keys, id) * PORTS + port as usize,

@@ -201,11 +201,11 @@ pub(crate) fn query_plot(
     stack: &mut [usize],
 ) -> Result<InputSources, Refusal>
     requires { 2 * component_count plot.now.components.now ≤ length stack.old }
-    ensures { let p = plot.now in let place = row_place p.components.now id port in
+    ensures { let p = plot.now in let place = row_place p.rules p.components.now id port in
         InputsBy (refuse Fault.NoVerdictRow None (too_short (is_found place)))
         p.rules p.components.now p.ports.now p.frontiers.now place port stack.old stack.new result }
 {
-    let p = row_place(plot.keys, plot.component_list(), id, port).ok_or(Refusal {
+    let p = row_place(plot.rules, plot.keys, plot.component_list(), id, port).ok_or(Refusal {
         fault: Fault::NoVerdictRow,
         list: None,
         item: 0,

@@ -11,29 +11,35 @@ use lists::IDS;
 use lists::ids::place_of;
 use lists::views::ComponentList;
 
-// Whether a port of a kind has a verdict row.
-fn has_row(kind: u64, port: u64) -> bool
-    ensures { result ≡ (leb (first_required kind) port && ltb port (first_required kind + required_count kind)) }
+// Whether a port of a kind and facing has a verdict row.
+fn has_row(rules: u64, kind: u64, facing: u64, port: u64) -> bool
+    ensures { result ≡ (leb (first_required kind) port && ltb port (first_required kind + required_count rules kind facing)) }
 {
-    required_ports(kind).contains(&(port as usize))
+    required_ports(rules, kind, facing).contains(&(port as usize))
 }
 
 // The place, where the port of its component has a verdict row.
-fn with_row(components: ComponentList, port: u64, p: usize) -> Option<usize>
+fn with_row(rules: u64, components: ComponentList, port: u64, p: usize) -> Option<usize>
     requires { p < component_count components.numbers.now }
-    ensures { result ≡ with_row components.entry.numbers.now port (Some p) }
+    ensures { result ≡ with_row rules components.entry.numbers.now port (Some p) }
 {
-    has_row(components.kind(p), port).then_some(p)
+    has_row(rules, components.kind(p), components.facing(p), port).then_some(p)
 }
 
 // Where the component of the port asked for stands, if the port has a verdict row.
-pub fn row_place(keys: &[u64], components: ComponentList, id: u64, port: u64) -> Option<usize>
+pub fn row_place(
+    rules: u64,
+    keys: &[u64],
+    components: ComponentList,
+    id: u64,
+    port: u64,
+) -> Option<usize>
     requires { IdTable components.numbers.now keys.now }
-    ensures { result ≡ row_place components.entry.numbers.now id port }
+    ensures { result ≡ row_place rules components.entry.numbers.now id port }
 {
     if IDS <= id {
         return None;
     }
     let p = place_of(keys, id)?;
-    with_row(components, port, p)
+    with_row(rules, components, port, p)
 }

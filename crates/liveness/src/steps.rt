@@ -218,6 +218,7 @@ fn report(
     let counts = RowCounts {
         sources: put_sources(listed, &on_frontier, &inferred, sources),
         inputs: write_verdicts(
+            lists.rules,
             listed,
             plot.members,
             lists.port_list(),

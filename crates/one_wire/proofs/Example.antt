@@ -2,10 +2,11 @@
 -- Assumes nothing.
 use Rattle.std.specs.Prelude.{Ok}
 use mathlib.Core.Path.{sym, subst, ◌≡◌, refl, ◌∙◌}
-use mathlib.Core.Bool.{Bool, true, false, cond}
+use mathlib.Core.Bool.{Bool, true, false, cond, ◌&&◌}
 use mathlib.Core.List.Memᴰ
 use mathlib.Core.List.{List, [], ◌∷◌}
-use Prim.Native.Nat.{ℕ}
+use mathlib.Core.Logic.{inr}
+use Prim.Native.Nat.{ℕ, zero, suc, ◌<◌}
 use native.Mathlib.Omega.{arith}
 use lib.Dec.{eqb}
 use lib.IntN.{ℤ}
@@ -13,6 +14,7 @@ use borrow.Author.Tests.{eq-eqb, ne_eqb}
 use Rattle.sets.specs.Members.{count_below}
 use Rattle.lists.specs.First.{first_from, all_from, tabulate}
 use Rattle.lists.specs.Rules.{known_rules}
+use Rattle.lists.specs.Records.{component}
 use Rattle.lists.specs.Ranges.{record_in_range, first_out_of_range}
 use Rattle.lists.specs.Order.{record_before, first_not_ascending}
 use Rattle.lists.specs.Ids.{place_below, first_repeated, first_end_missing, smaller_ids}
@@ -20,13 +22,16 @@ use Rattle.checks.specs.Refusals.{not_whole, scene_lists, grouping_lists, livene
 use Rattle.circuit.specs.Connected.{Joined, pair, same, flip, chain}
 use Rattle.circuit.specs.Topology.{net_kinds, fragment_kinds, joins, joins_of, net_count, fragment_count}
 use Rattle.circuit.proofs.Nets.{numbers_joined}
-use Rattle.faces.specs.Ports.{opposite, face_or, neither, repeater_ports, ports_for}
+use Rattle.faces.specs.Ports.{NoFace, turns, opposite, face_or, neither, repeater_ports, ports_by_facing, ports_for}
 use Rattle.regions.specs.Graph as graph
 use Rattle.regions.specs.Kosaraju as walk
 use Rattle.signals.specs.Signals.{signals}
 use Rattle.signals.specs.Sources.{source_kind, first_at, is_on_frontier}
+use Rattle.signals.specs.Regions.{lamp}
 use Rattle.signals.specs.Drive.{members_where, drive}
 use Rattle.assessment.specs.Verdicts.{fed_by, status_of, port_rows, verdict_rows, input_rows}
+use Rattle.assessment.specs.RulesLaws.{NoLamp, NoBlank}
+use Rattle.assessment.proofs.RulesLaws.{rules_agree}
 use Rattle.one_wire.specs.Grouping.{group_count}
 use Rattle.one_wire.specs.Ports.{is_driven, is_reachable, newly}
 use Rattle.one_wire.proofs.Merged.{number_of, group_count_lem}
@@ -52,13 +57,33 @@ reachable : count_below (is_reachable lever_and_repeater [] 2) 2 ≡ 1
 unfolding count_below first_from tabulate smaller_ids graph.range graph.filter graph.each graph.next walk.visit walk.reached signals is_reachable
 reachable = refl
 
+-- neither is a lamp, and neither has a blank facing: so the rows are those under rules 1
+no_lamp : NoLamp lever_and_repeater
+no_lamp = record { at = at }
+  where
+    at : (p : ℕ) → p < 2 → eqb (component lever_and_repeater p).kind lamp ≡ false
+    at zero h = refl
+    at (suc zero) h = refl
+    at (suc (suc p)) h = absurd (omega arith)
+
+no_blank : NoBlank lever_and_repeater
+no_blank = record { at = at }
+  where
+    at : (p : ℕ) → p < 2 → (eqb (component lever_and_repeater p).facing NoFace && turns (component lever_and_repeater p).kind) ≡ false
+    at zero h = refl
+    at (suc zero) h = refl
+    at (suc (suc p)) h = absurd (omega arith)
+
+as_by_one : (rules : ℕ) (ps : List ℤ) → input_rows rules lever_and_repeater ps [] ≡ input_rows 1 lever_and_repeater ps []
+as_by_one rules ps = (rules_agree rules 1 lever_and_repeater ps [] (inr no_lamp) (inr no_blank)).inputs
+
 rows_before : (rules : ℕ) → input_rows rules lever_and_repeater [] [] ≡ 2 ∷ 1 ∷ 2 ∷ []
-unfolding first_from opposite face_or neither repeater_ports ports_for status_of port_rows verdict_rows
-rows_before rules = refl
+unfolding first_from opposite face_or neither repeater_ports ports_by_facing ports_for status_of port_rows verdict_rows
+rows_before rules = as_by_one rules []
 
 rows_after : (rules : ℕ) → input_rows rules lever_and_repeater feed [] ≡ 2 ∷ 1 ∷ 0 ∷ []
-unfolding count_below first_from tabulate smaller_ids opposite face_or neither repeater_ports ports_for graph.range graph.filter graph.each graph.next walk.visit walk.reached signals source_kind first_at is_on_frontier members_where drive fed_by status_of port_rows verdict_rows
-rows_after rules = refl
+unfolding count_below first_from tabulate smaller_ids opposite face_or neither repeater_ports ports_by_facing ports_for graph.range graph.filter graph.each graph.next walk.visit walk.reached signals source_kind first_at is_on_frontier members_where drive fed_by status_of port_rows verdict_rows
+rows_after rules = as_by_one rules feed
 
 -- ---- groups
 

@@ -101,7 +101,7 @@ module _ (rules : ℕ) (cs ps ps' fs : List ℤ) (i : ℕ) (added : Added port_w
   rows_of_ports : (p m : ℕ) → RowsAfter c (port_rows rules cs ps fs p m) (port_rows rules cs ps' fs p m)
   unfolding port_rows
   rows_of_ports p zero = none
-  rows_of_ports p (suc k) = after_both (rows_of_ports p k) (go (is_required (component cs p) k))
+  rows_of_ports p (suc k) = after_both (rows_of_ports p k) (go (is_required rules (component cs p) k))
     where
       go : (t : Bool) → RowsAfter c (cond t ((component cs p).id ∷ k ∷ status_of rules cs ps fs p k ∷ []) []) (cond t ((component cs p).id ∷ k ∷ status_of rules cs ps' fs p k ∷ []) [])
       go true = row (row_after p k) none
@@ -110,7 +110,7 @@ module _ (rules : ℕ) (cs ps ps' fs : List ℤ) (i : ℕ) (added : Added port_w
   component_rows : (m : ℕ) → RowsAfter c (verdict_rows rules cs ps fs m) (verdict_rows rules cs ps' fs m)
   unfolding verdict_rows
   component_rows zero = none
-  component_rows (suc p) = after_both (component_rows p) (rows_of_ports p (length (ports_of (component cs p))))
+  component_rows (suc p) = after_both (component_rows p) (rows_of_ports p (length (ports_of rules (component cs p))))
 
   pub rows_after : RowsAfter c (input_rows rules cs ps fs) (input_rows rules cs ps' fs)
   rows_after = component_rows (component_count cs)

@@ -64,29 +64,29 @@ some_trail cs ps fs id port (x ∷ l) e = omega arith
 
 -- ---- where there is a trail
 
-module _ (cs ps fs : List ℤ) (scene : Scene cs ps) (id port p : ℕ) (row : row_place cs id port ≡ Some p) where
-  trail_zero : (rules : ℕ) (l : List ℕ) → port_trail cs ps fs id port l ≡ true → status_of rules cs ps fs p port ≡ 0
-  trail_zero rules l e =
-      let is = (row_found cs id port row).id_is in
-      (status_trail cs ps fs scene p port rules).1 (map (smaller_ids cs) l, trail_found (finding cs ps fs scene p port id is) l e)
+module _ (rules : ℕ) (cs ps fs : List ℤ) (scene : Scene cs ps) (id port p : ℕ) (row : row_place rules cs id port ≡ Some p) where
+  trail_zero : (by : ℕ) (l : List ℕ) → port_trail cs ps fs id port l ≡ true → status_of by cs ps fs p port ≡ 0
+  trail_zero by l e =
+      let is = (row_found rules cs id port row).id_is in
+      (status_trail cs ps fs scene p port by).1 (map (smaller_ids cs) l, trail_found (finding cs ps fs scene p port id is) l e)
 
-  zero_trail : (rules : ℕ) → status_of rules cs ps fs p port ≡ 0 → (l : List ℕ) × (port_trail cs ps fs id port l ≡ true)
-  zero_trail rules e =
-      let is = (row_found cs id port row).id_is in
-      let t = (status_trail cs ps fs scene p port rules).0 e in
+  zero_trail : (by : ℕ) → status_of by cs ps fs p port ≡ 0 → (l : List ℕ) × (port_trail cs ps fs id port l ≡ true)
+  zero_trail by e =
+      let is = (row_found rules cs id port row).id_is in
+      let t = (status_trail cs ps fs scene p port by).0 e in
       (map (first_name cs) t.0, trail_to (naming cs ps fs scene (first_name cs) (first_names cs scene.distinct) p port id is) t.0 t.1)
 
   exists : TrailExists cs ps fs id port p
   exists = record {
-    status = λ rules. (λ t. trail_zero rules t.0 t.1, zero_trail rules);
-    reported = λ rules. (
-      λ t. subst (λ (s : ℕ). HasRow id port s (input_rows rules cs ps fs)) (trail_zero rules t.0 t.1) (row_there rules cs ps fs id port p row),
-      λ h. zero_trail rules (row_status rules cs ps fs id port p row scene.distinct 0 h),
+    status = λ by. (λ t. trail_zero by t.0 t.1, zero_trail by);
+    reported = λ by there. (
+      λ t. subst (λ (s : ℕ). HasRow id port s (input_rows by cs ps fs)) (trail_zero by t.0 t.1) (row_there by cs ps fs id port p there),
+      λ h. zero_trail by (row_status by cs ps fs id port p there scene.distinct 0 h),
     );
   }
 
-pub trail_exists : (rules : ℕ) (cs ps fs : List ℤ) (id port p : ℕ) → liveness_lists rules cs ps fs true ≡ Ok tt → row_place cs id port ≡ Some p → TrailExists cs ps fs id port p
-trail_exists rules cs ps fs id port p lists row = exists cs ps fs (scene_of_lem (liveness_accept rules cs ps fs true lists)) id port p row
+pub trail_exists : (rules : ℕ) (cs ps fs : List ℤ) (id port p : ℕ) → liveness_lists rules cs ps fs true ≡ Ok tt → row_place rules cs id port ≡ Some p → TrailExists cs ps fs id port p
+trail_exists rules cs ps fs id port p lists row = exists rules cs ps fs (scene_of_lem (liveness_accept rules cs ps fs true lists)) id port p row
 
 -- ---- the check
 
@@ -100,15 +100,15 @@ pub checking_laws : {rules : ℕ} {cs ps fs : List ℤ} {id port : ℕ} {l : Lis
 checking_laws {rules} {cs} {ps} {fs} {id} {port} {l} c = record {
   all_trails = c.by.accepts;
   is_trail = λ a. sym c.by.accepts ∙ a;
-  status = λ a. (row.0, row.1, trail_zero cs ps fs scene id port row.0 row.1 rules l (sym c.by.accepts ∙ a));
+  status = λ a. (row.0, row.1, trail_zero rules cs ps fs scene id port row.0 row.1 rules l (sym c.by.accepts ∙ a));
   present = λ a. all_at (λ y. has_component cs y ≡ true) l (trail_present cs ps fs scene (feeds_into ps id port) l (sym c.by.accepts ∙ a));
 }
   where
-    parts : (liveness_lists rules cs ps fs true ≡ Ok tt) × (row_refusal (row_place cs id port) ≡ Ok tt)
-    parts = both_accept (liveness_lists rules cs ps fs true) (row_refusal (row_place cs id port)) (sym c.by.answer)
+    parts : (liveness_lists rules cs ps fs true ≡ Ok tt) × (row_refusal (row_place rules cs id port) ≡ Ok tt)
+    parts = both_accept (liveness_lists rules cs ps fs true) (row_refusal (row_place rules cs id port)) (sym c.by.answer)
 
-    row : (p : ℕ) × (row_place cs id port ≡ Some p)
-    row = row_at (row_place cs id port) parts.1
+    row : (p : ℕ) × (row_place rules cs id port ≡ Some p)
+    row = row_at (row_place rules cs id port) parts.1
 
     scene : Scene cs ps
     scene = scene_of_lem (liveness_accept rules cs ps fs true parts.0)
@@ -119,25 +119,25 @@ module _ {rules : ℕ} {cs ps fs : List ℤ} {id port : ℕ} {trail₀ trail' : 
   abbrev enough : Bool
   enough = room_for (component_count cs) 1 (length trail₀)
 
-  parts : (liveness_lists rules cs ps fs enough ≡ Ok tt) × (port_refusal rules cs ps fs port (row_place cs id port) ≡ Ok tt)
-  parts = both_accept (liveness_lists rules cs ps fs enough) (port_refusal rules cs ps fs port (row_place cs id port)) (sym f.by.answer)
+  parts : (liveness_lists rules cs ps fs enough ≡ Ok tt) × (port_refusal rules cs ps fs port (row_place rules cs id port) ≡ Ok tt)
+  parts = both_accept (liveness_lists rules cs ps fs enough) (port_refusal rules cs ps fs port (row_place rules cs id port)) (sym f.by.answer)
 
-  port_parts : (row_refusal (row_place cs id port) ≡ Ok tt) × (status_refusal rules cs ps fs port (row_place cs id port) ≡ Ok tt)
-  port_parts = both_accept (row_refusal (row_place cs id port)) (status_refusal rules cs ps fs port (row_place cs id port)) parts.1
+  port_parts : (row_refusal (row_place rules cs id port) ≡ Ok tt) × (status_refusal rules cs ps fs port (row_place rules cs id port) ≡ Ok tt)
+  port_parts = both_accept (row_refusal (row_place rules cs id port)) (status_refusal rules cs ps fs port (row_place rules cs id port)) parts.1
 
   -- the check's refusals accept too
   check_accepts : check_refusal rules cs ps fs id port ≡ Ok tt
   check_accepts =
       let room = (liveness_accept rules cs ps fs enough parts.0).scene.lengths.room in
       let lists : liveness_lists rules cs ps fs true ≡ Ok tt = ap (liveness_lists rules cs ps fs) (sym room) ∙ parts.0 in
-      ap (λ (c : Result ⊤ Refusal). c or_else row_refusal (row_place cs id port)) lists ∙ port_parts.0
+      ap (λ (c : Result ⊤ Refusal). c or_else row_refusal (row_place rules cs id port)) lists ∙ port_parts.0
 
   laid_is : BestLaid cs ps fs id port trail₀ trail' count
   laid_is = f.by.found
 
   pub finding_laws : FindingLaws rules cs ps fs id port trail₀ trail' count
   finding_laws =
-      let row = row_at (row_place cs id port) port_parts.0 in
+      let row = row_at (row_place rules cs id port) port_parts.0 in
       let zero : status_of rules cs ps fs row.0 port ≡ 0 =
       status_at rules cs ps fs port row.0 (subst (λ (w : Option ℕ). status_refusal rules cs ps fs port w ≡ Ok tt) row.1 port_parts.1) in
       let l = laid_is in
@@ -164,7 +164,7 @@ module _ {rules : ℕ} {cs ps fs : List ℤ} {id port : ℕ} {trail₀ trail' : 
 
 -- where the lists are accepted and the port has a row, the finder answers exactly if the analysis has that row with status 0
 pub found_exactly : {rules : ℕ} {cs ps fs : List ℤ} {id port : ℕ} {trail₀ trail' : List ℕ} {r : Result ℕ Refusal} → Finding rules cs ps fs id port trail₀ trail' r
-    → finder_lists rules cs ps fs (length trail₀) ≡ Ok tt → (p : ℕ) → row_place cs id port ≡ Some p
+    → finder_lists rules cs ps fs (length trail₀) ≡ Ok tt → (p : ℕ) → row_place rules cs id port ≡ Some p
     → (checked r ≡ Ok tt) ↔ HasRow id port 0 (input_rows rules cs ps fs)
 found_exactly {rules} {cs} {ps} {fs} {id} {port} {trail₀} {trail'} {r} f lists p row = (go r f, λ has. f.by.answer ∙ accepted has)
   where
@@ -175,6 +175,6 @@ found_exactly {rules} {cs} {ps} {fs} {id} {port} {trail₀} {trail'} {r} f lists
     accepted : HasRow id port 0 (input_rows rules cs ps fs) → finder_refusal rules cs ps fs id port (length trail₀) ≡ Ok tt
     accepted has =
         let scene = scene_of_lem (liveness_accept rules cs ps fs (room_for (component_count cs) 1 (length trail₀)) lists) in
-        ap (λ (c : Result ⊤ Refusal). c or_else port_refusal rules cs ps fs port (row_place cs id port)) lists
+        ap (λ (c : Result ⊤ Refusal). c or_else port_refusal rules cs ps fs port (row_place rules cs id port)) lists
         ∙ ap (port_refusal rules cs ps fs port) row
         ∙ status_some rules cs ps fs p port (row_status rules cs ps fs id port p row scene.distinct 0 has)

@@ -39,10 +39,10 @@ abbrev pub finder_lists : ℕ → List ℤ → List ℤ → List ℤ → ℕ →
 finder_lists rules cs ps fs places = liveness_lists rules cs ps fs (room_for (component_count cs) 1 places)
 
 abbrev pub finder_refusal : ℕ → List ℤ → List ℤ → List ℤ → ℕ → ℕ → ℕ → Result ⊤ Refusal
-finder_refusal rules cs ps fs id port places = finder_lists rules cs ps fs places or_else port_refusal rules cs ps fs port (row_place cs id port)
+finder_refusal rules cs ps fs id port places = finder_lists rules cs ps fs places or_else port_refusal rules cs ps fs port (row_place rules cs id port)
 
 abbrev pub check_refusal : ℕ → List ℤ → List ℤ → List ℤ → ℕ → ℕ → Result ⊤ Refusal
-check_refusal rules cs ps fs id port = liveness_lists rules cs ps fs true or_else row_refusal (row_place cs id port)
+check_refusal rules cs ps fs id port = liveness_lists rules cs ps fs true or_else row_refusal (row_place rules cs id port)
 
 -- ---- the finder
 

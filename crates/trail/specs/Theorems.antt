@@ -30,8 +30,9 @@ pub record TrailLaws (drive : ℕ → Bool) (edge : Edges) (feeds : ℕ → Bool
 pub record TrailExists (cs ps fs : List ℤ) (id port place : ℕ) : Type 0 where
   -- there is a trail exactly if the row's status is 0, by whatever rules: a trail knows of none
   pub status : (rules : ℕ) → ((l : List ℕ) × (port_trail cs ps fs id port l ≡ true)) ↔ (status_of rules cs ps fs place port ≡ 0)
-  -- and so exactly if the whole analysis has the row with that status
-  pub reported : (rules : ℕ) → ((l : List ℕ) × (port_trail cs ps fs id port l ≡ true)) ↔ HasRow id port 0 (input_rows rules cs ps fs)
+  -- and so exactly if the whole analysis has the row with that status, by whatever rules under which the port has a row there
+  pub reported : (rules : ℕ) → row_place rules cs id port ≡ Some place
+      → ((l : List ℕ) × (port_trail cs ps fs id port l ≡ true)) ↔ HasRow id port 0 (input_rows rules cs ps fs)
 
 -- ---- of the entries
 
@@ -39,7 +40,7 @@ pub record TrailExists (cs ps fs : List ℤ) (id port place : ℕ) : Type 0 wher
 pub record FindingLaws (rules : ℕ) (cs ps fs : List ℤ) (id port : ℕ) (trail trail' : List ℕ) (count : ℕ) : Type 0 where
   -- the port has a verdict row, of the component at this place, and its status is 0
   pub place : ℕ
-  pub row : row_place cs id port ≡ Some place
+  pub row : row_place rules cs id port ≡ Some place
   pub status : status_of rules cs ps fs place port ≡ 0
   -- the whole analysis has that row
   pub reported : HasRow id port 0 (input_rows rules cs ps fs)
@@ -64,6 +65,6 @@ pub record FindingLaws (rules : ℕ) (cs ps fs : List ℤ) (id port : ℕ) (trai
 pub record CheckingLaws (rules : ℕ) (cs ps fs : List ℤ) (id port : ℕ) (trail : List ℕ) (accepted : Bool) : Type 0 where
   pub all_trails : accepted ≡ port_trail cs ps fs id port trail
   pub is_trail : accepted ≡ true → port_trail cs ps fs id port trail ≡ true
-  pub status : accepted ≡ true → (p : ℕ) × (row_place cs id port ≡ Some p) × (status_of rules cs ps fs p port ≡ 0)
+  pub status : accepted ≡ true → (p : ℕ) × (row_place rules cs id port ≡ Some p) × (status_of rules cs ps fs p port ≡ 0)
   -- each id is that of a component
   pub present : accepted ≡ true → (k : ℕ) → k < length trail → has_component cs (get_or trail k 0) ≡ true

@@ -100,10 +100,10 @@ fn is_trail(plot: &Plot, id: u64, port: u64, trail: &[u64]) -> bool
 
 // The check of a trail of a plot; 8 where the port has no verdict row.
 pub(crate) fn check_plot(plot: &Plot, id: u64, port: u64, trail: &[u64]) -> Result<bool, Refusal>
-    ensures { let l = plot.now in CheckingBy (row_refusal (row_place l.components.now id port))
+    ensures { let l = plot.now in CheckingBy (row_refusal (row_place l.rules l.components.now id port))
         l.components.now l.ports.now l.frontiers.now id port trail.now result }
 {
-    row_place(plot.keys, plot.component_list(), id, port).ok_or(Refusal {
+    row_place(plot.rules, plot.keys, plot.component_list(), id, port).ok_or(Refusal {
         fault: Fault::NoVerdictRow,
         list: None,
         item: 0,

@@ -122,10 +122,10 @@ pub(crate) fn trail_plot(
 ) -> Result<usize, Refusal>
     requires { component_count plot.now.components.now ≤ length trail.old }
     ensures { let l = plot.now in
-        FindingBy (port_refusal l.rules l.components.now l.ports.now l.frontiers.now port (row_place l.components.now id port))
+        FindingBy (port_refusal l.rules l.components.now l.ports.now l.frontiers.now port (row_place l.rules l.components.now id port))
         l.components.now l.ports.now l.frontiers.now id port trail.old trail.new result }
 {
-    row_place(plot.keys, plot.component_list(), id, port).ok_or(Refusal {
+    row_place(plot.rules, plot.keys, plot.component_list(), id, port).ok_or(Refusal {
         fault: Fault::NoVerdictRow,
         list: None,
         item: 0,

@@ -7,4 +7,6 @@ use Rattle.assessment.specs.Rows.{required_count}
 use Rattle.assessment.proofs.slots.any_required.Given as goal
 
 abbrev pub invariant-loop-p : goal.invariant-loop-p
-invariant-loop-p l = (q : ℕ) → q < l.p → required_count (component l.components.numbers.now q).kind ≡ 0
+invariant-loop-p l =
+    (q : ℕ) → q < l.p
+    → required_count l.rules (component l.components.numbers.now q).kind (component l.components.numbers.now q).facing ≡ 0

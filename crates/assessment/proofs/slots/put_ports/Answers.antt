@@ -11,7 +11,7 @@ loop-port-init c =
     let ports = c.required_ports-port-items.ensures.range in
     let given = c.into_iter-port-iterator.ensures.into_iter_gives in
     let start : c.into_iter-port-iterator.result.start ≡ first_required c.args.kind = ap (λ r. r.start) given ∙ ports.0 in
-    let end : c.into_iter-port-iterator.result.end ≡ first_required c.args.kind + required_count c.args.kind = ap (λ r. r.end) given ∙ ports.1 in
+    let end : c.into_iter-port-iterator.result.end ≡ first_required c.args.kind + required_count c.args.rules c.args.kind c.args.facing = ap (λ r. r.end) given ∙ ports.1 in
     ((omega (arith, start), (omega (arith, start, end), end)), ports_none _ _ _ _ _ (omega (arith, start)))
 
 pub loop-port-preserved : goal.loop-port-preserved

@@ -11,5 +11,5 @@ abbrev pub invariant-loop-port : goal.invariant-loop-port
 invariant-loop-port l =
     let first = first_required l.kind in
     let ports = l.port-iterator in
-    ((first ≤ ports.start) × ((ports.start ≤ ports.end) × (ports.end ≡ first + required_count l.kind)))
+    ((first ≤ ports.start) × ((ports.start ≤ ports.end) × (ports.end ≡ first + required_count l.rules l.kind l.facing)))
     × PortsPut l.id first (λ port. status_at l.slots (slot_of l.member port)) l.at l.initial.out l.out l.place (ports.start - first)

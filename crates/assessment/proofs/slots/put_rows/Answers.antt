@@ -19,6 +19,6 @@ loop-p-preserved c =
     let a = c.args in
     let cs = a.components.numbers.now in
     let s = a.slots.now in
-    let row = λ (p : ℕ). rows_of (component cs p).id (component cs p).kind (λ port. status_at s (slot_of (get_or a.members.now p 0) port)) in
-    below_more _ row 3 12 _ _ (λ k. refl) c.loop-p-test.true c.loop-p.invariant (device_few _ _ _ _)
-    (rows_read _ _ _ _ _ c.id.ensures.0 c.kind.ensures c.put_ports-at.ensures) c.put_ports-at.auto.out
+    let row = λ (p : ℕ). rows_of a.rules (component cs p).id (component cs p).kind (component cs p).facing (λ port. status_at s (slot_of (get_or a.members.now p 0) port)) in
+    below_more _ row 3 12 _ _ (λ k. refl) c.loop-p-test.true c.loop-p.invariant (device_few _ _ _ _ _ _)
+    (rows_read _ _ _ _ _ _ _ _ c.id.ensures.0 c.kind.ensures c.facing.ensures c.put_ports-at.ensures) c.put_ports-at.auto.out

@@ -8,4 +8,4 @@ use Rattle.assessment.proofs.slots.put_rows.Given as goal
 
 abbrev pub invariant-loop-p : goal.invariant-loop-p
 invariant-loop-p l =
-    RowsPut (rows_below l.components.numbers.now (λ q port. status_at l.slots (slot_of (get_or l.members q 0) port))) 3 12 l.p-end l.initial.out l.out l.at l.p
+    RowsPut (rows_below l.rules l.components.numbers.now (λ q port. status_at l.slots (slot_of (get_or l.members q 0) port))) 3 12 l.p-end l.initial.out l.out l.at l.p

@@ -13,7 +13,8 @@ use Rattle.assessment.proofs.slots.write_verdicts.Goals as goal
 
 -- no rows, and none are written
 pub returns-then-not-any_required : goal.returns-then-not-any_required
-returns-then-not-any_required c rules fs live =
+returns-then-not-any_required c fs live =
+    let rules = c.args.rules in
     let none = c.any_required.ensures (c.if-not-any_required.true) in
     subst (λ (l : List ℕ). Scanned l 3 c.args.out.now c.args.out.now 0)
     (sym (no_rows rules c.args.components.numbers.now c.args.ports.numbers.now fs none _ (omega arith)))
@@ -29,7 +30,7 @@ pub put_rows-requires-clause-members : goal.put_rows-requires-clause-members
 put_rows-requires-clause-members c = members_within _ c.args.components.within.few c.requires.numbers.0
 
 pub returns : goal.returns
-returns c rules fs live =
+returns c fs live =
     subst (λ (l : List ℕ). Scanned l 3 c.args.out.now c.put_rows.new.out c.put_rows.result)
-    (verdicts_are c.args.components.within.few c.requires.settled.0 c.requires.settled.1 c.requires.ends c.requires.numbers.0 c.mark_slots.ensures c.mark_slots.array_long rules fs live)
+    (verdicts_are c.args.components.within.few c.requires.settled.0 c.requires.settled.1 c.requires.ends c.requires.numbers.0 c.mark_slots.ensures c.mark_slots.array_long c.args.rules fs live)
     c.put_rows.ensures

@@ -13,4 +13,4 @@ returns c =
     let asked = rw c.component_list.ensures at c.row_place.ensures in
     let found : c.row_place.result ≡ Some c.in_ok-ok_or.field-0 = grind arith in
     let e = sym asked ∙ found in
-    asked_found c.args.id e (c.driven_port.ensures c.in_ok-ok_or.field-0 (row_found cs c.args.id c.args.port e).id_is)
+    asked_found c.args.plot.now.rules c.args.id e (c.driven_port.ensures c.in_ok-ok_or.field-0 (row_found c.args.plot.now.rules cs c.args.id c.args.port e).id_is)

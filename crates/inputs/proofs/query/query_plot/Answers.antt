@@ -11,7 +11,7 @@ input_sources-requires c =
     let cs = c.args.plot.now.components.now in
     let asked = rw c.component_list.ensures at c.row_place.ensures in
     let found : c.row_place.result ≡ Some c.in_ok-p.p = grind arith in
-    let f = row_found cs c.args.id c.args.port (sym asked ∙ found) in record {
+    let f = row_found c.args.plot.now.rules cs c.args.id c.args.port (sym asked ∙ found) in record {
       p_bound = (f.below, f.port_small);
       stack_room = c.requires;
     }

@@ -12,7 +12,7 @@ use Rattle.inputs.proofs.row.row_place.Goals.{After-place_of}
 
 pub returns-then-id-ge-IDS : goal.returns-then-id-ge-IDS
 returns-then-id-ge-IDS c =
-    sym (row_place_lem c.args.components.numbers.now c.args.id c.args.port (id_past _ c.args.components.within c.args.id (omega (arith, c.if-id-ge-IDS.true))))
+    sym (row_place_lem c.args.rules c.args.components.numbers.now c.args.id c.args.port (id_past _ c.args.components.within c.args.id (omega (arith, c.if-id-ge-IDS.true))))
 
 -- what the lookup says of the id
 looked : (c : After-place_of) → c.place_of.result ≡ place_of c.args.components.numbers.now c.args.id
@@ -26,12 +26,12 @@ with_row-requires c =
 pub returns : goal.returns
 returns c =
     c.with_row.ensures ∙ sym
-    (row_place_lem c.args.components.numbers.now c.args.id c.args.port
+    (row_place_lem c.args.rules c.args.components.numbers.now c.args.id c.args.port
     (sym (looked (goal.at.returns c).After-place_of) ∙ c.in_ok-p.was))
 
 pub returns-in_err-p : goal.returns-in_err-p
 returns-in_err-p c =
     let back : c.from_residual.result ≡ None = search rules in
     back ∙ sym
-    (row_place_lem c.args.components.numbers.now c.args.id c.args.port
+    (row_place_lem c.args.rules c.args.components.numbers.now c.args.id c.args.port
     (sym (looked (goal.at.returns-in_err-p c).After-place_of) ∙ c.in_err-p.was))

@@ -160,7 +160,7 @@ returns c =
     let may : take (nodes s) (c.mark.new.potential ++ rest s) ≡ potential (rules s) (cs s) (ps s) (fs s) = marks_front s c.mark.new.potential
     c.mark.auto.potential ∙ e.potential_is in
     let rows_put = rw c.component_list-listed.ensures at c.put_sources.ensures in
-    let verdict-rows = (rw (c.component_list-listed.ensures, c.port_list.ensures) at c.write_verdicts.ensures) (rules s) (fs s) record { drive_is = live; potential_is = may } in
+    let verdict-rows = (rw (c.component_list-listed.ensures, c.port_list.ensures) at c.write_verdicts.ensures) (fs s) record { drive_is = live; potential_is = may } in
     let analysis : AnalysisOf (rules s) (cs s) (ps s) (fs s) c.answer.result = record {
       region_count_lem = a.regions_is ∙ c.args.plot.now.counted;
       source_count = ap (λ (k : ℕ). k * 2) a.sources_is ∙ rows_put.count ∙ ap length source-rows;
