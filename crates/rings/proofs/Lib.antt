@@ -1,0 +1,9 @@
+-- The theorems, and what the proofs of the functions use.
+--     Linking      links, and how many parts they leave
+--     Pairs        the joined pairs as links
+--     Closed       rings of a class, by its pairs
+--     Laws         what specs/Rings.antt states
+pub mod Linking
+pub mod Pairs
+pub mod Closed
+pub mod Laws
