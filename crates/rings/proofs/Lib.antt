@@ -3,7 +3,9 @@
 --     Pairs        the joined pairs as links
 --     Closed       rings of a class, by its pairs
 --     Laws         what specs/Rings.antt states
+--     Counting     the passes that count joined pairs
 pub mod Linking
 pub mod Pairs
 pub mod Closed
 pub mod Laws
+pub mod Counting
