@@ -2,6 +2,8 @@
 --     Passed                    the keys of a table before a place are passed
 --     pass_none, pass_more, pass_seen, pass_foreign, pass_all     none of a row yet; one more; all
 --     both_near                 two rows
+--     joins_none, joins_more    the pairs of each region, a node more
+--     rings_flagged             the flags
 -- Assumes nothing.
 use mathlib.Core.Path.{◌≡◌, refl, sym, ap, ap₂, ◌∙◌}
 use mathlib.Core.Bool.{Bool, true, false, ◌&&◌, ◌||◌, or-false, or_assoc, and-false, or-true}
@@ -10,20 +12,23 @@ use mathlib.Core.Logic.{⊎_elim}
 use Prim.Native.Nat.{ℕ, zero, suc, ◌+◌, ◌*◌, ◌-◌, ◌≤◌, ◌<◌}
 use native.Mathlib.Numerals.{add-one}
 use native.Mathlib.Omega.{arith}
-use lib.Dec.{eqb}
-use lib.ListN.{length, length-set, get_or, set, take}
+use lib.Dec.{eqb, leb}
+use lib.ListN.{length, length-set, get_or, set, take, replicate, length-replicate, get_or-replicate}
 use lib.Seq.{get_or-set_same, get_or-set_other}
 use borrow.Author.Tests.{eq-eqb, ne_eqb, eqb-true}
 use Rattle.sets.specs.Members.{count_below}
-use Rattle.sets.proofs.Counts.{count_cong, count_more, count_none}
+use Rattle.sets.proofs.Counts.{count_cong, count_more, count_none, count_le}
 use Rattle.tables.specs.Order.{LowerBound, member}
 use Rattle.tables.specs.Laws.{same?}
 use Rattle.tables.specs.Pairs.{span, pair}
-use Rattle.regions.specs.Graph.{at}
+use Rattle.lists.specs.Limits.{component_limit}
+use Rattle.regions.specs.Graph.{Edges, at}
 use Rattle.regions.specs.Keys.{edges}
 use Rattle.regions.proofs.Laws.Keys.{edges_pair}
+use Rattle.signals.specs.Flags.{Flags, Counted}
 use Rattle.signals.specs.Seen.{Rows}
-use Rattle.rings.specs.Counts.{is_seen, near_by, near_either, SeenUpTo, RowSeen}
+use Rattle.rings.specs.Rings.{join_count}
+use Rattle.rings.specs.Counts.{is_seen, near_by, near_either, near_in, SeenUpTo, RowSeen, JoinsCounted}
 
 -- ---- the keys before a place
 
@@ -181,3 +186,48 @@ both_near {forward} {backward} {labels} {b} s₀ {s₁} {s₂} up p q =
     q.marks a (omega arith)
     ∙ ap (λ (t : Bool). t || near_by labels backward b a) (p.marks a (omega arith) ∙ ap (λ (t : Bool). t || near_by labels forward b a) (unseen s₀ b up a))
     ∙ near_both (eqb (at labels a) (at labels b)) (edges (length labels) forward b a) (edges (length labels) backward b a))
+
+-- ---- the joined pairs of each region
+
+pub join_few : (test : Edges) (n : ℕ) → n ≤ component_limit → join_count test n ≤ n * component_limit
+unfolding join_count
+join_few test zero h = omega arith
+join_few test (suc b) h = omega (arith, join_few test b (omega arith), count_le (λ a. test a b) (suc b))
+
+pub joins_none : (forward backward labels : List ℕ) (m : ℕ) → JoinsCounted forward backward labels 0 (replicate m 0)
+unfolding join_count
+joins_none forward backward labels m = record { is = λ r h. get_or-replicate m r 0 0 (omega (arith, length-replicate {A = ℕ} m 0)) }
+
+pub zeros : (m a : ℕ) → at (replicate m 0) a ≡ 0
+zeros zero a = refl
+zeros (suc m) zero = refl
+zeros (suc m) (suc a) = zeros m a
+
+pub joins_more : {forward backward labels joins : List ℕ} {b count : ℕ} → JoinsCounted forward backward labels b joins
+    → count ≡ count_below (λ a. near_either forward backward labels a b) (suc b) → at labels b < length joins
+    → JoinsCounted forward backward labels (b + 1) (set joins (at labels b) (get_or joins (at labels b) 0 + count))
+unfolding join_count
+joins_more {forward} {backward} {labels} {joins} {b} {count} p c low = rw add-one record {
+  is = λ r h.
+      let inside : r < length joins = omega (arith, length-set joins (at labels b) (get_or joins (at labels b) 0 + count)) in
+      ⊎_elim
+      (λ (e : r ≡ at labels b).
+      rw e (get_or-set_same joins (at labels b) (get_or joins (at labels b) 0 + count) 0 low)
+      ∙ ap₂ ◌+◌ (p.is (at labels b) low) (c ∙ count_cong _ _ (suc b) (λ a h. ap (λ (t : Bool). t && near_either forward backward labels a b) (sym (eq-eqb (at labels b) (at labels b) refl))))
+      ∙ ap (λ (k : ℕ). join_count (near_in forward backward labels k) b + count_below (λ a. near_in forward backward labels k a b) (suc b)) (sym e))
+      (λ (ne : r ≡ at labels b → ⊥).
+      get_or-set_other joins (at labels b) r (get_or joins (at labels b) 0 + count) 0 ne
+      ∙ p.is r inside
+      ∙ omega (arith, count_none (λ a. near_in forward backward labels r a b) (suc b) (λ a h.
+      ap (λ (t : Bool). t && near_either forward backward labels a b) (ne_eqb (at labels b) r (λ q. ne (sym q))))))
+      (same? r (at labels b));
+}
+
+pub rings_flagged : {forward backward labels sizes joins : List ℕ} {flags : List Bool} {m : ℕ} → length sizes ≡ m → length joins ≡ m
+    → Counted (length labels) labels sizes → JoinsCounted forward backward labels (length labels) joins
+    → Flags m (λ r. leb (get_or sizes r 0) (get_or joins r 0)) flags
+    → Flags m (λ r. leb (count_below (λ a. eqb (at labels a) r) (length labels)) (join_count (near_in forward backward labels r) (length labels))) flags
+rings_flagged e f c p flagged = record {
+  long = flagged.long;
+  at = λ r h. flagged.at r h ∙ ap₂ leb (c.at r (omega (arith, e))) (p.is r (omega (arith, f)));
+}

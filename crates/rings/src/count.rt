@@ -82,9 +82,11 @@ pub fn flag_rings(network: &Network, flags: &mut [bool])
         (join_count (near_in t.forward.keys.now t.backward.keys.now t.labels.now r) (length t.labels.now))) flags.new }
 {
     let count = flags.len();
-    let mut sizes = [0usize; COMPONENTS];
-    let mut joins = [0usize; COMPONENTS];
-    count_into(network.labels, &mut sizes[..count]);
-    count_joins(network, &mut joins[..count]);
-    flag_enough(&sizes[..count], &joins[..count], flags);
+    let mut size_at = [0usize; COMPONENTS];
+    let mut joins_at = [0usize; COMPONENTS];
+    let sizes = &mut size_at[..count];
+    let joins = &mut joins_at[..count];
+    count_into(network.labels, sizes);
+    count_joins(network, joins);
+    flag_enough(sizes, joins, flags);
 }
