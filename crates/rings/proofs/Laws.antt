@@ -59,7 +59,7 @@ some_counted test n h = go (first_from test 0 n) refl
 
 -- ---- the regions of the quick walk
 
-reach_below : {n : ℕ} {edge : Edges} → Within n edge → {a b : ℕ} → Reach edge a b → a < n → b < n
+pub reach_below : {n : ℕ} {edge : Edges} → Within n edge → {a b : ℕ} → Reach edge a b → a < n → b < n
 reach_below within here h = h
 reach_below within (step {a} {b} e p) h = reach_below within p (within a b e).1
 

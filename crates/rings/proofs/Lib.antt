@@ -4,8 +4,14 @@
 --     Closed       rings of a class, by its pairs
 --     Laws         what specs/Rings.antt states
 --     Counting     the passes that count joined pairs
+--     Prepared     the rings of a prepared plot
+--     Named        rings of members are rings of ids
+--     Scenes       what specs/Scene.antt states
 pub mod Linking
 pub mod Pairs
 pub mod Closed
 pub mod Laws
 pub mod Counting
+pub mod Prepared
+pub mod Named
+pub mod Scenes

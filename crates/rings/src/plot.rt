@@ -39,12 +39,13 @@ fn show(plot: &PreparedPlot, regions: &mut [u64]) -> Rings
 {
     let n = plot.labels.len();
     let count = plot.count;
-    let mut flags = [false; COMPONENTS];
-    flag_plot(plot, &mut flags[..count]);
+    let mut flag_at = [false; COMPONENTS];
+    let flags = &mut flag_at[..count];
+    flag_plot(plot, flags);
     put_regions(&plot.region_at[..n], regions);
     Rings {
         count,
-        rings: ComponentSet::of_flags(&flags[..count]),
+        rings: ComponentSet::of_flags(flags),
     }
 }
 

@@ -1,0 +1,133 @@
+-- The rings of a scene.
+--     numbered_laws          the laws of its signals' regions, by number
+--     on_ring_has, has_on_ring, region_rings     the test says whether some component of the region is on a ring
+--     scene_laws             what specs/Scene.antt states
+--     rings_accepted         the entry's answer, where the checks accept
+-- Assumes nothing.
+use Rattle.std.specs.Prelude.{Ok}
+use mathlib.Core.Path.{◌≡◌, refl, sym, ap, subst, ◌∙◌}
+use mathlib.Core.Bool.{Bool, true, false, ◌&&◌, ◌||◌, false≢true, true≢false}
+use mathlib.Core.List.{List, [], ◌∷◌}
+use mathlib.Core.Logic.{◌⊎◌, inl, inr, ⊎_elim, ◌↔◌}
+use Prim.Native.Nat.{ℕ, suc, ◌+◌, ◌≤◌, ◌<◌}
+use native.Mathlib.Omega.{arith}
+use lib.Dec.{eqb, ltb, leb}
+use lib.ListN.{length, get_or, drop}
+use lib.IntN.{ℤ}
+use borrow.Author.Tests.{eqb-true, eq-eqb, ne_eqb, leb-true, le-leb, lt-ltb}
+use Rattle.sets.specs.Members.{count_below}
+use Rattle.sets.specs.Members as Sets
+use Rattle.tables.specs.Order.{member}
+use Rattle.lists.specs.Records.{component, component_count, port_count}
+use Rattle.lists.specs.First.{some}
+use Rattle.lists.specs.Ids.{member_of}
+use Rattle.lists.proofs.Members.{member_below, count_less}
+use Rattle.lists.proofs.Search.{both}
+use Rattle.lists.proofs.Some.{some_at, some_found}
+use Rattle.regions.specs.Graph.{Reach, step, here, Both, at}
+use Rattle.signals.specs.Signals.{is_signal, source_member, sink_member, signals}
+use Rattle.signals.specs.Regions.{labels, region_count, region_of_place, regions_of, is_cyclic}
+use Rattle.signals.proofs.Within.{scene_regions}
+use Rattle.liveness.specs.Scene.{Scene}
+use Rattle.liveness.proofs.Demands.{signals_within, demand_3, region_laid, edge_led, Led, led_edge}
+use Rattle.rings.specs.Rings.{OnRing, RingThrough, Along, RingOfThree, HasRing, RingLawsOf, joined, pair_count}
+use Rattle.rings.specs.Scene.{Leads, RegionHasRing, members_of_region, has_ring, TwoWayTree, RingSceneLaws}
+use Rattle.rings.specs.Entry.{rings_refusal, RingsBy, RingsFound}
+use Rattle.rings.specs.declared.Rings.{Rings}
+use Rattle.rings.proofs.Closed.{or_cases}
+use Rattle.rings.proofs.Laws.{ring_laws, reach_below}
+use Rattle.rings.proofs.Named.{Stands, stands_at, standing, edge_leads, leads_edge, ring_leads, ring_along}
+
+module _ (cs ps : List ℤ) (scene : Scene cs ps) where
+  -- a member of the region, and the laws from it
+  record Numbered (r : ℕ) : Type 0 where
+    node : ℕ
+    below : node < component_count cs
+    is : at (labels cs ps) node ≡ r
+    laws : RingLawsOf (component_count cs) (signals cs ps) node (members_of_region cs ps r)
+
+  numbered_laws : (r : ℕ) → r < region_count cs ps → Numbered r
+  numbered_laws r h =
+      let n = component_count cs in
+      let m = (scene_regions cs ps scene.ends).onto r h in
+      record {
+        node = m.0;
+        below = m.1;
+        is = m.2;
+        laws = subst (λ (q : ℕ). RingLawsOf n (signals cs ps) m.0 (members_of_region cs ps q)) m.2
+            (ring_laws n (signals cs ps) (signals_within cs ps scene) m.0 m.1);
+      }
+
+  module _ (r : ℕ) (h : r < region_count cs ps) where
+    abbrev from : Numbered r
+    from = numbered_laws r h
+
+    in_both : (a : ℕ) → a < component_count cs → at (labels cs ps) a ≡ r → Both (signals cs ps) from.node a
+    in_both a l e = ((scene_regions cs ps scene.ends).same from.node a from.below l).0 (from.is ∙ sym e)
+
+    both_in : (a : ℕ) → Both (signals cs ps) from.node a → (a < component_count cs) × (at (labels cs ps) a ≡ r)
+    both_in a b =
+        let l = reach_below (signals_within cs ps scene) b.0 from.below in
+        (l, sym (((scene_regions cs ps scene.ends).same from.node a from.below l).1 b) ∙ from.is)
+
+    -- a component of the region on a ring
+    pub on_ring_has : (p : ℕ) → p < component_count cs → region_of_place cs ps p ≡ r → OnRing (Leads ps) (component cs p).id → has_ring cs ps r ≡ true
+    on_ring_has p l e on =
+        let b = in_both (member_of cs p) (member_below cs p l) e in
+        let s = stands_at cs ps scene p l in
+        from.laws.any.1 (⊎_elim
+        (λ ring. inl record { first = member_of cs p; here = b; ring = ring_along cs ps scene s ring })
+        (λ self. inr (member_of cs p, b, leads_edge cs ps scene self))
+        on)
+
+    pub has_on_ring : has_ring cs ps r ≡ true
+        → (p : ℕ) × (p < component_count cs) × (region_of_place cs ps p ≡ r) × OnRing (Leads ps) (component cs p).id
+    has_on_ring e = ⊎_elim
+        (λ three. at_member three.first three.here (λ i s. inl (ring_leads cs ps scene s three.ring)))
+        (λ self. at_member self.0 self.1 (λ i s. inr (edge_leads cs ps scene s s self.2)))
+        (from.laws.any.0 e)
+      where
+        at_member : (a : ℕ) → Both (signals cs ps) from.node a → ((i : ℕ) → Stands cs ps scene a i → OnRing (Leads ps) i)
+            → (p : ℕ) × (p < component_count cs) × (region_of_place cs ps p ≡ r) × OnRing (Leads ps) (component cs p).id
+        at_member a b on =
+            let i = both_in a b in
+            let s = (standing cs ps scene a i.0).1 in
+            (s.place, s.below, ap (at (labels cs ps)) s.is_member ∙ i.1, subst (OnRing (Leads ps)) (sym s.is_id) (on _ s))
+
+    pub region_rings : {regions : List ℕ} → ((p : ℕ) → p < component_count cs → get_or regions p 0 ≡ region_of_place cs ps p)
+        → (has_ring cs ps r ≡ true) ↔ RegionHasRing cs ps regions r
+    region_rings laid = (
+      λ e. let f = has_on_ring e in record { place = f.0; below = f.1; in_it = laid f.0 f.1 ∙ f.2; on_ring = f.3 },
+      λ g. on_ring_has g.place g.below (sym (laid g.place g.below) ∙ g.in_it) g.on_ring,
+    )
+
+    -- ---- beside `cyclic`
+
+    abbrev size : ℕ
+    size = count_below (members_of_region cs ps r) (component_count cs)
+
+    abbrev pairs : ℕ
+    pairs = pair_count (joined (signals cs ps) (members_of_region cs ps r)) (component_count cs)
+
+    three_has : RingOfThree (signals cs ps) from.node → has_ring cs ps r ≡ true
+    three_has t = from.laws.any.1 (inl t)
+
+    large_cyclic : 2 ≤ size → is_cyclic cs ps r ≡ true
+    unfolding is_cyclic
+    large_cyclic l =
+        ap (λ (b : Bool). b || some (λ k. is_signal ps k && (eqb (source_member cs ps k) (sink_member cs ps k) && eqb (at (labels cs ps) (sink_member cs ps k)) r)) (port_count ps))
+        (le-leb 2 size l)
+
+    cyclic_large : is_cyclic cs ps r ≡ true → has_ring cs ps r ≡ false → 2 ≤ size
+    unfolding is_cyclic
+    cyclic_large e none = ⊎_elim (leb-true 2 size) (λ s. absurd (true≢false (sym (self s) ∙ none))) (or_cases _ _ e)
+      where
+        self : some (λ k. is_signal ps k && (eqb (source_member cs ps k) (sink_member cs ps k) && eqb (at (labels cs ps) (sink_member cs ps k)) r)) (port_count ps) ≡ true
+            → has_ring cs ps r ≡ true
+        self s =
+            let f = some_found _ (port_count ps) s in
+            let p = both (is_signal ps f.0) _ f.2 in
+            let q = both (eqb (source_member cs ps f.0) (sink_member cs ps f.0)) _ p.1 in
+            let edge : signals cs ps (sink_member cs ps f.0) (sink_member cs ps f.0) ≡ true =
+            ap (λ (a : ℕ). signals cs ps a (sink_member cs ps f.0)) (sym (eqb-true _ _ q.0)) ∙ led_edge cs ps f.0 f.1 p.0 in
+            from.laws.any.1 (inr (sink_member cs ps f.0, in_both _ (signals_within cs ps scene _ _ edge).1 (eqb-true _ _ q.1), edge))
