@@ -5,30 +5,24 @@
 --     joined_most        the members are joined, so there is at most one pair fewer
 --     ring_pairs         without an edge of a ring the members are still joined, so there are as many pairs as members
 -- Assumes nothing.
-use Rattle.std.specs.Prelude.{Option, Some, None}
 use mathlib.Core.Path.{◌≡◌, refl, sym, ap, ap₂, subst, ◌∙◌}
 use mathlib.Core.Bool.{Bool, true, false, not, ◌&&◌, ◌||◌, false≢true, true≢false}
 use mathlib.Core.List.{List, [], ◌∷◌}
-use mathlib.Core.Logic.{◌⊎◌, inl, inr, ⊎_elim, ◌↔◌}
-use Prim.Native.Nat.{ℕ, zero, suc, ◌+◌, ◌≤◌, ◌<◌}
+use mathlib.Core.Logic.{◌⊎◌, inl, inr, ⊎_elim}
+use Prim.Native.Nat.{ℕ, ◌+◌, ◌≤◌, ◌<◌}
 use native.Mathlib.Omega.{arith}
-use lib.Dec.{eqb, ltb}
+use lib.Dec.{eqb}
 use lib.ListN.{length}
-use borrow.Author.Tests.{eqb-true, eq-eqb, ltb-true, lt-ltb, leb-true, le-leb}
+use borrow.Author.Tests.{eqb-true, eq-eqb}
 use Rattle.sets.specs.Members.{count_below}
-use Rattle.sets.proofs.Counts.{count_cong, count_none}
 use Rattle.tables.specs.Order.{member}
 use Rattle.tables.specs.Laws.{same?, order?}
-use Rattle.lists.specs.First.{first_from}
-use Rattle.lists.proofs.Search.{both, found_at, none_found}
-use Rattle.lists.proofs.Members.{count_less}
-use Rattle.regions.specs.Graph.{Edges, Within, Reach, here, step, Both, at}
+use Rattle.lists.proofs.Search.{both}
+use Rattle.regions.specs.Graph.{Edges, Reach, here, step, Both}
 use Rattle.regions.proofs.Laws.Walks.{Reach·trans}
-use Rattle.regions.specs.Kosaraju.{region_of}
-use Rattle.regions.proofs.Theorems.{region_laws}
-use Rattle.rings.specs.Rings.{Steps, Distinct, Along, RingOfThree, SelfEdge, HasRing, joined, pair_count, join_count, in_region, ring_test, RingLaws}
+use Rattle.rings.specs.Rings.{Steps, Distinct, Along, RingOfThree, joined, pair_count}
 use Rattle.rings.proofs.Linking.{Links, Has, Joins, Linked, stay, link, linked_trans, linked_sym, linked_same, Inside, roots_most, roots_one, roots_some, Redundant, redundant?}
-use Rattle.rings.proofs.Pairs.{pairs, pairs_size, count_same, has_pairs, pairs_has, pairs_clean, pair_test, pair_cases, pair_none, pair_here, without, without_some, without_of, without_has}
+use Rattle.rings.proofs.Pairs.{pairs, pairs_size, has_pairs, pairs_has, pairs_clean, pair_test, pair_cases, pair_none, pair_here, without, without_some, without_of, without_has}
 
 -- ---- tests
 

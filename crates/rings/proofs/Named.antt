@@ -5,10 +5,10 @@
 --     ring_leads, ring_along    a ring of the one sort is one of the other
 -- Assumes nothing.
 use mathlib.Core.Path.{◌≡◌, refl, sym, ap, ap₂, ◌∙◌, subst}
-use mathlib.Core.Bool.{Bool, true, false, ◌||◌}
-use mathlib.Core.List.{List, [], ◌∷◌, map}
-use mathlib.Core.Logic.{⊎_elim, ◌↔◌}
-use Prim.Native.Nat.{ℕ, suc, ◌≤◌, ◌<◌}
+use mathlib.Core.Bool.{true, ◌||◌}
+use mathlib.Core.List.{List, [], ◌∷◌}
+use mathlib.Core.Logic.{⊎_elim}
+use Prim.Native.Nat.{ℕ, suc, ◌<◌}
 use native.Mathlib.Omega.{arith}
 use lib.Dec.{eqb}
 use lib.ListN.{length}
@@ -16,9 +16,9 @@ use lib.IntN.{ℤ}
 use borrow.Author.Tests.{eqb-true, eq-eqb, ne_eqb}
 use Rattle.tables.specs.Order.{member}
 use Rattle.tables.specs.Laws.{same?}
-use Rattle.lists.specs.Records.{component, port_connection, component_count, port_count}
+use Rattle.lists.specs.Records.{component, port_connection, component_count}
 use Rattle.lists.specs.Ids.{smaller_ids, member_of}
-use Rattle.lists.proofs.Members.{member_below, member_inj}
+use Rattle.lists.proofs.Members.{member_inj}
 use Rattle.signals.specs.Signals.{signals}
 use Rattle.signals.proofs.Ends.{found_place, ends_below, source_is}
 use Rattle.liveness.specs.Scene.{Scene}

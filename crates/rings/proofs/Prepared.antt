@@ -7,7 +7,7 @@
 use mathlib.Core.Path.{◌≡◌, refl, sym, ap, ap₂, ◌∙◌, subst}
 use mathlib.Core.Bool.{Bool, true, false, ◌&&◌, ◌||◌, and-false, or_comm}
 use mathlib.Core.List.{List}
-use Prim.Native.Nat.{ℕ, ◌≤◌, ◌<◌}
+use Prim.Native.Nat.{ℕ}
 use native.Mathlib.Omega.{arith}
 use lib.Dec.{eqb, leb}
 use lib.ListN.{length, get_or, take}
@@ -29,7 +29,7 @@ use Rattle.signals.proofs.Within.{scene_regions, labels_count}
 use Rattle.liveness.specs.Scene.{Scene, Prepared}
 use Rattle.liveness.proofs.Answers.{tabulated_same}
 use Rattle.liveness.proofs.Inferring.{labels_long, graph}
-use Rattle.rings.specs.Rings.{joined, join_count, in_region}
+use Rattle.rings.specs.Rings.{joined, join_count}
 use Rattle.rings.specs.Scene.{members_of_region, has_ring}
 use Rattle.rings.specs.Counts.{near_in}
 use Rattle.rings.proofs.Laws.{joins_same}

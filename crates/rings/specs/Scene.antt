@@ -8,7 +8,6 @@
 use Rattle.std.specs.Prelude.{ℕ, ◌+◌, ◌≤◌, ◌<◌, ◌≡◌, Bool, true, false, List, ◌↔◌, get_or, ℤ}
 use Rattle.sets.specs.Members.{count_below}
 use Rattle.lists.specs.Records.{component, port_connection, component_count, port_count}
-use Rattle.regions.specs.Graph.{Edges}
 use Rattle.signals.specs.Signals.{is_signal, signals}
 use Rattle.signals.specs.Regions.{region_count, region_of_place, is_cyclic}
 use Rattle.rings.specs.Rings.{OnRing, joined, pair_count, in_region, ring_test}
