@@ -218,8 +218,11 @@ joins_more {forward} {backward} {labels} {joins} {b} {count} p c low = rw add-on
       (λ (ne : r ≡ at labels b → ⊥).
       get_or-set_other joins (at labels b) r (get_or joins (at labels b) 0 + count) 0 ne
       ∙ p.is r inside
-      ∙ omega (arith, count_none (λ a. near_in forward backward labels r a b) (suc b) (λ a h.
-      ap (λ (t : Bool). t && near_either forward backward labels a b) (ne_eqb (at labels b) r (λ q. ne (sym q))))))
+      ∙ omega (
+        arith,
+        count_none (λ a. near_in forward backward labels r a b) (suc b) (λ a h.
+            ap (λ (t : Bool). t && near_either forward backward labels a b) (ne_eqb (at labels b) r (λ q. ne (sym q)))),
+      ))
       (same? r (at labels b));
 }
 

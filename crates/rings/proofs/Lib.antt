@@ -7,6 +7,7 @@
 --     Prepared     the rings of a prepared plot
 --     Named        rings of members are rings of ids
 --     Scenes       what specs/Scene.antt states
+--     Examples     plots, as antt computes them
 pub mod Linking
 pub mod Pairs
 pub mod Closed
@@ -15,3 +16,4 @@ pub mod Counting
 pub mod Prepared
 pub mod Named
 pub mod Scenes
+mod Examples

@@ -49,11 +49,11 @@ loop-key-preserved c =
           (pass_more labels keys a.b c.requires.rows.0 c.requires.rows.1 a.seen.now l.invariant inside from to c.requires.seen_room.0
           (rw is at w.if-labels-a.true) (rw is at w.if-seen-a.true))
       | else-labels-a w ↦ rw (next, w.seen-is, w.found-is) (elim w.else-labels-a.branch [
-          | else-labels-a-via-then-labels-a+else-seen-a v ↦
-              pass_seen labels keys a.b c.requires.rows.0 c.requires.rows.1 a.seen.now l.invariant inside from to (rw is at v.if-seen-a.false)
-          | else-labels-a-via-else-labels-a v ↦
-              pass_foreign labels keys a.b c.requires.rows.0 c.requires.rows.1 a.seen.now l.invariant inside from to (rw is at v.if-labels-a.false)
-        ])
+        | else-labels-a-via-then-labels-a+else-seen-a v ↦
+            pass_seen labels keys a.b c.requires.rows.0 c.requires.rows.1 a.seen.now l.invariant inside from to (rw is at v.if-seen-a.false)
+        | else-labels-a-via-else-labels-a v ↦
+            pass_foreign labels keys a.b c.requires.rows.0 c.requires.rows.1 a.seen.now l.invariant inside from to (rw is at v.if-labels-a.false)
+      ])
     ]
 
 pub returns : goal.returns
