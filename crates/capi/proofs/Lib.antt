@@ -6,5 +6,6 @@ mod WaySmall
 mod Cleared
 mod LightLaws
 mod ReachTable
+mod RingLaws
 mod KeptLaws
 pub mod Laws
