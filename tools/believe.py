@@ -27,6 +27,7 @@ ENTRIES = {
     "trail/lib": ["find_trail", "check_trail"],
     "clearing/lib": ["clear_missing"],
     "lighting/lib": ["light_regions"],
+    "rings/lib": ["find_rings"],
     "reach_table/lib": ["slow_regions"],
     "records/lib": ["analyze_records"],
     "sheet/lib": ["read_sheet"],
@@ -38,6 +39,7 @@ ENTRIES = {
     "capi/clear": ["dustroute_clear"],
     "capi/kept": ["dustroute_ports"],
     "capi/light": ["dustroute_light"],
+    "capi/ring_set": ["dustroute_rings"],
     "capi/region_table": ["dustroute_reach_table"],
 }
 STATEMENTS = [
@@ -55,6 +57,8 @@ STATEMENTS = [
     ("trail", "Theorems", "CheckingLaws"),
     ("clearing", "Promises", "Partition"),
     ("lighting", "Laws", "LightLaws"),
+    ("rings", "Rings", "RingLaws"),
+    ("rings", "Scene", "RingSceneLaws"),
     ("reach_table", "Theorems", "TableLaws"),
     ("reach_table", "Scene", "SceneLaws"),
     ("one_wire", "Grouping", "OneGroupingConnection"),

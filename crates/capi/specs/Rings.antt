@@ -17,7 +17,8 @@ use Rattle.rings.specs.Entry.{rings_room}
 
 -- the refusal of the lists, given how many numbers each lent slice has
 abbrev pub rings_lists_refusal : ℕ → List ℤ → List ℤ → List ℤ → ℕ → ℕ → ℕ → Result ⊤ Refusal
-rings_lists_refusal rules cs ps fs regions rings stack = liveness_lists rules cs ps fs (room_for 1 word_count rings && rings_room cs regions stack)
+rings_lists_refusal rules cs ps fs regions rings stack =
+    liveness_lists rules cs ps fs (room_for 1 word_count rings && rings_room cs regions stack)
 
 -- a refusal's number, list and item, or 0 in the sixteen lowest bits and then the count of regions
 abbrev pub rings_number : Result ⊤ Refusal → ℕ → ℕ
@@ -29,7 +30,8 @@ abbrev pub ring_words : List ℤ → List ℤ → List ℕ
 ring_words cs ps = words_of_set word_count (region_count cs ps) (has_ring cs ps)
 
 -- by what the checks say: their refusal, or the count, the regions and the set
-pub record RingsLaid (refusal : Result ⊤ Refusal) (cs ps : List ℤ) (regions regions' rings rings' stack stack' : List ℕ) (r : ℕ) : Type 0 where
+pub record RingsLaid (refusal : Result ⊤ Refusal) (cs ps : List ℤ)
+    (regions regions' rings rings' stack stack' : List ℕ) (r : ℕ) : Type 0 where
   pub answer : r ≡ rings_number refusal (region_count cs ps)
   pub regions_left : regions' ≡ left_of refusal (regions_of cs ps) regions
   pub rings_left : rings' ≡ left_of refusal (ring_words cs ps) rings

@@ -30,14 +30,16 @@ pub record RingsOf (cs ps : List ℤ) (a : Rings) : Type 0 where
   pub rings_set : SetWhere (region_count cs ps) (has_ring cs ps) a.rings.words
 
 -- by what the checks say: their refusal, or the count and the set, and the regions
-pub record RingsBy (checks : Result ⊤ Refusal) (cs ps : List ℤ) (regions regions' stack stack' : List ℕ) (r : Result Rings Refusal) : Type 0 where
+pub record RingsBy (checks : Result ⊤ Refusal) (cs ps : List ℤ) (regions regions' stack stack' : List ℕ)
+    (r : Result Rings Refusal) : Type 0 where
   pub answer : checked r ≡ checks
   pub found : IfOk r (RingsOf cs ps)
   pub regions_left : regions' ≡ left_of checks (regions_of cs ps) regions
   pub stack_left : stack' ≡ work_of checks stack
 
 -- from components, port connections, frontiers and two lent slices
-pub record RingsFound (rules : ℕ) (cs ps fs : List ℤ) (regions regions' stack stack' : List ℕ) (r : Result Rings Refusal) : Type 0 where
+pub record RingsFound (rules : ℕ) (cs ps fs : List ℤ) (regions regions' stack stack' : List ℕ)
+    (r : Result Rings Refusal) : Type 0 where
   pub by : RingsBy (rings_refusal rules cs ps fs (length regions) (length stack)) cs ps regions regions' stack stack' r
   -- demand 3, on the answer itself
   pub demand : IfOk r (λ a. RegionsOfScene cs ps regions' a.count)

@@ -4,6 +4,7 @@
 --                           component that feeds itself
 --     has_ring              the same as a test: at least as many joined pairs of members as members
 --     TwoWayTree            what is cyclic and has no ring
+-- The theorem is `scene_laws` of proofs/Scenes.antt.
 -- Assumes nothing: these are definitions and a statement.
 use Rattle.std.specs.Prelude.{ℕ, ◌+◌, ◌≤◌, ◌<◌, ◌≡◌, Bool, true, false, List, ◌↔◌, get_or, ℤ}
 use Rattle.sets.specs.Members.{count_below}

@@ -52,7 +52,8 @@ fn count_near(network: &Network, b: usize, seen: &mut [usize]) -> usize
 
 // How many joined pairs each region has.
 fn count_joins(network: &Network, joins: &mut [usize])
-    requires { let t = network.now in Indices (length t.labels.now) (length joins.old) t.labels.now × (length t.labels.now ≤ component_limit) }
+    requires { let t = network.now in
+        Indices (length t.labels.now) (length joins.old) t.labels.now × (length t.labels.now ≤ component_limit) }
     ensures { let t = network.now in
         JoinsCounted t.forward.keys.now t.backward.keys.now t.labels.now (length t.labels.now) joins.new }
 {
