@@ -20,7 +20,7 @@ use Rattle.tables.specs.Order.{member}
 use Rattle.tables.specs.Laws.{order?}
 use Rattle.lists.specs.Records.{component, component_count, port_count}
 use Rattle.lists.specs.First.{some}
-use Rattle.lists.specs.Ids.{member_of}
+use Rattle.lists.specs.Ids.{smaller_ids, member_of}
 use Rattle.lists.proofs.Members.{member_below, count_less}
 use Rattle.lists.proofs.Search.{both}
 use Rattle.lists.proofs.Some.{some_at, some_found}
@@ -32,7 +32,7 @@ use Rattle.signals.proofs.Within.{scene_regions}
 use Rattle.liveness.specs.Scene.{Scene}
 use Rattle.liveness.proofs.Demands.{signals_within, demand_3, region_laid, edge_led, led_edge}
 use Rattle.liveness.proofs.Meanings.{asked_below}
-use Rattle.rings.specs.Rings.{Steps, Distinct, OnRing, Along, RingOfThree, RingLawsOf, joined, pair_count}
+use Rattle.rings.specs.Rings.{Steps, Distinct, RingThrough, OnRing, Along, RingOfThree, RingLawsOf, joined, pair_count}
 use Rattle.rings.specs.Scene.{Leads, RegionHasRing, members_of_region, has_ring, TwoWayTree, RingSceneLaws}
 use Rattle.rings.specs.Entry.{rings_refusal, RingsBy, RingsFound}
 use Rattle.rings.specs.declared.Rings.{Rings}
@@ -213,8 +213,38 @@ module _ (cs ps : List ℤ) (scene : Scene cs ps) where
     ring_is_cyclic : has_ring cs ps r ≡ true → is_cyclic cs ps r ≡ true
     ring_is_cyclic e = ⊎_elim (λ t. large_cyclic (ring_large t)) (λ s. self_cyclic s.0 s.1 s.2) (from.laws.any.0 e)
 
+  -- ---- a ring's region
+
+  -- the region of an id
+  abbrev lies : ℕ → ℕ
+  lies i = at (labels cs ps) (smaller_ids cs i)
+
+  leads_up : {i j : ℕ} → Leads ps i j → lies i ≤ lies j
+  leads_up l = (scene_regions cs ps scene.ends).rises _ _ (leads_edge cs ps scene l)
+
+  steps_up : (i j : ℕ) (k : List ℕ) → Steps (Leads ps) i k j → lies i ≤ lies j
+  steps_up i j [] e = omega (arith, ap lies e)
+  steps_up i j (z ∷ k) e = omega (arith, leads_up e.0, steps_up z j k e.1)
+
+  between : (i j : ℕ) (k : List ℕ) → Steps (Leads ps) i k j → (a : ℕ) → member a k ≡ true → (lies i ≤ lies a) × (lies a ≤ lies j)
+  unfolding member
+  between i j [] e a m = absurd (false≢true m)
+  between i j (z ∷ k) e a m = ⊎_elim
+      (λ q.
+      let is : lies a ≡ lies z = ap lies (eqb-true a z q) in
+      (omega (arith, leads_up e.0), omega (arith, steps_up z j k e.1)))
+      (λ q. let rest = between z j k e.1 a q in (omega (arith, leads_up e.0, rest.0), rest.1))
+      (or_cases (eqb a z) (member a k) m)
+
+  one_region : (v w : ℕ) (ring : RingThrough (Leads ps) (component cs v).id) → member (component cs w).id ring.rest ≡ true
+      → region_of_place cs ps w ≡ region_of_place cs ps v
+  one_region v w ring m =
+      let b = between (component cs v).id ring.last ring.rest ring.steps (component cs w).id m in
+      omega (arith, b.0, b.1, leads_up ring.closes)
+
   pub scene_laws : RingSceneLaws cs ps
   scene_laws = record {
+    one_region = one_region;
     cyclic = λ r h. (λ p. is_tree r h p.0 p.1, λ t. (large_cyclic r h t.members, tree_none r h t));
     ring_cyclic = λ r h. ring_is_cyclic r h;
   }

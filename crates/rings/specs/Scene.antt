@@ -8,10 +8,11 @@
 -- Assumes nothing: these are definitions and a statement.
 use Rattle.std.specs.Prelude.{ℕ, ◌+◌, ◌≤◌, ◌<◌, ◌≡◌, Bool, true, false, List, ◌↔◌, get_or, ℤ}
 use Rattle.sets.specs.Members.{count_below}
+use Rattle.tables.specs.Order.{member}
 use Rattle.lists.specs.Records.{component, port_connection, component_count, port_count}
 use Rattle.signals.specs.Signals.{is_signal, signals}
 use Rattle.signals.specs.Regions.{region_count, region_of_place, is_cyclic}
-use Rattle.rings.specs.Rings.{OnRing, joined, pair_count, in_region, ring_test}
+use Rattle.rings.specs.Rings.{RingThrough, OnRing, joined, pair_count, in_region, ring_test}
 
 -- ---- by the scene's own connections
 
@@ -51,6 +52,9 @@ pub record TwoWayTree (cs ps : List ℤ) (r : ℕ) : Type 0 where
       ≡ count_below (members_of_region cs ps r) (component_count cs)
 
 pub record RingSceneLaws (cs ps : List ℤ) : Type 0 where
+  -- all of a ring is in one region
+  pub one_region : (v w : ℕ) (ring : RingThrough (Leads ps) (component cs v).id) → member (component cs w).id ring.rest ≡ true
+      → region_of_place cs ps w ≡ region_of_place cs ps v
   -- what `cyclic` tells and a ring does not
   pub cyclic : (r : ℕ) → r < region_count cs ps → ((is_cyclic cs ps r ≡ true) × (has_ring cs ps r ≡ false)) ↔ TwoWayTree cs ps r
   -- a ring makes a region cyclic
