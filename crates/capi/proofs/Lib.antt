@@ -6,6 +6,7 @@ mod WaySmall
 mod Cleared
 mod LightLaws
 mod ReachTable
+mod RingLaws
 mod KeptLaws
 mod TextLaws
 pub mod Laws

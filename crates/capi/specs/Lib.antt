@@ -6,5 +6,6 @@ pub mod TheWay
 pub mod Clear
 pub mod Light
 pub mod ReachTable
+pub mod Rings
 pub mod Kept
 pub mod Texts

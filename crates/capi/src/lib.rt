@@ -8,6 +8,7 @@ mod kept;
 mod light;
 mod one_input;
 mod region_table;
+mod ring_set;
 mod texts;
 mod the_way;
 
