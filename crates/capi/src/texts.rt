@@ -1,19 +1,20 @@
 // Sheets: their lists, their reports, and the same sheet in the other form, by the library's limits. Texts are lent as bytes, work lists as
 // numbers.
-ghost use Rattle.std.specs.Prelude.{◌≡◌, ◌+◌, ◌*◌, ◌≤◌};
+ghost use Rattle.std.specs.Prelude.{◌≡◌, ◌+◌, ◌*◌, ◌≤◌, length};
 ghost use Rattle.lists.specs.Limits.{component_limit, connection_limit, frontier_limit};
-ghost use Rattle.checks.specs.Refusals.{packed};
+ghost use Rattle.checks.specs.Refusals.{packed, sheet_refusal};
+ghost use Rattle.sheet.specs.Entry.{sheet_checked};
 ghost use Rattle.convert.specs.Entry.{parsed_by};
-ghost use Rattle.capi.specs.Texts.{SheetByText, ReportByText, ConvertByText, form_number, limits, sheet_refusal};
+ghost use Rattle.capi.specs.Texts.{SheetByText, ReportByText, ConvertByText, ValidRead, form_number, head_checked, limits};
 
-use checks::refusals::{pack_refusal, room_for};
+use checks::refusals::{grouping_lists, pack_refusal, room_for};
 use convert::convert_sheet;
 use forms::sheet::check_sheet;
 use forms::{Counts, Style};
 use lists::rules::RULES;
-use lists::{COMPONENTS, CONNECTIONS, FRONTIERS, Fault, Refusal};
+use lists::{COMPONENT, COMPONENTS, CONNECTION, CONNECTIONS, FRONTIER, FRONTIERS, Fault, Refusal};
 use report::report;
-use sheet::read_sheet;
+use sheet::{Sheet, read_sheet};
 
 // The most bytes that an answer can tell: forty-eight bits.
 const BYTES: usize = 281474976710655;
@@ -55,7 +56,7 @@ fn pack_counts(counts: Counts) -> u64
 
 // The refusal of a sheet for whose head there is no room.
 fn refuse_head(text: &[u8]) -> u64
-    ensures { result ≡ packed (sheet_refusal (parsed_by text.now) 0 0 0 0) }
+    ensures { result ≡ packed (head_checked (parsed_by text.now) 0 0 0 0) }
 {
     match check_sheet(text, RULES, limits()) {
         Err(refusal) => pack_refusal(refusal),
@@ -67,8 +68,51 @@ fn refuse_head(text: &[u8]) -> u64
     }
 }
 
-// The lists of a sheet of either form, at the front of the work lists, and its form and rules. Without room for these two the text alone
-// decides on the refusal.
+// Checks the lists of a sheet, by its rules.
+fn check_lists(
+    rules: u64,
+    components: &[i64],
+    connections: &[i64],
+    frontiers: &[i64],
+) -> Result<(), Refusal>
+    ensures { result ≡ sheet_refusal rules components.now connections.now frontiers.now }
+{
+    let mut keys = [0u64; COMPONENTS];
+    grouping_lists(rules, components, connections, frontiers, true, &mut keys)
+}
+
+// Reads a sheet into lent work lists, and checks its lists: where these are refused, the work lists are left zero.
+fn read_valid(
+    text: &[u8],
+    components: &mut [i64],
+    connections: &mut [i64],
+    frontiers: &mut [i64],
+) -> Result<Sheet, Refusal>
+    ensures { let p = parsed_by text.now in
+        ValidRead (sheet_checked p (length components.old) (length connections.old) (length frontiers.old)) p
+        components.old components.new connections.old connections.new frontiers.old frontiers.new result }
+{
+    let sheet = read_sheet(text, limits(), components, connections, frontiers)?;
+    let counts = sheet.counts;
+    let checked = check_lists(
+        sheet.rules,
+        &components[..counts.components * COMPONENT],
+        &connections[..counts.connections * CONNECTION],
+        &frontiers[..counts.frontiers * FRONTIER],
+    );
+    match checked {
+        Err(refusal) => {
+            components.fill(0);
+            connections.fill(0);
+            frontiers.fill(0);
+            Err(refusal)
+        }
+        Ok(()) => Ok(sheet),
+    }
+}
+
+// The lists of a valid sheet of either form, at the front of the work lists, and its form and rules. Without room for these two the text
+// alone decides on the refusal.
 #[unsafe(no_mangle)]
 pub extern "C" fn dustroute_sheet(
     text: &[u8],
@@ -83,7 +127,7 @@ pub extern "C" fn dustroute_sheet(
     if !room_for(1, HEAD, head.len()) {
         return refuse_head(text);
     }
-    match read_sheet(text, limits(), components, connections, frontiers) {
+    match read_valid(text, components, connections, frontiers) {
         Err(refusal) => pack_refusal(refusal),
         Ok(sheet) => {
             head[0] = form_number(sheet.style);
