@@ -189,6 +189,9 @@ static void refusals(void)
         "connections=0\nfrontiers=0\n";
     hold(is_refused(written(dustroute_convert, twice), 5, 0, 1), "5: an id used twice");
     hold(is_as_before(lent.out, 0, ROOM) && are_zero(), "a buffer as it was, and zero");
+    lend_enough();
+    hold(is_refused(listed(twice), 5, 0, 1), "5: of its lists too");
+    hold(is_as_before(lent.head, 0, sizeof lent.head) && are_zero(), "a head as it was, and zero");
 }
 
 int main(void)

@@ -38,15 +38,15 @@
  *     4   components not strictly ascending
  *     5   an id already used by an earlier component
  *     6   grouping connections not strictly ascending
- *         by the record, as in dustroute.h; dustroute_sheet does not look for 3
- *         to 6
+ *         by the record, as in dustroute.h
  *     2   a buffer shorter than what is to be written; list 3, item 0
  *
  * WHAT IS WRITTEN
  *
- * 9, 1, 11, 12 and the first 2 change no slice. After every other answer of
- * dustroute_report and dustroute_convert the work lists are zero throughout; the
- * buffer is written on acceptance alone, and only as far as the answer says.
+ * 9, 1, 11, 12 and the first 2 change no slice. After 3 to 6, and after every other
+ * answer of dustroute_report and dustroute_convert, the work lists are zero
+ * throughout. The head and the buffer are written on acceptance alone, the buffer
+ * only as far as the answer says.
  */
 #ifndef DUSTROUTE_SHEETS_H
 #define DUSTROUTE_SHEETS_H
@@ -71,10 +71,8 @@ extern "C" {
 #endif
 
 /*
- * The lists of a sheet, at the front of the work lists, as the entries of
- * dustroute.h take them. They are as the sheet has them: 3 to 6 are found by these
- * entries, or by dustroute_convert with an empty buffer, which refuses a valid
- * sheet with 2.
+ * The lists of a valid sheet, at the front of the work lists: by the sheet's rules
+ * no entry of dustroute.h refuses them with 11, 1 or 3 to 6.
  *
  * head      two numbers: the form, the rules
  *

@@ -3,12 +3,12 @@
 
 use std::fmt::Display;
 
-use paper::sheet::{HEAD, SheetLent, listed};
+use paper::sheet::{HEAD, Left, SheetLent, listed};
 use probe::sheets::sheet;
 use scenes::limits::{COMPONENT, CONNECTION, FRONTIER};
 use scenes::sheets::{Limits, lists};
 
-use crate::sheets::{LAST, Shown};
+use crate::sheets::{LAST, NEVER, Shown};
 use crate::{Counted, Guarded};
 
 /// Lent where a line is refused, so that a write would show.
@@ -25,6 +25,8 @@ pub struct SheetLists {
     sheets: usize,
     calls: usize,
     by_number: [u64; LAST + 1],
+    /// Refused with work lists as before, and with work lists of zeros.
+    left: [u64; 2],
     /// By form, and by rules.
     by_head: [[u64; 3]; 2],
     numbers: usize,
@@ -63,12 +65,17 @@ impl SheetLists {
                 self.by_head[place[0]][place[1]] += 1;
                 self.by_number[0] += 1;
             }
-            Err(scenes::Refusal { number, list, item }) => {
+            Err((scenes::Refusal { number, list, item }, left)) => {
                 let wanted = probe::Refusal { number, list, item };
                 assert_eq!(given, Err(wanted), "{shown}");
-                let held = work.iter().all(|list| list.holds(&[]));
-                assert!(held && out.holds(&[]), "a refusal wrote, {shown}");
+                let held = work.iter().zip(lengths).all(|(list, length)| match left {
+                    Left::AsBefore => list.holds(&[]),
+                    Left::Zero => list.holds(&vec![0; length]),
+                });
+                assert!(held, "work lists, {shown}");
+                assert!(out.holds(&[]), "a refusal wrote the head, {shown}");
                 self.by_number[usize::try_from(number).unwrap_or(0)] += 1;
+                self.left[usize::from(left == Left::Zero)] += 1;
             }
         }
     }
@@ -109,14 +116,14 @@ impl SheetLists {
     /// Prints the counts.
     ///
     /// # Panics
-    /// Where one of the numbers never came up, or a list was looked at.
+    /// Where one of the numbers never came up, or one that a sheet cannot get
+    /// did.
     pub fn assert_numbers_came_up(&self, numbers: &[usize], title: &str) {
         self.print(title);
         for number in numbers {
             assert!(self.count_of(*number) > 0, "{number} never came up");
         }
-        let never = [3, 4, 5, 6, 7, 8, 10].map(|number| self.count_of(number));
-        assert_eq!(never, [0; 7]);
+        assert_eq!(NEVER.map(|number| self.count_of(number)), [0; 3]);
     }
 }
 
@@ -132,11 +139,12 @@ impl Counted for SheetLists {
             sheets,
             calls,
             by_number,
+            left: [before, zero],
             by_head,
             numbers,
         } = self;
         println!(
-            "{title}: {sheets} sheets, {calls} calls, by number {by_number:?}, by form and rules {by_head:?}, {numbers} numbers"
+            "{title}: {sheets} sheets, {calls} calls, by number {by_number:?}, refused with work lists as before {before}, zero {zero}, by form and rules {by_head:?}, {numbers} numbers"
         );
     }
 }

@@ -22,7 +22,7 @@ type Judge = fn(&[u8], Limits) -> Sheet;
 pub const LAST: usize = 12;
 
 /// Those that none can get.
-const NEVER: [usize; 3] = [7, 8, 10];
+pub const NEVER: [usize; 3] = [7, 8, 10];
 
 /// Counts of what was compared.
 #[derive(Clone, Debug)]

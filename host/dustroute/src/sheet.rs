@@ -158,24 +158,12 @@ pub fn convert(text: &[u8]) -> Result<Vec<u8>, Refusal> {
 /// ```
 pub fn read_sheet(text: &[u8]) -> Result<Sheet, Refusal> {
     let mut work = Work::new();
-    hold_valid(&mut work, text)?;
     let mut head = [0; 2];
     let answer = work.sheet(text, &mut head);
     if let Some(refusal) = Refusal::of_sheet(answer) {
         return Err(refusal);
     }
     work.read(counts(answer)?, head).ok_or(Refusal::UNREADABLE)
-}
-
-/// The converter's own checks of the lines and lists of a sheet, with an empty
-/// buffer: where that is all that is wrong, the sheet is valid.
-fn hold_valid(work: &mut Work, text: &[u8]) -> Result<(), Refusal> {
-    let answer = work.write(CONVERT, text, &mut []);
-    match Refusal::of_sheet(answer) {
-        Some(refusal) if refusal.reason == Reason::ShortSlice => Ok(()),
-        Some(refusal) => Err(refusal),
-        None => Err(Refusal::UNREADABLE),
-    }
 }
 
 #[cfg(test)]

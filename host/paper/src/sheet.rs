@@ -57,19 +57,24 @@ fn turned(parsed: &Parsed) -> Vec<u8> {
     write_form(parsed.form.other(), parsed.rules, &parsed.scene)
 }
 
+/// The list checks, by the sheet's own rules.
+fn unsound(parsed: &Parsed) -> Option<Refusal> {
+    let Scene {
+        components,
+        connections,
+        frontiers,
+        ..
+    } = &parsed.scene;
+    sheet_lists(parsed.rules, components, connections, frontiers)
+}
+
 impl Sheet {
     fn judged(text: &[u8], limits: Limits, written: fn(&Parsed) -> Vec<u8>) -> Self {
         let parsed = match parse(text, limits) {
             Ok(parsed) => parsed,
             Err(refusal) => return Self::Faulty(refusal),
         };
-        let Scene {
-            components,
-            connections,
-            frontiers,
-            ..
-        } = &parsed.scene;
-        match sheet_lists(parsed.rules, components, connections, frontiers) {
+        match unsound(&parsed) {
             Some(refusal) => Self::Unsound(parsed, refusal),
             None => {
                 let text = written(&parsed);
@@ -143,16 +148,18 @@ const fn is_work_short(scene: &Scene, lent: &SheetLent) -> bool {
 }
 
 /// What the entry that gives a sheet's lists answers: form, rules and lists, or
-/// 9, 1, 11 or 12, and then 2 for the work lists and for the head, which has so
-/// many numbers. Its lists are not looked at. A refusal leaves every slice as it
-/// was.
+/// 9, 1, 11 or 12, then 2 for the work lists and for the head, which has so many
+/// numbers, and then 3 to 6. A refusal leaves the head as it was.
 ///
 /// # Errors
-/// The refusal.
-pub fn listed(text: &[u8], lent: &SheetLent, head: usize) -> Result<Parsed, Refusal> {
-    let parsed = parse(text, Limits::SCENE)?;
+/// The refusal, and what it leaves in the work lists.
+pub fn listed(text: &[u8], lent: &SheetLent, head: usize) -> Result<Parsed, (Refusal, Left)> {
+    let parsed = parse(text, Limits::SCENE).map_err(|refusal| (refusal, Left::AsBefore))?;
     if is_work_short(&parsed.scene, lent) || head < HEAD {
-        return Err(too_short_slice());
+        return Err((too_short_slice(), Left::AsBefore));
     }
-    Ok(parsed)
+    match unsound(&parsed) {
+        Some(refusal) => Err((refusal, Left::Zero)),
+        None => Ok(parsed),
+    }
 }

@@ -2,7 +2,7 @@
 
 use paper::parse::{Parsed, parse};
 use paper::program::plotreport;
-use paper::sheet::{HEAD, Sheet, SheetLent, listed};
+use paper::sheet::{HEAD, Left, Sheet, SheetLent, listed};
 use scenes::Refusal;
 use scenes::sheets::drawn;
 use scenes::sheets::forms::{Form, spelled_out, there_and_back, write_form};
@@ -154,21 +154,29 @@ fn the_lists_of_a_sheet_come_after_its_lines_and_its_slices() {
         item: 0,
     };
     let text = SHORT.as_bytes();
-    assert_eq!(listed(text, &lent, HEAD), said(Form::Short, 1));
-    assert_eq!(listed(text, &lent, HEAD - 1), Err(short));
+    let before = |refusal| Err((refusal, Left::AsBefore));
+    assert_eq!(listed(text, &lent, HEAD).ok(), said(Form::Short, 1).ok());
+    assert_eq!(listed(text, &lent, HEAD - 1), before(short));
     let less = SheetLent {
         components: 15,
         ..lent
     };
-    assert_eq!(listed(text, &less, HEAD), Err(short));
+    assert_eq!(listed(text, &less, HEAD), before(short));
     let form = Refusal {
         number: 12,
         list: 3,
         item: 0,
     };
-    assert_eq!(listed(b"sheet=1\n", &less, 0), Err(form));
+    assert_eq!(listed(b"sheet=1\n", &less, 0), before(form));
     let unsound = with_line(3, "c=-1,0,0,0,4,0,0,0\n");
-    assert!(listed(unsound.as_bytes(), &lent, HEAD).is_ok());
+    let outside = Refusal {
+        number: 3,
+        list: 0,
+        item: 0,
+    };
+    let zero = Err((outside, Left::Zero));
+    assert_eq!(listed(unsound.as_bytes(), &lent, HEAD), zero);
+    assert_eq!(listed(unsound.as_bytes(), &lent, HEAD - 1), before(short));
 }
 
 /// The sheet in the other form.
