@@ -177,7 +177,10 @@ impl Called {
             for filling in FILLINGS {
                 self.hold(RULES, scene, lengths, found.as_ref(), filling);
             }
-            for rules in [0, LAST_RULES + 1] {
+        }
+        // The first are enough, the third none at all.
+        for rules in [0, LAST_RULES + 1] {
+            for lengths in lengths(scene).into_iter().step_by(2).take(2) {
                 self.hold(rules, scene, lengths, None, FILLINGS[0]);
             }
         }
@@ -212,7 +215,7 @@ fn slices_of_any_length() {
     }
     called.tell("slices");
     assert!(called.accepted > 10_000 && called.refused[2] > 10_000);
-    assert!(called.refused[11] > 10_000);
+    assert!(called.refused[11] > 1_000);
 }
 
 #[test]
