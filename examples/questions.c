@@ -1,9 +1,9 @@
 /*
  * The questions of one plot, in C: whether one input is driven, the way to it,
- * the regions in lighting order, and who reaches whom. The lists are numbers as
- * the host has them. Each slice lent has a number more than is asked for, dirty,
- * and each answer is held to what it must be, the same by the rules of every
- * year.
+ * the regions in lighting order, which regions have a ring, and who reaches whom.
+ * The lists are numbers as the host has them. Each slice lent has a number more
+ * than is asked for, dirty, and each answer is held to what it must be, the same
+ * by the rules of every year.
  *
  *     cc -std=c99 -I include -o questions examples/questions.c target/staticlib/libcapi.a
  */
@@ -138,6 +138,50 @@ static void two_levers(void)
         hold(work[k] == 0, "work zero");
 }
 
+/* Three wires, by the connections given: how many regions there are, and the first
+   word of those that have a ring. The slices lent have a number more than is
+   asked for, all dirty. */
+static void rings_of(const int64_t *fed, size_t fed_len, unsigned regions, uint64_t rings, const char *what)
+{
+    enum { COUNT = 3, SET = DUSTROUTE_RINGS_SET_NUMBERS, WORK = 2 * COUNT };
+    const int64_t wires[] = {
+        5, 0, 0, 0, 0, 0, 0, 0,
+        3, 0, 0, 1, 0, 0, 0, 0,
+        4, 1, 0, 0, 0, 0, 0, 0,
+    };
+    uint64_t region[COUNT + 1], ring[SET + 1];
+    size_t work[WORK + 1];
+    memset(region, FILLING, sizeof region);
+    memset(ring, FILLING, sizeof ring);
+    memset(work, FILLING, sizeof work);
+    const uint64_t dirty = ring[SET];
+    uint64_t answer = dustroute_rings(
+        rules, wires, 24, fed, fed_len, fed, 0, region, COUNT + 1, ring, SET - 1, work, WORK + 1);
+    hold(DUSTROUTE_NUMBER(answer) == 2 && DUSTROUTE_LIST(answer) == 3, "2: no room for the rings");
+    answer = dustroute_rings(
+        rules, wires, 24, fed, fed_len, fed, 0, region, COUNT - 1, ring, SET + 1, work, WORK + 1);
+    hold(DUSTROUTE_NUMBER(answer) == 2 && DUSTROUTE_LIST(answer) == 3, "2: no room for the regions");
+    hold(region[0] == dirty && ring[0] == dirty && work[0] == (size_t)dirty, "nothing written");
+    answer = dustroute_rings(
+        rules, wires, 24, fed, fed_len, fed, 0, region, COUNT + 1, ring, SET + 1, work, WORK + 1);
+    hold(DUSTROUTE_ACCEPTED(answer) && DUSTROUTE_COUNT(answer, 0) == regions, what);
+    hold(ring[0] == rings && ring[SET - 1] == 0 && ring[SET] == dirty, what);
+    hold(region[0] < regions && region[2] < regions && region[3] == dirty, "the regions of the wires");
+    for (size_t k = 0; k <= WORK; k++)
+        hold(work[k] == 0, "work of rings zero");
+}
+
+/* The founding row, the same joined both ways, and a triangle. */
+static void rings(void)
+{
+    const int64_t row[] = {3, 1, 5, 3, 0, 5, 1, 4, 3, 0};
+    const int64_t both_ways[] = {3, 1, 5, 3, 0, 5, 3, 3, 1, 0, 5, 1, 4, 3, 0, 4, 3, 5, 1, 0};
+    const int64_t triangle[] = {3, 1, 5, 3, 0, 5, 1, 4, 3, 0, 4, 1, 3, 3, 0};
+    rings_of(row, 10, 3, 0, "a row, each wire feeding the next: no ring");
+    rings_of(both_ways, 20, 1, 0, "a row joined both ways: one region, cyclic, and no ring");
+    rings_of(triangle, 15, 1, 1, "a triangle: a ring");
+}
+
 /* Who reaches whom: a place more than is asked for in each slice, all dirty,
    then a square of a place too few. */
 static void reach_table(void)
@@ -179,6 +223,7 @@ int main(void)
         one_input();
         the_way();
         two_levers();
+        rings();
         reach_table();
     }
     if (faults == 0)

@@ -3,9 +3,8 @@
  *
  *     cc -I include host.c target/staticlib/libcapi.a
  *
- * The archive is made by `tools/build capi` and is for x86-64. It needs
- * nothing but memcpy and memset. examples/worked.c is a whole host. The entries
- * over sheets are in dustroute_sheets.h.
+ * The archive (`tools/build capi`) is for x86-64 and needs only memcpy, memset.
+ * examples/worked.c is a whole host; entries over sheets: dustroute_sheets.h.
  *
  * RULES
  *
@@ -25,13 +24,12 @@
  *
  * LISTS
  *
- * Every list and every answer is lent as bytes, eight to a number, lowest
- * first, whatever the byte order of the host. Numbers of lists are signed, in
- * two's complement. A slice passes as a pointer and then a length in bytes.
- *
- * Only dustroute_groups and dustroute_liveness take bytes. The other entries take
- * numbers as the host has them, int64_t for lists: there a slice passes as a
- * pointer and then a count of numbers, or of bytes where it is of uint8_t.
+ * Lists and answers of dustroute_groups and dustroute_liveness are lent as
+ * bytes, eight to a number, lowest first, whatever the byte order of the host;
+ * numbers of lists are signed, in two's complement. A slice passes as a pointer
+ * and a length in bytes. The others take numbers as the host has them, int64_t
+ * for lists, and a slice as a pointer and a count of numbers, of bytes if of
+ * uint8_t.
  *
  *     list          numbers of a record, in this order
  *     components    id 0..4294967295; x, y, z each -30000000..30000000;
@@ -102,9 +100,8 @@
  *   outputs need not be.
  * - A slice that is written overlaps no other slice of the call, and nothing
  *   else reads or writes it, or writes a list, until the call returns.
- * - A stack of 1 MiB is enough for any call, whatever the lists
- *   (docs/ARCHITECTURE.md has the sizes). Pages are touched in order, so that a
- *   guard page stops a stack that is too small.
+ * - A stack of 1 MiB is enough for any call (docs/ARCHITECTURE.md has the sizes).
+ *   Pages are touched in order, so that a guard page stops a stack too small.
  *
  * Nothing else is owed: any bytes are answered, and every call returns. No
  * memory is allocated and nothing is kept or shared between calls, so any
@@ -136,28 +133,20 @@
 #define DUSTROUTE_STACK_BYTES(components) ((components) * (size_t)(2 * 8))
 #define DUSTROUTE_SETS_BYTES (4 * 16 * 8)
 
-/* Numbers that the slice of dustroute_ports must have for so many connections. */
+/* Numbers that the slices of the other entries must have; of a square, bytes. */
 #define DUSTROUTE_PORTS_NUMBERS(connections) ((connections) * (size_t)6)
-
-/* Numbers that the slices of dustroute_driven must have. */
-#define DUSTROUTE_MET_NUMBERS 16
+#define DUSTROUTE_MET_NUMBERS 16 /* met of dustroute_driven */
 #define DUSTROUTE_DRIVEN_STACK_NUMBERS(components) ((components) * (size_t)2)
-
-/* Numbers that the list of dustroute_trail must have. */
 #define DUSTROUTE_TRAIL_NUMBERS(components) ((components) * (size_t)1)
-
-/* Numbers that the lists of dustroute_clear must have for so many ports. */
 #define DUSTROUTE_KEPT_NUMBERS(ports) ((ports) * (size_t)5)
 #define DUSTROUTE_DROPPED_NUMBERS(ports) ((ports) * (size_t)2)
-
-/* Numbers that the slices of dustroute_light must have. */
 #define DUSTROUTE_LIGHT_REGIONS_NUMBERS(components) ((components) * (size_t)1)
 #define DUSTROUTE_LIGHT_SET_NUMBERS 16 /* lit, and driven */
 #define DUSTROUTE_LIGHT_STACK_NUMBERS(components) ((components) * (size_t)2)
-
-/* Places that the slices of dustroute_reach_table must have. */
-#define DUSTROUTE_SQUARE_BYTES(components) \
-    ((size_t)(components) * (size_t)(components))
+#define DUSTROUTE_RINGS_REGIONS_NUMBERS(components) ((components) * (size_t)1)
+#define DUSTROUTE_RINGS_SET_NUMBERS 16
+#define DUSTROUTE_RINGS_STACK_NUMBERS(components) ((components) * (size_t)2)
+#define DUSTROUTE_SQUARE_BYTES(components) ((size_t)(components) * (components))
 #define DUSTROUTE_TABLE_REGIONS_NUMBERS(components) ((size_t)(components))
 #define DUSTROUTE_TABLE_STACK_NUMBERS(components) ((components) * (size_t)2)
 
@@ -166,8 +155,7 @@
 #define DUSTROUTE_NUMBER(answer) ((unsigned)((answer) & 0xff))
 #define DUSTROUTE_LIST(answer) ((unsigned)((answer) >> 8 & 0xff))
 #define DUSTROUTE_ITEM(answer) ((uint64_t)(answer) >> 16)
-/* Place 0, 1 or 2. */
-#define DUSTROUTE_COUNT(answer, place) \
+#define DUSTROUTE_COUNT(answer, place) /* place 0, 1 or 2 */ \
     ((unsigned)((uint64_t)(answer) >> (16 * ((place) + 1)) & 0xffff))
 
 #ifdef __cplusplus
@@ -177,8 +165,8 @@ extern "C" {
 /*
  * The number of the interface, raised when arguments, sizes or meanings change.
  * Each file that includes this header refers to the function, which a stale
- * archive has not, so that it does not link. Without gcc or clang, or where they
- * know no `retain` and unused sections are dropped, call it once instead.
+ * archive has not, so that it does not link. Without gcc or clang, or where
+ * they know no `retain` and unused sections are dropped, call it once instead.
  */
 #define DUSTROUTE_INTERFACE 2
 uint64_t dustroute_interface_2(void);
@@ -238,13 +226,11 @@ uint64_t dustroute_ports(
  *           2 Disconnected, 3 NoKnownSource
  * sets      four sets of sixteen words of 64 bits: the components that are
  *           driven; those that would be if inferred inputs were; the regions
- *           that are cyclic; those that hold a drive source. A region is
- *           cyclic when its components feed each other, or its one feeds
- *           itself: a straight row of two wires that run both ways is, so
- *           that it says nothing of a ring. k is in a set when
- *           bit k % 64 of its word k / 64 is set; of components k stands for
- *           the one with the k-th smallest id, from 0, of regions for its
- *           number.
+ *           that are cyclic: their components feed each other, or their one
+ *           feeds itself (dustroute_rings tells of rings); those that hold a
+ *           drive source. k is in a set when bit k % 64 of its word k / 64 is
+ *           set; of components k stands for the one with the k-th smallest id,
+ *           from 0, of regions for its number.
  * stack     for work
  *
  * Counts: regions, source rows, verdict rows.
@@ -263,8 +249,7 @@ uint64_t dustroute_liveness(
 /*
  * Whether the required input at a port of the component with the id has status
  * 0, DrivenByKnownSource: a search upstream from it, which stops at the first
- * drive source. Any id and port may be asked for; those without a verdict row
- * are refused with 8.
+ * drive source. A port without a verdict row, of any number, is refused with 8.
  *
  * met       a set of sixteen words, as above: the components that the search
  *           met. Each feeds the input or is upstream of one that does. At a yes
@@ -283,13 +268,11 @@ uint64_t dustroute_driven(
     size_t *stack, size_t stack_len);
 
 /*
- * The way from a drive source to the required input at a port of the component
- * with the id: the ids of the components that the signal goes through, the drive
- * source first and one that feeds the port last, as few as there can be. Among
- * equally short ways it is the one with the smaller id where they first differ,
- * from the drive source on. Any id and port may be asked for; those without a
- * verdict row are refused with 8, those whose row has another status than 0
- * with 10.
+ * The way from a drive source to such an input: the ids of the components that
+ * the signal goes through, the source first and one that feeds the port last, as
+ * few as there can be; of equally short ways the one with the smaller id where
+ * they first differ, from the source on. A port without a verdict row is refused
+ * with 8, one whose row has another status than 0 with 10.
  *
  * trail     the ids; a place for each component is room enough
  *
@@ -304,10 +287,10 @@ uint64_t dustroute_trail(
     uint64_t *trail, size_t trail_len);
 
 /*
- * Whether a list of ids is a way from a drive source to that input: whether its
- * first is a drive source, each next one is fed by the one before, and the last
- * feeds the port. The list may have any length and any numbers; one of length 0
- * is no way. A port without a verdict row is refused with 8.
+ * Whether a list of ids is a way from a drive source to that input: its first is
+ * a drive source, each next one is fed by the one before, and the last feeds the
+ * port. It may have any length and any numbers; one of length 0 is no way. A
+ * port without a verdict row is refused with 8.
  *
  * Counts: 1 for yes, 0 for no.
  */
@@ -321,10 +304,9 @@ uint64_t dustroute_check_trail(
 
 /*
  * Drops the port connections for which 7 is given, those of transfer 0 to 5
- * with an end that is no component, and keeps the others in order. Components
- * and frontiers are as they were. What is kept is accepted with them, and
- * cleared again it stays as it is. Lists with another fault are refused as by
- * dustroute_liveness, number 2 for the two lists here.
+ * with an end that is no component, and keeps the others in order. What is kept
+ * is accepted, and cleared again it stays as it is. Lists with another fault are
+ * refused as by dustroute_liveness, number 2 for the two lists here.
  *
  * kept      ports, five numbers each, to be handed on as they stand
  * dropped   rows of two numbers by rising item: the item in the list given,
@@ -346,13 +328,11 @@ uint64_t dustroute_clear(
  * holds a drive source or a region that is lit already feeds it. The components
  * of lit regions are driven, all of them, and no others.
  *
- * regions   the region of each component, in list order, numbered as by
- *           dustroute_liveness: a region is fed by none of a greater number, so
- *           that a lesson that lights them by number never lights a lamp before
- *           a lever that feeds it
+ * regions   as by dustroute_liveness: a region is fed by none of a greater
+ *           number, so that a lesson that lights them by number never lights a
+ *           lamp before a lever that feeds it
  * lit       a set of sixteen words, as above: the regions that are lit
- * driven    a set of sixteen words: the components that are driven, the same as
- *           by dustroute_liveness
+ * driven    another: the components that are driven, as by dustroute_liveness
  * stack     for work
  *
  * Counts: regions.
@@ -368,20 +348,40 @@ uint64_t dustroute_light(
     size_t *stack, size_t stack_len);
 
 /*
- * The slow region finder, for lessons: a table of who reaches whom. At first
- * each component reaches itself and what it is connected to; then one after the
- * other is admitted as a middle, and whoever reaches it reaches what it
- * reaches. Components share a region exactly when their rows are equal.
+ * Which regions have a ring, in a pupil's words a loop: a chain of ports,
+ * supports left out, from a component through two others or more and back, none
+ * met twice, or from one to itself. A region with a ring is cyclic; one that is
+ * cyclic without is a tree of two-way connections, like a straight wire.
+ *
+ * regions   as by dustroute_liveness
+ * rings     a set of sixteen words, as above: the regions that have a ring
+ * stack     for work
+ *
+ * Counts: regions.
+ */
+uint64_t dustroute_rings(
+    int64_t rules,
+    const int64_t *components, size_t components_len,
+    const int64_t *ports, size_t ports_len,
+    const int64_t *frontiers, size_t frontiers_len,
+    uint64_t *regions, size_t regions_len,
+    uint64_t *rings, size_t rings_len,
+    size_t *stack, size_t stack_len);
+
+/*
+ * The slow region finder, for lessons: a table of who reaches whom, at first
+ * itself and what it is connected to; then each in turn is admitted as a middle:
+ * whoever reaches it reaches what it does. Two share a region exactly when their
+ * rows are equal.
  *
  * square    a byte of 1 or 0 for each pair of components, row after row in list
  *           order: 1 where the row's component reaches the column's by ports of
- *           transfer 0 to 5, or is it. A longer square keeps what lies past
- *           these places: rows are as long as there are components.
- * regions   the region of each component, in list order, as dustroute_liveness
- *           answers it
+ *           transfer 0 to 5, or is it. Rows are as long as there are
+ *           components, however long the square.
+ * regions   as by dustroute_liveness
  * stack     for work
  *
- * Count: regions.
+ * Counts: regions.
  */
 uint64_t dustroute_reach_table(
     int64_t rules,

@@ -39,7 +39,7 @@ type Answer = (u64, bool);
 type Entry = (&'static str, fn(Call<'_>) -> Answer);
 
 /// How many entries there are.
-const COUNT: usize = 9;
+const COUNT: usize = 10;
 
 const ENTRIES: [Entry; COUNT] = [
     ("groups", |call| call.groups()),
@@ -50,6 +50,7 @@ const ENTRIES: [Entry; COUNT] = [
     ("check_trail", |call| call.check_trail()),
     ("clear", |call| call.clear()),
     ("light", |call| call.light()),
+    ("rings", |call| call.rings()),
     ("reach_table", |call| call.reach_table()),
 ];
 
@@ -162,6 +163,16 @@ impl<'a> Call<'a> {
         )
     }
 
+    fn rings(self) -> Answer {
+        let [mut regions, mut rings] =
+            [self.components(), SET_WORDS].map(|length| self.slice(length));
+        let mut stack = self.slice(self.components() * STACK_PAIR);
+        let lists = self.lists();
+        let answer = entries::rings(lists, regions.lent(), rings.lent(), stack.lent());
+        let held = regions.holds(&[]) && rings.holds(&[]) && stack.holds(&[]);
+        (answer, held)
+    }
+
     fn reach_table(self) -> Answer {
         // Longer lists are over the limit, and then no square is looked at.
         let side = self.components().min(64);
@@ -248,7 +259,7 @@ impl Unknown {
             beside,
         } = self;
         println!(
-            "{title}: {calls} calls of nine entries and {queries} queries, all refused with 11"
+            "{title}: {calls} calls of ten entries and {queries} queries, all refused with 11"
         );
         for ((name, _), counts) in ENTRIES.iter().zip(beside) {
             println!("  {name}: under rules 1 by number {counts:?}");

@@ -15,6 +15,7 @@
 //!   others refuse a plot.
 //! - [`light`] lights a plot region by region, for a lesson that never lights a
 //!   lamp before a lever that feeds it.
+//! - [`rings`] finds which regions have a ring, which is more than being cyclic.
 //! - [`reach_table`] finds the same regions the slow way, for lessons: by a
 //!   table of who reaches whom, which can be printed.
 //! - [`what_if`] and [`what_if_joined`] find what one connection more would
@@ -84,6 +85,7 @@ mod numbers;
 mod ports;
 mod reach_table;
 mod refusal;
+mod rings;
 mod rows;
 mod rules;
 mod scene;
@@ -105,6 +107,7 @@ pub use liveness::{
 pub use ports::{KeptConnection, ports};
 pub use reach_table::{ReachTable, reach_table};
 pub use refusal::{List, Place, Reason, Refusal};
+pub use rings::{ComponentRegion, Rings, rings};
 pub use rules::Rules;
 pub use scene::{Component, ComponentId, Connection, PortConnection, PortRef, Position};
 pub use sheet::{Form, Sheet, convert, read_sheet, report};

@@ -40,7 +40,9 @@ pub struct ComponentLiveness {
 pub struct Region {
     /// Whether its members feed each other: it has two or more, or one that
     /// is connected to itself. No ring is meant: dust runs both ways, so a
-    /// straight row of two wires is such a region too.
+    /// straight row of two wires is such a region too. Three wires in a triangle
+    /// are one with a ring; whether there is one is told by
+    /// [`rings`](crate::rings()), whose example has both.
     pub cyclic: bool,
     /// Whether a drive source is in it.
     pub has_drive: bool,

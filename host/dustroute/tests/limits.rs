@@ -8,7 +8,7 @@ use std::thread::{self, Builder};
 use dustroute::{
     BlockKind, Component, ComponentId, Connection, ConnectionKind, List, Place, PortConnection,
     PortRef, Position, Reason, Refusal, Rules, TransferKind, clear, driven, groups, light, limits,
-    liveness, ports, reach_table,
+    liveness, ports, reach_table, rings,
 };
 use scenes::Profile;
 use typed::Lists;
@@ -61,6 +61,10 @@ fn as_many_components_as_the_limit_and_more() {
         );
         assert_eq!(
             reach_table(RULES, &components, &[], &[]).map(|it| it.count),
+            wanted
+        );
+        assert_eq!(
+            rings(RULES, &components, &[], &[]).map(|it| it.rings.len()),
             wanted
         );
     }
@@ -153,6 +157,8 @@ fn mark(plot: &Lists) -> Result<[usize; 2], Refusal> {
     let groups = groups(RULES, &plot.components, &plot.connections)?;
     let found = liveness(RULES, &plot.components, &plot.ports, &plot.frontiers)?;
     light(RULES, &plot.components, &plot.ports, &plot.frontiers)?;
+    let looped = rings(RULES, &plot.components, &plot.ports, &plot.frontiers)?;
+    assert_eq!(looped.rings.len(), found.regions.len());
     ports(RULES, &plot.components, &plot.connections)?;
     for row in found.inputs.iter().take(20) {
         driven(

@@ -10,7 +10,7 @@ use dustroute::bytes::{self, Lent};
 use dustroute::{
     BlockKind, Liveness, Reason, Refusal, RequiredInputStatus, Rules, SignalSource,
     SignalSourceKind, check_trail, clear, driven, groups, light, liveness, ports, reach_table,
-    trail, what_if, what_if_joined,
+    rings, trail, what_if, what_if_joined,
 };
 use scenes::limits::{LAST_RULES, PASSIVE_LAMPS, RULES_OF_THE_RUST, UNREAD_BLANKS};
 use scenes::{Profile, Scene, exhaustive, lamps};
@@ -176,6 +176,10 @@ fn the_other_functions_do_not_depend_on_the_rules() -> Result<(), Refusal> {
         );
         assert!(
             same(|rules| light(rules, components, fed, frontiers)),
+            "{case}"
+        );
+        assert!(
+            same(|rules| rings(rules, components, fed, frontiers)),
             "{case}"
         );
         if components.len() < 64 {

@@ -8,7 +8,7 @@ mod typed;
 use answers::hold_liveness;
 use dustroute::{
     BlockKind, Component, ComponentId, PortConnection, Reason, Rules, driven, groups, light,
-    liveness, ports, trail,
+    liveness, ports, rings, trail,
 };
 use scenes::{Profile, Scene, blanks};
 use typed::Lists;
@@ -151,6 +151,8 @@ fn an_unread_input_is_no_input() {
         assert_eq!(grouped(Rules::Two), grouped(RULES), "{case}{scene}");
         let lit = |rules| light(rules, components, fed, frontiers);
         assert_eq!(lit(Rules::Two), lit(RULES), "{case}{scene}");
+        let looped = |rules| rings(rules, components, fed, frontiers);
+        assert_eq!(looped(Rules::Two), looped(RULES), "{case}{scene}");
     }
     println!("inputs asked for: {asked} by rules 2 and 3, {refused} refused by rules 3");
     assert!(refused > 1_000 && asked > 1_000);

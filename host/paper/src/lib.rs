@@ -13,9 +13,11 @@ pub mod parse;
 mod ports;
 pub mod program;
 pub mod report;
+mod rings;
 pub mod sheet;
 mod walk;
 
 pub use groups::{greatest_ranks, groups};
 pub use liveness::liveness;
 pub use ports::{is_unread, ports, ports_of, sloped};
+pub use rings::{Rings, rings};

@@ -81,6 +81,22 @@ mod raw {
             stack_len: usize,
         ) -> u64;
 
+        pub fn dustroute_rings(
+            rules: i64,
+            components: *const i64,
+            components_len: usize,
+            ports: *const i64,
+            ports_len: usize,
+            frontiers: *const i64,
+            frontiers_len: usize,
+            regions: *mut u64,
+            regions_len: usize,
+            rings: *mut u64,
+            rings_len: usize,
+            stack: *mut usize,
+            stack_len: usize,
+        ) -> u64;
+
         pub fn dustroute_reach_table(
             rules: i64,
             components: *const i64,
@@ -219,6 +235,28 @@ pub fn light(
             lit.len(),
             driven.as_mut_ptr(),
             driven.len(),
+            stack.as_mut_ptr(),
+            stack.len(),
+        )
+    }
+}
+
+/// Which regions have a ring.
+pub fn rings(lists: Lists<'_>, regions: &mut [u64], rings: &mut [u64], stack: &mut [usize]) -> u64 {
+    // SAFETY: as for `driven`.
+    unsafe {
+        raw::dustroute_rings(
+            lists.rules,
+            lists.components.as_ptr(),
+            lists.components.len(),
+            lists.ports.as_ptr(),
+            lists.ports.len(),
+            lists.frontiers.as_ptr(),
+            lists.frontiers.len(),
+            regions.as_mut_ptr(),
+            regions.len(),
+            rings.as_mut_ptr(),
+            rings.len(),
             stack.as_mut_ptr(),
             stack.len(),
         )

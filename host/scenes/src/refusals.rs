@@ -253,6 +253,25 @@ pub fn light(
     analysed(rules, components, ports, frontiers, &slices)
 }
 
+/// The regions that have a ring: 11, 1 to 5 and 7. Given are the lengths of the
+/// regions, of the set, which has sixteen words, and of the stack.
+#[must_use]
+pub fn rings(
+    rules: i64,
+    components: &[i64],
+    ports: &[i64],
+    frontiers: &[i64],
+    [regions_len, rings_len, stack_len]: [usize; 3],
+) -> Option<Refusal> {
+    let n = components.len() / COMPONENT;
+    let slices = [
+        (regions_len, 1, n),
+        (rings_len, SET_WORDS, 1),
+        (stack_len, STACK_PAIR, n),
+    ];
+    analysed(rules, components, ports, frontiers, &slices)
+}
+
 /// The input query without its own number 8: 11, 1 to 5 and 7.
 #[must_use]
 pub fn query(

@@ -3,7 +3,7 @@
 use scenes::bytes::{self, LivenessLent};
 use scenes::limits::LAST_RULES;
 use scenes::refusals::{
-    clearing, components_alone, grouping, light, liveness, ports, query, sheet_lists,
+    clearing, components_alone, grouping, light, liveness, ports, query, rings, sheet_lists,
 };
 use scenes::{Lent, Refusal, Scene};
 
@@ -65,13 +65,14 @@ fn unknown_rules_come_before_all_else() {
                 ports(rules, list, list, 0),
                 liveness(rules, list, list, list, &none),
                 light(rules, list, list, list, [0; 4]),
+                rings(rules, list, list, list, [0; 3]),
                 query(rules, list, list, list, 0),
                 clearing(rules, list, list, list, 0, 0),
                 sheet_lists(rules, list, list, list),
                 bytes::grouping(rules, &[1], &[1], 0, 0),
                 bytes::liveness(rules, &[1], &[1], &[1], &LivenessLent::default()),
             ];
-            assert_eq!(all.map(given), [Some((11, 3, 0)); 9], "{rules}");
+            assert_eq!(all.map(given), [Some((11, 3, 0)); 10], "{rules}");
         }
     }
     assert_eq!(given(grouping(1, &[7], &[], 0, 0)), Some((1, 0, 0)));
