@@ -2,7 +2,7 @@
 
 use std::fmt;
 
-use crate::{Reason, Refusal};
+use crate::{BlockKind, Component, Reason, Refusal};
 
 /// By which school year's rules a plot is marked. Plots of earlier years are
 /// still taught from, so that every year's rules remain, and a caller says which
@@ -94,6 +94,28 @@ impl Rules {
             Self::Two => 2,
             Self::Three => 3,
         }
+    }
+
+    /// Whether by these rules nobody saw how the component faces: a repeater,
+    /// comparator or piston without a facing, from number 3 on. It is listed at the
+    /// end of a [`report`](crate::report), connected or not.
+    ///
+    /// ```
+    /// use dustroute::{BlockKind, Component, ComponentId, Facing, Position, Rules};
+    ///
+    /// let piston = Component::new(ComponentId(1), Position::new(0, 0, 0), BlockKind::Piston);
+    /// assert!(Rules::Three.leaves_unread(&piston));
+    /// assert!(!Rules::Two.leaves_unread(&piston));
+    /// let seen = Component { facing: Some(Facing::Up), ..piston };
+    /// assert!(!Rules::Three.leaves_unread(&seen));
+    /// ```
+    #[must_use]
+    pub fn leaves_unread(self, component: &Component) -> bool {
+        let turns = matches!(
+            component.kind,
+            BlockKind::Repeater | BlockKind::Comparator | BlockKind::Piston
+        );
+        self >= Self::Three && turns && component.facing.is_none()
     }
 }
 

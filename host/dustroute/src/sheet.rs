@@ -4,7 +4,7 @@ use std::fmt;
 
 use crate::numbers::counts;
 use crate::work::{CONVERT, REPORT, Work};
-use crate::{Component, Connection, Position, Reason, Refusal, Rules};
+use crate::{Component, ComponentId, Connection, Position, Reason, Refusal, Rules};
 
 /// How a sheet is written. Its first line tells which form it has.
 #[derive(Clone, Copy, Debug, Eq, Hash, Ord, PartialEq, PartialOrd)]
@@ -55,6 +55,26 @@ pub struct Sheet {
     pub connections: Vec<Connection>,
     /// Cells at the edge of what was seen, in any order.
     pub frontiers: Vec<Position>,
+}
+
+impl Sheet {
+    /// The blocks that the last block of the [`report`] names by [`Rules::Three`]:
+    /// those whose facing was not seen, in list order, connected or not. By other
+    /// rules there are none.
+    ///
+    /// ```
+    /// let text = "sheet=2\nrules=3\n\
+    ///     components=2\nc=1,0,0,0,4,0,0,0\nc=2,1,0,0,1,0,0,0\n\
+    ///     connections=1\nn=1,2,5\nfrontiers=0\n";
+    /// let sheet = dustroute::read_sheet(text.as_bytes())?;
+    /// assert_eq!(sheet.unread().collect::<Vec<_>>(), [dustroute::ComponentId(2)]);
+    /// # Ok::<(), dustroute::Refusal>(())
+    /// ```
+    pub fn unread(&self) -> impl Iterator<Item = ComponentId> {
+        let unread = self.components.iter();
+        let unread = unread.filter(|it| self.rules.leaves_unread(it));
+        unread.map(|it| it.id)
+    }
 }
 
 /// The bytes of the first buffer that is lent for a text that is written.

@@ -58,6 +58,17 @@ fn hold_read(text: &[u8], sheet: &Sheet, case: &str) {
     assert_eq!(given.frontiers, lists.frontiers, "{case}");
 }
 
+/// The last block of a report by rules 3: the ids of the devices that are unread. By
+/// other rules there is none.
+fn unread_told(report: &[u8]) -> Vec<u32> {
+    let text = String::from_utf8_lossy(report);
+    let Some((_, block)) = text.split_once("\nunread=") else {
+        return Vec::new();
+    };
+    let ids = block.lines().filter_map(|line| line.strip_prefix("id="));
+    ids.filter_map(|id| id.parse().ok()).collect()
+}
+
 /// All three calls; the number of the refusal.
 fn hold(text: &[u8], case: &str) -> u64 {
     let turned = Sheet::turned(text, Limits::SCENE);
@@ -70,6 +81,7 @@ fn hold(text: &[u8], case: &str) -> u64 {
 #[test]
 fn drawn_sheets_are_read_reported_and_turned() -> Result<(), Refusal> {
     let mut counts = [[0_u64; 3]; 2];
+    let mut unread = 0;
     for seed in 0..20_000 {
         let sheet = drawn::sheet(seed);
         let case = format!("sheet seed {seed}");
@@ -78,8 +90,15 @@ fn drawn_sheets_are_read_reported_and_turned() -> Result<(), Refusal> {
         counts[form][usize::try_from(sheet.rules - 1).unwrap_or(0)] += 1;
         let other = convert(&sheet.text)?;
         assert_eq!(convert(&other)?, there_and_back(&sheet.text), "{case}");
-        assert_eq!(report(&other)?, report(&sheet.text)?, "{case}");
+        let told = report(&sheet.text)?;
+        assert_eq!(report(&other)?, told, "{case}");
+        let named = read_sheet(&sheet.text)?;
+        let named: Vec<u32> = named.unread().map(|it| it.0).collect();
+        assert_eq!(named, unread_told(&told), "{case}");
+        unread += named.len();
     }
+    println!("unread devices named: {unread}");
+    assert!(unread > 1_000);
     println!("typed sheets by form and rules: {counts:?}");
     assert!(counts.as_flattened().iter().all(|count| *count > 1_000));
     Ok(())
