@@ -224,9 +224,7 @@ pub(crate) fn of_bytes(
         frontiers: &frontier_numbers[..frontier_count],
     };
     if ports.len() / NUMBER <= FEW_PORT_NUMBERS {
-        return with_ports::<FEW_PORT_NUMBERS>(
-            &lists, ports, regions, sources, inputs, sets, stack,
-        );
+        return with_ports::<FEW_PORT_NUMBERS>(&lists, ports, regions, sources, inputs, sets, stack);
     }
     with_ports::<PORT_NUMBERS>(&lists, ports, regions, sources, inputs, sets, stack)
 }

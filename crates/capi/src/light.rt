@@ -8,8 +8,8 @@ ghost use Rattle.capi.specs.Light.{LightByLists};
 
 use super::alive::refuse_short;
 use checks::refusals::{pack_refusal, room_for};
-use lists::rules::rules_of;
 use lighting::{Lit, light_regions};
+use lists::rules::rules_of;
 use sets::WORDS;
 
 // Writes the sets of an answer at the front of their slices, and answers how many regions there are as the count of a number.

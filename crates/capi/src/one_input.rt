@@ -7,8 +7,8 @@ ghost use Rattle.capi.specs.OneInput.{DrivenByLists};
 
 use super::alive::refuse_short;
 use checks::refusals::{pack_refusal, room_for};
-use lists::rules::rules_of;
 use driven::{DrivenInput, is_driven};
+use lists::rules::rules_of;
 use sets::WORDS;
 
 // Writes the set of an answer at the front of a slice, and answers yes or no as the count of a number.

@@ -122,9 +122,10 @@ words c =
     let drive : (i : ℕ) → Fits w64 (get_or c.analyze-analysis.result.drive.words i 0) = λ i. search rules in
     let potential : (i : ℕ) → Fits w64 (get_or c.analyze-analysis.result.potential.words i 0) = λ i. search rules in
     let cyclic : (i : ℕ) → Fits w64 (get_or c.analyze-analysis.result.cyclic.words i 0) = λ i. search rules in
-    let has_drive : (i : ℕ) → Fits w64 (get_or c.analyze-analysis.result.has_drive.words i 0) = λ i. search rules in
-    ((record { long = search rules; fit = λ i. (drive i).fits }, record { long = search rules; fit = λ i. (potential i).fits }),
-    (record { long = search rules; fit = λ i. (cyclic i).fits }, record { long = search rules; fit = λ i. (has_drive i).fits }))
+    let has_drive : (i : ℕ) → Fits w64 (get_or c.analyze-analysis.result.has_drive.words i 0) = λ i. search rules in (
+      (record { long = search rules; fit = λ i. (drive i).fits }, record { long = search rules; fit = λ i. (potential i).fits }),
+      (record { long = search rules; fit = λ i. (cyclic i).fits }, record { long = search rules; fit = λ i. (has_drive i).fits }),
+    )
 
 -- what was written of parts of longer arrays
 written_of : {r : Analysis} {n k j : ℕ} (regions sources inputs more₁ more₂ more₃ : List ℕ) {a a' b b' d d' e e' f f' : List ℕ} {x : ℕ}
