@@ -7,4 +7,5 @@ pub mod Clear
 pub mod Light
 pub mod ReachTable
 pub mod Kept
+pub mod LeftOut
 pub mod Texts

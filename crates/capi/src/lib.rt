@@ -5,6 +5,7 @@
 mod alive;
 mod clear;
 mod kept;
+mod left_out;
 mod light;
 mod one_input;
 mod region_table;
