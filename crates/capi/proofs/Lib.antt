@@ -7,5 +7,6 @@ mod Cleared
 mod LightLaws
 mod ReachTable
 mod KeptLaws
+mod BlockLaws
 mod TextLaws
 pub mod Laws

@@ -8,4 +8,5 @@ pub mod Light
 pub mod ReachTable
 pub mod Kept
 pub mod LeftOut
+pub mod BlockPorts
 pub mod Texts

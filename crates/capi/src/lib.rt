@@ -3,6 +3,7 @@
 #![tactic(auto)]
 
 mod alive;
+mod block;
 mod clear;
 mod kept;
 mod left_out;
