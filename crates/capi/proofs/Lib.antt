@@ -7,6 +7,7 @@ mod Cleared
 mod LightLaws
 mod ReachTable
 mod KeptLaws
+mod InputSetLaws
 mod BlockLaws
 mod TextLaws
 pub mod Laws

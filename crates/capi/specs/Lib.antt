@@ -9,4 +9,5 @@ pub mod ReachTable
 pub mod Kept
 pub mod LeftOut
 pub mod BlockPorts
+pub mod InputSets
 pub mod Texts

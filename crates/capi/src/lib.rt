@@ -5,6 +5,7 @@
 mod alive;
 mod block;
 mod clear;
+mod input;
 mod kept;
 mod left_out;
 mod light;
