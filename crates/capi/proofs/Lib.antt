@@ -8,5 +8,7 @@ mod LightLaws
 mod ReachTable
 mod RingLaws
 mod KeptLaws
+mod InputSetLaws
+mod BlockLaws
 mod TextLaws
 pub mod Laws

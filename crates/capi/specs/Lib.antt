@@ -8,4 +8,7 @@ pub mod Light
 pub mod ReachTable
 pub mod Rings
 pub mod Kept
+pub mod LeftOut
+pub mod BlockPorts
+pub mod InputSets
 pub mod Texts

@@ -3,8 +3,11 @@
 #![tactic(auto)]
 
 mod alive;
+mod block;
 mod clear;
+mod input;
 mod kept;
+mod left_out;
 mod light;
 mod one_input;
 mod region_table;

@@ -5,3 +5,6 @@ pub mod Writes
 pub mod KeptEnds
 pub mod KeptWithin
 pub mod Unread
+pub mod LeftOut
+pub mod Told
+pub mod Cleared

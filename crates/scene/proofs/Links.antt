@@ -2,6 +2,7 @@
 --     between_none, between_some        the ports of a connection by the face of its step
 --     chosen, picked                    each of the two was selected, so it is a port of its component, at that face, and fits
 --     no_support                        and the kind is not Support
+--     none_supported                    so Support has none
 --     Linked, linked                    both ends are components, their ports are below seven, and the kind is not Support
 -- Assumes nothing.
 use Rattle.std.specs.Prelude.{Option, Some, None}
@@ -95,6 +96,14 @@ no_support rules source sink kind i j h e =
     never_down (step_face source sink)
     (support_face rules source (step_face source sink) true i (picked rules source (step_face source sink) true support_kind i out))
     (support_face rules sink (opposite (step_face source sink)) false j (picked rules sink (opposite (step_face source sink)) false support_kind j into))
+
+-- Support has no ports at all
+pub none_supported : (rules : ℕ) (source sink : Component) (kind : ℕ) → kind ≡ support_kind → ports_between rules source sink kind ≡ None
+none_supported rules source sink kind e = go (ports_between rules source sink kind) refl
+  where
+    go : (found : Option (ℕ × ℕ)) → ports_between rules source sink kind ≡ found → found ≡ None
+    go None h = refl
+    go (Some (i, j)) h = absurd (no_support rules source sink kind i j (chosen rules source sink kind i j h) e)
 
 -- ---- a connection
 

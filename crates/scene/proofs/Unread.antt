@@ -23,19 +23,11 @@ use Rattle.faces.proofs.Unread.{blank_for, facing_for, read_early, read_ports}
 use Rattle.faces.proofs.Blank.{blank_out, blank_in, piston_in}
 use Rattle.scene.specs.Kept.{both_ports, ports_between, link_between, link_of, row_by, rows_below, slope_along, sloped_by, sloped_below}
 use Rattle.scene.specs.Unread.{Dropped, UnreadDropped, ReadKept}
-use Rattle.scene.proofs.Links.{chosen, picked, no_support}
+use Rattle.scene.proofs.Links.{chosen, picked, none_supported}
 
 -- ---- between two components
 
 module _ (rules : ℕ) (source sink : Component) (kind : ℕ) where
-  -- Support is dropped whatever the ports
-  none_supported : kind ≡ support_kind → ports_between rules source sink kind ≡ None
-  none_supported e = go (ports_between rules source sink kind) refl
-    where
-      go : (found : Option (ℕ × ℕ)) → ports_between rules source sink kind ≡ found → found ≡ None
-      go None h = refl
-      go (Some (i, j)) h = absurd (no_support rules source sink kind i j (chosen rules source sink kind i j h) e)
-
   abbrev out : Option ℕ
   out = select_port (ports_of rules source) (step_face source sink) true kind
 
@@ -58,7 +50,7 @@ module _ (rules : ℕ) (source sink : Component) (kind : ℕ) where
   unless_support other = go (eqb kind support_kind) refl
     where
       go : (t : Bool) → eqb kind support_kind ≡ t → ports_between rules source sink kind ≡ None
-      go true e = none_supported (eqb-true kind support_kind e)
+      go true e = none_supported rules source sink kind (eqb-true kind support_kind e)
       go false e = other (λ k. let z : ◌≡◌ {A = Bool} false true = sym e ∙ eq-eqb kind support_kind k in absurd (let n : ◌≡◌ {A = ℕ} 0 1 = cc in omega arith))
 
   pub from_unread : unread rules source ≡ true → ports_between rules source sink kind ≡ None

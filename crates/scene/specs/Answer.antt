@@ -10,18 +10,19 @@ use Rattle.lists.specs.Slices.{laid, left_of}
 use Rattle.faces.specs.Codes.{slope_code}
 use Rattle.scene.specs.Kept.{sloped_rows, kept_count}
 use Rattle.scene.specs.declared.connections.Link.{Link}
+use Rattle.scene.specs.declared.reasons.Reason.{Reason}
 
 -- ---- what the code hands on and writes on the way
 
 -- the ports of a connection that has them
-abbrev pub ports_by : Option Link → Option (ℕ × ℕ)
-ports_by (Some link) = Some (link.source_port, link.sink_port)
-ports_by None = None
+abbrev pub ports_by : Result Link Reason → Option (ℕ × ℕ)
+ports_by (Ok link) = Some (link.source_port, link.sink_port)
+ports_by (Err reason) = None
 
 -- and its slope
-abbrev pub SlopeIs : Option Link → ℕ → Type 0
-SlopeIs (Some link) slope = slope_code link.slope ≡ slope
-SlopeIs None slope = Unit
+abbrev pub SlopeIs : Result Link Reason → ℕ → Type 0
+SlopeIs (Ok link) slope = slope_code link.slope ≡ slope
+SlopeIs (Err reason) slope = Unit
 
 -- the row stands at a place of the slice, and the rest is as it was
 pub record Put (row : List ℤ) (at : ℕ) (out out' : List ℤ) : Type 0 where

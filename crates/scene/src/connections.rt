@@ -1,5 +1,5 @@
 // The port connections that are kept of a scene, each with the slope of its step.
-ghost use Rattle.std.specs.Prelude.{◌≡◌, Some, ◌+◌, ◌*◌, ◌≤◌, ◌<◌, map, length, pos};
+ghost use Rattle.std.specs.Prelude.{Ok, ◌≡◌, ◌+◌, ◌*◌, ◌≤◌, ◌<◌, map, length, pos};
 ghost use Rattle.lists.specs.Limits.{kept_width};
 ghost use Rattle.lists.specs.Rules.{rules_of};
 ghost use Rattle.lists.specs.Records.{component, connection, component_count, connection_count};
@@ -10,12 +10,14 @@ ghost use Rattle.faces.specs.Rows.{port_places};
 ghost use Rattle.faces.specs.Step.{step_face, step_slope};
 ghost use Rattle.faces.specs.Select.{select_port};
 ghost use Rattle.scene.specs.Kept.{ports_between, link_of, slope_along, sloped_by, sloped_row};
+ghost use Rattle.scene.specs.Reasons.{reason_between, reason_of, reason_by};
 ghost use Rattle.scene.specs.Answer.{ports_by, SlopeIs, Put, Filled, AllKept, Answered};
 
+use super::reasons::Reason;
 use checks::refusals::{grouping_lists, room_for};
 use faces::face::Face;
 use faces::ports::ports_for;
-use faces::select::{select_port, transfer_of};
+use faces::select::{SUPPORT_KIND, select_port, transfer_of};
 use faces::step::{Slope, Step, step_between};
 use lists::hints::{Hints, SLOTS, hint_ids, place_near};
 use lists::rules::rules_of;
@@ -24,7 +26,7 @@ use lists::{COMPONENT, COMPONENTS, CONNECTION, KEPT, Refusal};
 
 // The ports that a connection takes at its ends, and the slope of its step.
 #[derive(Clone, Copy)]
-struct Link {
+pub(crate) struct Link {
     source_port: usize,
     sink_port: usize,
     slope: Slope,
@@ -32,13 +34,13 @@ struct Link {
 
 // The rules number and the lists of an accepted scene, with the table of the components' ids and hints into it.
 #[derive(Drop)]
-struct Scene<'a> {
-    rules: u64,
-    components: ComponentList<'a>,
-    connections: ConnectionList<'a>,
-    keys: &'a [u64],
-    hints: &'a Hints,
-    ghost id_table: { IdTable components.numbers.now keys.now },
+pub(crate) struct Scene<'a> {
+    pub(crate) rules: u64,
+    pub(crate) components: ComponentList<'a>,
+    pub(crate) connections: ConnectionList<'a>,
+    pub(crate) keys: &'a [u64],
+    pub(crate) hints: &'a Hints,
+    pub(crate) ghost id_table: { IdTable components.numbers.now keys.now },
 }
 
 impl Scene<'_> {
@@ -68,35 +70,53 @@ impl Scene<'_> {
         step_between(self.components.position(a), self.components.position(b))
     }
 
-    // The link of a connection from component a to component b.
-    fn link_between(&self, a: usize, b: usize, kind: u64) -> Option<Link>
+    // The link of a connection from component a to component b, or why there is none.
+    fn link_between(&self, a: usize, b: usize, kind: u64) -> Result<Link, Reason>
         requires { (a < component_count self.now.components.numbers.now) × (b < component_count self.now.components.numbers.now) }
         ensures ports { let cs = self.now.components.numbers.now in
             ports_by result ≡ ports_between self.now.rules (component cs a) (component cs b) kind }
+        ensures reason { let cs = self.now.components.numbers.now in
+            reason_by result ≡ reason_between self.now.rules (component cs a) (component cs b) kind }
         ensures slope { let cs = self.now.components.numbers.now in SlopeIs result (step_slope (component cs a) (component cs b)) }
     {
+        if kind == SUPPORT_KIND {
+            return Err(Reason::Support);
+        }
         let step = self.step(a, b);
-        let face = step.face?;
-        let source_port = self.port_at(a, face, true, kind)?;
-        let sink_port = self.port_at(b, face.opposite(), false, kind)?;
-        Some(Link {
+        let Some(face) = step.face else {
+            return Err(Reason::Apart);
+        };
+        let Some(source_port) = self.port_at(a, face, true, kind) else {
+            return Err(Reason::NothingOut);
+        };
+        let Some(sink_port) = self.port_at(b, face.opposite(), false, kind) else {
+            return Err(Reason::NothingIn);
+        };
+        Ok(Link {
             source_port,
             sink_port,
             slope: step.slope,
         })
     }
 
-    // The link of connection k.
-    fn link_of(&self, k: usize) -> Option<Link>
+    // The link of connection k, or why there is none.
+    pub(crate) fn link_of(&self, k: usize) -> Result<Link, Reason>
         requires { k < connection_count self.now.connections.numbers.now }
         ensures ports { let s = self.now in
             ports_by result ≡ link_of s.rules s.components.numbers.now (connection s.connections.numbers.now k) }
+        ensures reason { let s = self.now in
+            reason_by result ≡ reason_of s.rules s.components.numbers.now (connection s.connections.numbers.now k) }
         ensures slope { let s = self.now in
             SlopeIs result (slope_along s.components.numbers.now (connection s.connections.numbers.now k)) }
     {
-        let a = place_near(self.keys, self.hints, self.connections.source(k))?;
-        let b = place_near(self.keys, self.hints, self.connections.sink(k))?;
-        self.link_between(a, b, self.connections.kind(k))
+        let source = place_near(self.keys, self.hints, self.connections.source(k));
+        let sink = place_near(self.keys, self.hints, self.connections.sink(k));
+        match (source, sink) {
+            (Some(a), Some(b)) => self.link_between(a, b, self.connections.kind(k)),
+            (None, Some(_)) => Err(Reason::NoSource),
+            (Some(_), None) => Err(Reason::NoSink),
+            (None, None) => Err(Reason::NoEnds),
+        }
     }
 
     // The row of connection k with its link.
@@ -104,7 +124,7 @@ impl Scene<'_> {
         requires k_bound { k < connection_count self.now.connections.numbers.now }
         requires port_bounds { (link.source_port < port_places) × (link.sink_port < port_places) }
         ensures { result ≡ map pos
-            (sloped_by (connection self.now.connections.numbers.now k) (ports_by (Some link)) (slope_code link.slope)) }
+            (sloped_by (connection self.now.connections.numbers.now k) (ports_by (Ok link)) (slope_code link.slope)) }
     {
         [
             self.connections.source(k) as i64,
@@ -123,7 +143,7 @@ impl Scene<'_> {
         ensures { let s = self.now in
             Filled (map pos (sloped_row s.rules s.components.numbers.now s.connections.numbers.now k)) count out.old out.new result }
     {
-        let Some(link) = self.link_of(k) else {
+        let Ok(link) = self.link_of(k) else {
             return count;
         };
         let at = count * KEPT;

@@ -12,7 +12,7 @@ use Rattle.scene.proofs.connections.Scene.keep.Goals as goal
 pub row-requires : goal.row-requires
 row-requires c =
     let ends = linked c.args.self.now.rules c.args.self.now.components.numbers.now (connection c.args.self.now.connections.numbers.now c.args.k) _ _
-    (sym c.link_of.ensures.ports ∙ ap ports_by c.in-Some.is) in record {
+    (sym c.link_of.ensures.ports ∙ ap ports_by c.in-Ok.is) in record {
       k_bound = c.requires.k_bound;
       port_bounds = (ends.source_port_of, ends.sink_port_of);
     }
@@ -20,5 +20,5 @@ row-requires c =
 pub returns : goal.returns
 returns c =
     let place = c.args.count * 6 in
-    rw (← c.in-Some.ensures.ports, ← c.in-Some.ensures.slope)
+    rw (← c.in-Ok.ensures.ports, ← c.in-Ok.ensures.slope)
     (record { put = part_put c.args.out.now place (place + 6 - place) (c.copy_from_slice.ensures.after ∙ c.row.ensures) (omega arith); count = omega arith })

@@ -8,4 +8,4 @@ pub link_between-requires : goal.link_between-requires
 link_between-requires c =
     let cs = c.args.self.now.components.numbers.now in
     let table = c.args.self.now.id_table in
-    (place_below_lem cs _ _ (sym (c.place_near.ensures cs table) ∙ c.in_ok-a.was), place_below_lem cs _ _ (sym (c.place_near-2.ensures cs table) ∙ c.in_ok-b.was))
+    (place_below_lem cs _ _ (sym (c.place_near-source.ensures cs table) ∙ c.in-Some-Some.is-0), place_below_lem cs _ _ (sym (c.place_near-sink.ensures cs table) ∙ c.in-Some-Some.is-1))
