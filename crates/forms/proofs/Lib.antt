@@ -15,6 +15,7 @@ pub mod Writing
 pub mod Lengths
 pub mod Most
 pub mod Sizes
+pub mod ShortSizes
 pub mod Texts
 pub mod Heads
 pub mod Finding
