@@ -14,6 +14,8 @@ pub mod Storing
 pub mod Writing
 pub mod Lengths
 pub mod Most
+pub mod Sizes
+pub mod ShortSizes
 pub mod Texts
 pub mod Heads
 pub mod Finding

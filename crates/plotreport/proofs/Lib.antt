@@ -1,3 +1,4 @@
 -- What the proofs of the program need.
 mod Fed
 mod Spoken
+mod Fits
