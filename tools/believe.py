@@ -18,6 +18,7 @@ import sys
 ENTRIES = {
     "circuit/lib": ["from_parts", "fragment_nets"],
     "scene/connections": ["port_connections"],
+    "scene/reasons": ["reasons"],
     "faces/ports": ["ports_for", "port_count"],
     "faces/step": ["step_between"],
     "faces/select": ["select_port", "transfer_of"],
@@ -42,6 +43,9 @@ ENTRIES = {
     "capi/light": ["dustroute_light"],
     "capi/ring_set": ["dustroute_rings"],
     "capi/region_table": ["dustroute_reach_table"],
+    "capi/left_out": ["dustroute_reasons"],
+    "capi/block": ["dustroute_block_ports"],
+    "capi/input": ["dustroute_input"],
     "capi/texts": ["dustroute_sheet", "dustroute_report", "dustroute_convert"],
 }
 STATEMENTS = [
@@ -70,6 +74,7 @@ STATEMENTS = [
     ("report", "Same", "SameReport"),
     ("report", "Rules", "LampsAlone"),
     ("convert", "Laws", "Converts"),
+    ("plotreport", "Fits", "ShortFits"),
     ("assessment", "RulesLaws", "RulesAgree"),
     ("assessment", "RulesLaws", "SameButInferred"),
     ("assessment", "RulesLaws", "UnreadRows"),
