@@ -7,8 +7,10 @@
 //!   signals, what they drive, and a verdict for each required input.
 //! - [`ports`] finds the port connections that grouping connections make, and
 //!   whether each climbs.
+//! - [`left_out`] tells of the others why they are none, and [`block_ports`] has the
+//!   ports of a block.
 //! - [`driven`] tells of one required input whether it is driven, without the
-//!   rest of the plot.
+//!   rest of the plot; [`input`] tells what feeds it.
 //! - [`trail`] shows the way from a drive source to a driven input, and
 //!   [`check_trail`] tells of any list of components whether it is such a way.
 //! - [`clear`] drops the port connections to blocks that are gone, for which the
@@ -72,11 +74,13 @@
     clippy::unwrap_used
 )]
 
+mod block;
 pub mod bytes;
 mod clear;
 mod codes;
 mod driven;
 mod groups;
+mod input;
 mod interface;
 mod light;
 pub mod limits;
@@ -84,6 +88,7 @@ mod liveness;
 mod numbers;
 mod ports;
 mod reach_table;
+mod reasons;
 mod refusal;
 mod rings;
 mod rows;
@@ -94,10 +99,12 @@ mod trail;
 mod what_if;
 mod work;
 
+pub use block::{Channel, Port, Role, block_ports};
 pub use clear::{Cleared, Dropped, Missing, clear};
 pub use codes::{BlockKind, ConnectionKind, Facing, Slope, TransferKind};
 pub use driven::{DrivenInput, driven};
 pub use groups::{ComponentGroups, Groups, groups};
+pub use input::{InputSources, input};
 pub use interface::{INTERFACE, interface};
 pub use light::{ComponentLight, Lighting, Step, light};
 pub use liveness::{
@@ -106,6 +113,7 @@ pub use liveness::{
 };
 pub use ports::{KeptConnection, ports};
 pub use reach_table::{ReachTable, reach_table};
+pub use reasons::{LeftOut, Why, left_out};
 pub use refusal::{List, Place, Reason, Refusal};
 pub use rings::{ComponentRegion, Rings, rings};
 pub use rules::Rules;

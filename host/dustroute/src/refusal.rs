@@ -85,7 +85,8 @@ pub enum Reason {
     MissingEndpoint,
     /// 8: the port asked for has no verdict: there is no such component, or the
     /// port is no required input of it. Only of [`driven`](crate::driven),
-    /// [`trail`](crate::trail) and [`check_trail`](crate::check_trail).
+    /// [`input`](crate::input()), [`trail`](crate::trail) and
+    /// [`check_trail`](crate::check_trail).
     NoVerdict,
     /// 9: a line of a sheet that is not as it must be, that is missing, or that is
     /// one too many. Only of sheets.
