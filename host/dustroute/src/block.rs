@@ -114,9 +114,10 @@ impl fmt::Display for Channel {
 }
 
 /// The ports of a block, by rising number, which is how a
-/// [`PortRef`](crate::PortRef) names them. They depend on its kind, facing,
-/// support and whether it conducts; under rules 3 also on whether its facing was
-/// left blank, see [`Rules`].
+/// [`PortRef`](crate::PortRef) names them.
+///
+/// They depend on its kind, facing, support and whether it conducts, and on the
+/// [`Rules`] where its facing was left blank.
 ///
 /// # Errors
 /// Only [`Reason::Unreadable`](crate::Reason::Unreadable).

@@ -140,13 +140,14 @@ impl Asked {
             self.inferred += u64::from(!found.inferred.is_empty());
         }
         let required: BTreeSet<PortRef> = whole.inputs.iter().map(|it| it.input).collect();
-        let ids = components.iter().take(6).map(|it| it.id);
+        let start = self.scenes as usize % components.len().max(1);
+        let ids = components.iter().skip(start).take(2).map(|it| it.id);
         let missing = (0..).map(ComponentId);
         let missing = missing
             .filter(|id| components.iter().all(|it| it.id != *id))
             .take(1);
         for id in ids.chain(missing) {
-            for port in [0, 1, 2, 3, 4, 5, 6, 255] {
+            for port in [0, 1, 2, 4, 255] {
                 let port = PortRef::new(id, port);
                 if !required.contains(&port) {
                     let said = ask(port).map_err(|it| (it.reason, it.place));
@@ -196,7 +197,7 @@ fn damaged_scenes_are_refused_as_by_liveness() {
     for profile in Profile::ALL.into_iter().filter(|it| !it.is_large()) {
         for seed in 150_000..150_010 {
             let scene = profile.scene(seed);
-            for damage in single(&scene) {
+            for damage in single(&scene).into_iter().step_by(3) {
                 let case = format!("{} seed {seed}, {damage:?}", profile.name());
                 asked.hold(&damage.apply(&scene), &case);
             }

@@ -10,6 +10,7 @@ mod reason_slices;
 mod typed;
 
 use std::collections::BTreeMap;
+use std::iter;
 
 use dustroute::{
     BlockKind, Component, ComponentId, Connection, ConnectionKind, Facing, LeftOut, Port, Position,
@@ -33,7 +34,7 @@ const fn opposite(face: Facing) -> Facing {
 }
 
 /// One East, West, North or South, level or one up or down, or straight up or down.
-fn step(source: Position, sink: Position) -> Option<Facing> {
+const fn step(source: Position, sink: Position) -> Option<Facing> {
     let [x, y, z] = [sink.x - source.x, sink.y - source.y, sink.z - source.z];
     match (x, z) {
         _ if y.abs() > 1 => None,
@@ -211,7 +212,7 @@ fn refusals_are_those_of_ports() {
 fn ports_are_those_of_the_tables() {
     let faces = || {
         let some = Facing::ALL.into_iter().map(Some);
-        (0..).zip([None].into_iter().chain(some))
+        (0..).zip(iter::once(None).chain(some))
     };
     let mut seen = 0;
     for (code, kind) in (0..).zip(BlockKind::ALL) {
