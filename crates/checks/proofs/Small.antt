@@ -1,8 +1,10 @@
 -- What the checks answer fits one number (`Small`): the item of a refusal is at most its list's limit. Numbers 3 to 7 are reached only
 -- where number 1 passed, so that their items are below a limit.
---     small_or_else                        a chain of two checks
+--     small_or_else, few_or_else           a chain of two checks
+--     Few, few_small                       an item of at most the greatest limit has room
 --     strange_small                        number 11
 --     rules_small, whole_small             numbers 11 and 1
+--     grouping_few                         the checks of the lists of a grouping
 --     grouping_small, liveness_small       the checks of the lists
 -- Assumes nothing.
 use Rattle.lists.specs.declared.Fault.{Fault}
@@ -36,21 +38,34 @@ pub small_or_else : (a b : Result ⊤ Refusal) → Small a → (a ≡ Ok tt → 
 small_or_else (Ok tt) b s t = t refl
 small_or_else (Err r) b s t = s
 
+-- the item of a refusal is at most the greatest limit
+abbrev pub Few : Result ⊤ Refusal → Type 0
+Few (Ok tt) = Unit
+Few (Err r) = r.item ≤ connection_limit
+
+pub few_small : (a : Result ⊤ Refusal) → Few a → Small a
+few_small (Ok tt) f = tt
+few_small (Err r) f = omega arith
+
+pub few_or_else : (a b : Result ⊤ Refusal) → Few a → (a ≡ Ok tt → Few b) → Few (a or_else b)
+few_or_else (Ok tt) b s t = t refl
+few_or_else (Err r) b s t = s
+
 -- the same as a record, from which the check can be inferred
 record Fit (a : Result ⊤ Refusal) : Type 0 where
-  small : Small a
+  few : Few a
 
 then : {a b : Result ⊤ Refusal} → Fit a → (a ≡ Ok tt → Fit b) → Fit (a or_else b)
-then {a} {b} s t = record { small = small_or_else a b s.small (λ e. (t e).small) }
+then {a} {b} s t = record { few = few_or_else a b s.few (λ e. (t e).few) }
 
 -- an item that was found is at most n
 record AtMost (n : ℕ) (f : Option ℕ) : Type 0 where
   item : (k : ℕ) → f ≡ Some k → k ≤ n
 
 fit_refuse : (fault : Fault) (list : Option Section) {f : Option ℕ} {n : ℕ} → AtMost n f → n ≤ connection_limit → Fit (refuse fault list f)
-fit_refuse fault list {f} {n} m h = record { small = go f m.item }
+fit_refuse fault list {f} {n} m h = record { few = go f m.item }
   where
-    go : (g : Option ℕ) → ((k : ℕ) → g ≡ Some k → k ≤ n) → Small (refuse fault list g)
+    go : (g : Option ℕ) → ((k : ℕ) → g ≡ Some k → k ≤ n) → Few (refuse fault list g)
     go (Some k) most = let l = most k refl in omega arith
     go None most = tt
 
@@ -69,6 +84,12 @@ fault_within Fault.BadLine = (lit< tt, lit< tt)
 fault_within Fault.NotDriven = (lit< tt, lit< tt)
 fault_within Fault.UnknownRules = (lit< tt, lit< tt)
 fault_within Fault.UnknownForm = (lit< tt, lit< tt)
+fault_within Fault.OtherRules = (lit< tt, lit< tt)
+fault_within Fault.UnequalFields = (lit< tt, lit< tt)
+fault_within Fault.FullPlot = (lit< tt, lit< tt)
+fault_within Fault.PresentId = (lit< tt, lit< tt)
+fault_within Fault.AbsentId = (lit< tt, lit< tt)
+fault_within Fault.StrangePlot = (lit< tt, lit< tt)
 
 pub list_few : (list : Option Section) → list_number list < 256
 list_few (Some Section.Components) = lit< tt
@@ -92,7 +113,7 @@ whole_item width limit n = record {
 }
 
 pub whole_small : (list : Option Section) (width limit n : ℕ) → limit ≤ connection_limit → Small (refuse Fault.ListLength list (not_whole width limit n))
-whole_small list width limit n h = (fit_refuse Fault.ListLength list (whole_item width limit n) h).small
+whole_small list width limit n h = few_small _ (fit_refuse Fault.ListLength list (whole_item width limit n) h).few
 
 short_item : (enough : Bool) → AtMost 0 (too_short enough)
 short_item true = record { item = λ k e. let z : ◌≡◌ {A = ℕ} 0 1 = cc in absurd (omega arith) }
@@ -106,10 +127,10 @@ rules_item rules = record { item = λ k e. go (known_rules rules) k e }
     go false k e = omega (arith, same_item e)
 
 pub strange_small : (rules : ℕ) → Small (refuse Fault.UnknownRules None (strange_rules rules))
-strange_small rules = (fit_refuse Fault.UnknownRules None (rules_item rules) (lit≤ tt)).small
+strange_small rules = few_small _ (fit_refuse Fault.UnknownRules None (rules_item rules) (lit≤ tt)).few
 
 pub rules_small : (rules : ℕ) → Small (refuse Fault.UnknownRules None (strange_rules rules))
-rules_small rules = (fit_refuse Fault.UnknownRules None (rules_item rules) (lit≤ tt)).small
+rules_small rules = few_small _ (fit_refuse Fault.UnknownRules None (rules_item rules) (lit≤ tt)).few
 
 range_item : (low high list : List ℤ) → AtMost (length list / length low) (first_out_of_range low high list)
 unfolding first_out_of_range
@@ -170,18 +191,24 @@ module _ (rules : ℕ) (cs : List ℤ) (width connections : ℕ) (found : Option
 -- ---- the checks of the lists
 
 module _ (rules : ℕ) (cs ps fs : List ℤ) (enough : Bool) where
-  pub grouping_small : Small (grouping_lists rules cs ps fs enough)
-  grouping_small =
+  pub grouping_few : Few (grouping_lists rules cs ps fs enough)
+  grouping_few =
       let found = first_out_of_range connection_low connection_high ps in
       let all = then (scene_fit rules cs connection_width (length ps) found fs enough (range_item connection_low connection_high ps)) (λ e.
       fit_refuse Fault.UnsortedConnections (Some Section.Connections) (order_item connection_order connection_width ps)
       (scene_accept rules cs connection_width (length ps) found fs enough e).lengths.connections_few) in
-      rw (grouping_parts rules cs ps fs enough) at all.small
+      rw (grouping_parts rules cs ps fs enough) at all.few
 
-  pub liveness_small : Small (liveness_lists rules cs ps fs enough)
-  liveness_small =
+  pub grouping_small : Small (grouping_lists rules cs ps fs enough)
+  grouping_small = few_small (grouping_lists rules cs ps fs enough) grouping_few
+
+  liveness_few : Few (liveness_lists rules cs ps fs enough)
+  liveness_few =
       let found = first_out_of_range port_low port_high ps in
       let all = then (scene_fit rules cs port_width (length ps) found fs enough (range_item port_low port_high ps)) (λ e.
       fit_refuse Fault.MissingEnd (Some Section.Connections) (end_item cs ps)
       (scene_accept rules cs port_width (length ps) found fs enough e).lengths.connections_few) in
-      rw (liveness_parts rules cs ps fs enough) at all.small
+      rw (liveness_parts rules cs ps fs enough) at all.few
+
+  pub liveness_small : Small (liveness_lists rules cs ps fs enough)
+  liveness_small = few_small (liveness_lists rules cs ps fs enough) liveness_few

@@ -4,7 +4,7 @@ use Rattle.std.specs.Prelude.{ℕ, zero, suc, Option, Some, None}
 use Rattle.lists.specs.declared.Fault.{Fault}
 use Rattle.lists.specs.declared.Section.{Section}
 
--- 1 to 12
+-- 1 to 18
 abbrev pub fault_number : Fault → ℕ
 fault_number Fault.ListLength = 1
 fault_number Fault.ShortSlice = 2
@@ -18,6 +18,12 @@ fault_number Fault.BadLine = 9
 fault_number Fault.NotDriven = 10
 fault_number Fault.UnknownRules = 11
 fault_number Fault.UnknownForm = 12
+fault_number Fault.OtherRules = 13
+fault_number Fault.UnequalFields = 14
+fault_number Fault.FullPlot = 15
+fault_number Fault.PresentId = 16
+fault_number Fault.AbsentId = 17
+fault_number Fault.StrangePlot = 18
 
 -- 0 components, 1 connections, 2 frontiers, 3 none
 abbrev pub list_number : Option Section → ℕ

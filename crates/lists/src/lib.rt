@@ -97,6 +97,18 @@ pub enum Fault {
     UnknownRules,
     // A sheet's form number is not known.
     UnknownForm,
+    // Two sheets have different rules.
+    OtherRules,
+    // Components of one id, in two sheets, have unequal fields.
+    UnequalFields,
+    // No place of a held plot is free.
+    FullPlot,
+    // A placed id is present already.
+    PresentId,
+    // A named id is absent.
+    AbsentId,
+    // No opening and clicks can leave this plot.
+    StrangePlot,
 }
 
 // A refusal: what is wrong, in which list, and at which item, from 0.
