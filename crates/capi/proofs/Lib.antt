@@ -11,4 +11,5 @@ mod KeptLaws
 mod InputSetLaws
 mod BlockLaws
 mod TextLaws
+mod JoinLaws
 pub mod Laws

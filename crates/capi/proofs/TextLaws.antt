@@ -5,6 +5,7 @@
 --     head_refused, head_without_room                         the refusal of a sheet for whose head there is no room
 --     unsound, sound                                          a sheet that was read, refused by its lists or valid
 --     by_head, by_refusal, by_sheet                           the lists of a sheet: without that room, refused, and read
+--     taken, dropped                                          the front of a buffer, and what lies past it
 --     by_report, by_convert                                   the entry on a buffer, from what was written into its front
 -- Assumes nothing.
 use Rattle.std.specs.Prelude.{⊤, Result, Ok, Err, None}
@@ -300,10 +301,10 @@ module _ (n : ℕ) (out : List ℕ) {room : ℕ} (h : room ≡ min (length out) 
   turned_round : room ≡ min n (length out)
   turned_round = omega arith
 
-  taken : take room out ≡ take n out
+  pub taken : take room out ≡ take n out
   taken = ap (λ k. take k out) turned_round ∙ take_min n out
 
-  dropped : drop room out ≡ drop n out
+  pub dropped : drop room out ≡ drop n out
   dropped = ap (λ k. drop k out) turned_round ∙ drop_min n out
 
 module _ {text : List ℕ} {a a' b b' c c' : List ℤ} {out front : List ℕ} {found : Result ℕ Refusal} {room r : ℕ} (h : room ≡ min (length out) item_limit) (e : r ≡ text_number found) where

@@ -12,3 +12,4 @@ pub mod LeftOut
 pub mod BlockPorts
 pub mod InputSets
 pub mod Texts
+pub mod Join

@@ -6,6 +6,7 @@ mod alive;
 mod block;
 mod clear;
 mod input;
+mod joined;
 mod kept;
 mod left_out;
 mod light;

@@ -1,6 +1,7 @@
 -- A sheet that is refused is refused at one of its lines, and these are few: each list has at most `connection_limit` records.
 --     stop_few        a fault in fields is at one of their lines
---     parse_small     the item of a sheet's refusal has room in its digits
+--     parse_few       the item of a sheet's refusal is one of few
+--     parse_small     and so it has room in its digits
 -- Assumes nothing.
 use Prim.Native.Nat.{ℕ, suc, ◌+◌, ◌*◌, ◌≤◌, min}
 use native.Mathlib.Omega.{arith}
@@ -124,7 +125,8 @@ abbrev pub ParsedSmall : Parsed → Type 0
 ParsedSmall (Sheet style rules cs ps fs) = Unit
 ParsedSmall (Faulty r) = Small (Err r)
 
-abbrev ParsedFew : ℕ → Parsed → Type 0
+-- or is at most n
+abbrev pub ParsedFew : ℕ → Parsed → Type 0
 ParsedFew n (Sheet style rules cs ps fs) = Unit
 ParsedFew n (Faulty r) = r.item ≤ n
 
@@ -152,10 +154,13 @@ small : (p : Parsed) → ParsedFew 200000 p → ParsedSmall p
 small (Sheet style rules cs ps fs) h = tt
 small (Faulty r) h = omega arith
 
-pub parse_small : (most x y z : ℕ) (text : List ℕ) → ParsedSmall (parse most x y z text)
+pub parse_few : (most x y z : ℕ) (text : List ℕ) → ParsedFew 200000 (parse most x y z text)
 unfolding parse
-parse_small most x y z text = small (headed x y z (read_head most text)) (go (read_head most text) (head_few most text))
+parse_few most x y z text = go (read_head most text) (head_few most text)
   where
     go : (q : Head) → HeadFew q → ParsedFew 200000 (headed x y z q)
     go (head style rules s line) h = lists_few x y z style rules s line h
     go (no_head r) h = omega arith
+
+pub parse_small : (most x y z : ℕ) (text : List ℕ) → ParsedSmall (parse most x y z text)
+parse_small most x y z text = small (parse most x y z text) (parse_few most x y z text)

@@ -10,7 +10,7 @@ use lines::write::{line_length, write_line};
 use lists::Section;
 
 // How many bytes the lines before the lists take.
-fn head_length(style: Style, rules: u64) -> usize
+pub fn head_length(style: Style, rules: u64) -> usize
     ensures { result ≡ length (head_text style rules) }
 {
     match style {
@@ -20,7 +20,7 @@ fn head_length(style: Style, rules: u64) -> usize
     }
 }
 
-fn write_head(out: &mut [u8], style: Style, rules: u64) -> usize
+pub fn write_head(out: &mut [u8], style: Style, rules: u64) -> usize
     requires { length (head_text style rules) ≤ length out.old }
     ensures { Wrote (head_text style rules) out.old out.new result }
 {

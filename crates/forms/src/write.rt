@@ -31,7 +31,7 @@ fn write_field(out: &mut [u8], field: Field, value: i64) -> usize
 }
 
 // Writes one record: the first of these numbers.
-fn write_record(out: &mut [u8], form: Form, numbers: &[i64]) -> usize
+pub fn write_record(out: &mut [u8], form: Form, numbers: &[i64]) -> usize
     requires numbers { length form.fields.now ≤ length numbers.now }
     requires room { length (write_fields (fields_of form.fields.now) numbers.now) ≤ length out.old }
     ensures { Wrote (write_fields (fields_of form.fields.now) numbers.now) out.old out.new result }
@@ -67,7 +67,7 @@ fn field_length(field: Field, value: i64) -> usize
     field.0.len() + usize::from(value < 0) + digit_count(value.unsigned_abs()) + 1
 }
 
-fn record_length(form: Form, numbers: &[i64]) -> usize
+pub fn record_length(form: Form, numbers: &[i64]) -> usize
     requires { length form.fields.now ≤ length numbers.now }
     ensures { result ≡ min (length (write_fields (fields_of form.fields.now) numbers.now)) greatest }
 {
