@@ -36,10 +36,13 @@ fn advice(refusal: &JoinRefusal) -> String {
 
 fn main() -> Result<(), Box<dyn Error>> {
     let named: Vec<PathBuf> = env::args_os().skip(1).map(PathBuf::from).collect();
-    let [first, second] = match named.try_into() {
-        Ok(both) => both,
-        Err(none) if none.is_empty() => lesson(),
-        Err(_) => return Err("usage: halves FIRST SECOND".into()),
+    let both = if named.is_empty() {
+        lesson().to_vec()
+    } else {
+        named
+    };
+    let [first, second] = &both[..] else {
+        return Err("usage: halves FIRST SECOND".into());
     };
     match join(&fs::read(first)?, &fs::read(second)?) {
         Ok(sheet) => io::stdout().write_all(&sheet)?,
