@@ -8,7 +8,7 @@ use checks::Joins;
 use checks::runs::{self, Seeds};
 use paper::join::Join;
 use probe::sheets::join;
-use scenes::limits::LAST_RULES;
+use scenes::limits::{FRONTIER, FRONTIERS, LAST_RULES};
 use scenes::random::Random;
 use scenes::sheets::drawn::{self, Drawn};
 use scenes::sheets::edits;
@@ -80,12 +80,8 @@ fn strangers(seed: u64, random: &mut Random) -> [Drawn; 2] {
     if !random.once_in(12) {
         second.rules = first.rules;
     }
-    let last = first.scene.components.iter().step_by(8).max();
-    if !random.once_in(3) && last.is_none_or(|it| *it < 1 << 20) {
-        let ids = second.scene.components.iter().step_by(8);
-        if ids.max().is_none_or(|it| *it < 1 << 20) {
-            second.scene = renamed(&second.scene, 1 << 20);
-        }
+    if !random.once_in(3) {
+        second.scene = renamed(&second.scene, &first.scene);
     }
     second.text = write_form(second.form, second.rules, &second.scene);
     [first, second]
@@ -182,9 +178,10 @@ fn with_slices_of_every_length() {
         let random = &mut Random::new(seed);
         let case = format!("every length {seed}");
         let [first, second] = strangers(900_000 + seed, random);
-        let texts = match random.below(3) {
+        let texts = match random.below(4) {
             0 => [first.text, second.text],
             1 => [damaged(&first, random), damaged(&second, random)],
+            2 => [first.text, damaged(&second, random)],
             _ => {
                 let mut halves = tables(&first.scene, first.rules, 2, random).into_iter();
                 [(); 2].map(|()| halves.next().unwrap_or_default())
@@ -249,11 +246,11 @@ fn joined_lists_at_their_limits() {
     joins.assert_came_up(&[(0, &[1])], "joined lists at their limits");
 }
 
-/// With itself: the sheet in the old form, its frontiers twice. With the empty plot,
+/// With itself: the sheet in the old form, its frontiers twice, or 1. With the empty plot,
 /// on either side: the sheet in the old form.
 #[test]
 fn with_itself_and_with_the_empty_plot() {
-    let mut joins = Joins::default();
+    let (mut joins, mut unfit) = (Joins::default(), 0_u64);
     for seed in 0..8_000 {
         let sheet = drawn::sheet(1_000_000 + seed);
         let random = &mut Random::new(seed);
@@ -265,16 +262,18 @@ fn with_itself_and_with_the_empty_plot() {
         };
         let other = write_form(form(random), sheet.rules, &sheet.scene);
         let joined = joins.pair([&sheet.text, &other], &case);
-        assert!(
-            joined == Some(write_form(Form::Old, sheet.rules, &twice)),
-            "{case}"
-        );
+        let is_whole = twice.frontiers.len() <= FRONTIERS * FRONTIER;
+        let wanted = is_whole.then(|| write_form(Form::Old, sheet.rules, &twice));
+        assert!(joined == wanted, "{case}");
+        unfit += u64::from(!is_whole);
         let empty = write_form(form(random), sheet.rules, &Scene::default());
         for texts in [[&sheet.text[..], &empty], [&empty[..], &sheet.text]] {
             assert!(joins.pair(texts, &case).as_ref() == Some(&own), "{case}");
         }
     }
-    joins.assert_came_up(&[(0, &[2])], "with itself, with the empty plot");
+    println!("with itself: {unfit} have more than half the frontiers of a plot");
+    assert!(unfit < 1_000);
+    joins.assert_came_up(&[(0, &[1, 2])], "with itself, with the empty plot");
 }
 
 /// Slices that are enough, and no more said than whether they join.
@@ -295,7 +294,7 @@ fn joined(first: &[u8], second: &[u8]) -> Option<Vec<u8>> {
 /// frontiers the two may change places.
 #[test]
 fn three_in_a_row_and_in_either_order() {
-    let (mut whole, mut none) = (0_u64, 0_u64);
+    let [mut whole, mut none, mut turned] = [0_u64; 3];
     for seed in 0..8_000 {
         let random = &mut Random::new(seed);
         let Drawn {
@@ -314,16 +313,15 @@ fn three_in_a_row_and_in_either_order() {
         assert!(left == right, "three tables {seed}");
         whole += u64::from(left.is_some());
         none += u64::from(left.is_none());
-        if scene.frontiers.is_empty() && left.is_some() {
-            let turned = joined(b, a).and_then(|it| joined(c, &it));
-            let has_none = left
-                .as_ref()
-                .is_some_and(|it| it.ends_with(b"\nfrontiers=0\n"));
-            assert!(turned == left || !has_none, "three tables turned {seed}");
+        let has_none = |it: &Vec<u8>| it.ends_with(b"\nfrontiers=0\n");
+        if left.as_ref().is_some_and(has_none) {
+            let other = joined(b, a).and_then(|it| joined(c, &it));
+            assert!(other == left, "three tables turned {seed}");
+            turned += 1;
         }
     }
-    println!("three tables: {whole} joined either way, {none} not");
-    assert!(whole > 4_000 && none > 1_000);
+    println!("three tables: {whole} joined either way, {none} not; {turned} turned round");
+    assert!(whole > 4_000 && none > 1_000 && turned > 1_000);
 }
 
 /// Two sheets of any lists.
@@ -351,13 +349,7 @@ fn on_profiles_one_after_the_other() {
     runs::on_profiles(seeds, |scene, seed, case| {
         let random = &mut Random::new(seed);
         let second = if random.once_in(2) {
-            let least = |id: &&i64| **id < 1 << 31;
-            let fits = scene.components.iter().step_by(8).all(|id| least(&id));
-            if fits {
-                renamed(scene, 1 << 31)
-            } else {
-                scene.clone()
-            }
+            renamed(scene, &before)
         } else {
             scene.clone()
         };

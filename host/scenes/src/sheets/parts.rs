@@ -1,10 +1,11 @@
 //! A plot built at several tables: parts that share some of it, and together have
 //! all.
 
+use std::collections::{BTreeMap, BTreeSet};
 use std::ops::Range;
 
 use crate::Scene;
-use crate::limits::{COMPONENT, CONNECTION, FRONTIER, LAST_ID};
+use crate::limits::{COMPONENT, CONNECTION, FRONTIER};
 use crate::random::Random;
 
 /// The tables at which a record stands.
@@ -95,15 +96,23 @@ pub fn parts(scene: &Scene, tables: usize, random: &mut Random) -> Vec<Scene> {
     parts.collect()
 }
 
-/// The scene with other ids, none of them below a number: in the same order, as far as
-/// there is room for them.
+/// The places of ids in a scene's lists.
+fn ids(scene: &mut Scene) -> impl Iterator<Item = &mut i64> {
+    let own = scene.components.iter_mut().step_by(COMPONENT);
+    let ends = scene.connections.chunks_mut(CONNECTION);
+    own.chain(ends.flat_map(|record| record.iter_mut().take(2)))
+}
+
+/// The scene with ids that the other has not, in the same order.
 #[must_use]
-pub fn renamed(scene: &Scene, from: i64) -> Scene {
-    let mut renamed = scene.clone();
-    let ids = renamed.components.iter_mut().step_by(COMPONENT);
-    let ends = renamed.connections.chunks_mut(CONNECTION);
-    for id in ids.chain(ends.flat_map(|it| it.iter_mut().take(2))) {
-        *id = (*id + from).min(LAST_ID);
+pub fn renamed(scene: &Scene, other: &Scene) -> Scene {
+    let [mut renamed, mut other] = [scene.clone(), other.clone()];
+    let taken: BTreeSet<i64> = ids(&mut other).map(|id| *id).collect();
+    let old: BTreeSet<i64> = ids(&mut renamed).map(|id| *id).collect();
+    let free = (0..).filter(|id| !taken.contains(id));
+    let new: BTreeMap<i64, i64> = old.into_iter().zip(free).collect();
+    for id in ids(&mut renamed) {
+        *id = new.get(id).copied().unwrap_or(*id);
     }
     renamed
 }
