@@ -2,7 +2,7 @@
 // and the numbers of the groups.
 ghost use Rattle.std.specs.Prelude.{◌≡◌, ◌≢◌, ℕ, ◌<◌, ◌≤◌, length, slice_index, get_or};
 ghost use Rattle.lists.specs.Limits.{component_limit};
-ghost use Rattle.circuit.specs.Forest.{root, singletons, unite, IsForest, Found};
+ghost use Rattle.circuit.specs.Forest.{root, singletons, unite, unite_roots, IsForest, Found};
 ghost use Rattle.circuit.specs.Groups.{roots_below, groups_of, RootNumbers, RootsWithin};
 
 use lists::COMPONENTS;
@@ -76,23 +76,23 @@ impl UnionFind {
     }
 
     // The root of v.
-    fn root(&mut self, v: usize) -> usize
+    pub(crate) fn root(&mut self, v: usize) -> usize
         requires { v < component_limit }
         ensures below { result < component_limit }
         ensures root { result ≡ root self.old v }
+        ensures fixed { root self.old result ≡ result }
         ensures kept { self.new ≡ self.old }
     {
         find(&mut self.parents, &self.ranks, v)
     }
 
-    // Joins the group of left, a connection's source, and that of right, its sink: the root of lower rank goes under the
-    // other. At equal rank the right root goes under the left one, whose rank grows.
-    pub(crate) fn union(&mut self, left: usize, right: usize)
-        requires { (left < component_limit) × (right < component_limit) }
-        ensures { self.new ≡ unite self.old left right }
+    // Joins the groups of two roots: the root of lower rank goes under the other. At equal rank the right root goes under the left one,
+    // whose rank grows.
+    pub(crate) fn union_roots(&mut self, l: usize, r: usize)
+        requires below { (l < component_limit) × (r < component_limit) }
+        requires roots { (root self.old l ≡ l) × (root self.old r ≡ r) }
+        ensures { self.new ≡ unite_roots self.old l r }
     {
-        let l = self.root(left);
-        let r = self.root(right);
         if l == r {
             return;
         }
@@ -106,6 +106,16 @@ impl UnionFind {
                 self.ranks[l] = low + 1;
             }
         }
+    }
+
+    // Joins the group of left, a connection's source, and that of right, its sink.
+    pub(crate) fn union(&mut self, left: usize, right: usize)
+        requires { (left < component_limit) × (right < component_limit) }
+        ensures { self.new ≡ unite self.old left right }
+    {
+        let l = self.root(left);
+        let r = self.root(right);
+        self.union_roots(l, r);
     }
 
     // Numbers the roots among the first places by rising place, and answers how many there are.
