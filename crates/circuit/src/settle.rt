@@ -77,7 +77,8 @@ fn join_all(
     requires places { IsPlacesOfIds keys.now × (length keys.now ≤ component_limit) }
     requires start { (nets.old ≡ singletons) × (fragments.old ≡ singletons) }
     ensures nets { (cs : List ℤ) → PlacesOfIds cs keys.now → nets.new ≡ forest_of cs connections.entry.numbers.now net_kinds }
-    ensures fragments { (cs : List ℤ) → PlacesOfIds cs keys.now → fragments.new ≡ forest_of cs connections.entry.numbers.now fragment_kinds }
+    ensures fragments { (cs : List ℤ) → PlacesOfIds cs keys.now →
+        fragments.new ≡ forest_of cs connections.entry.numbers.now fragment_kinds }
 {
     let mut hints = [[0u16; 2]; SLOTS];
     hint_ids(keys, &mut hints);
