@@ -9,8 +9,9 @@ ghost use Rattle.circuit.specs.Topology.{GroupedBy, join_of, forest_of, net_kind
 ghost use Rattle.circuit.specs.Within.{RootsShared};
 
 use super::Counts;
+use super::ends::{end_place, hint_ends};
 use super::forest::UnionFind;
-use lists::hints::{SLOTS, hint_ids, place_near};
+use lists::hints::SLOTS;
 use lists::kinds::ConnectionKind;
 use lists::views::ConnectionList;
 
@@ -81,10 +82,10 @@ fn join_all(
         fragments.new ≡ forest_of cs connections.entry.numbers.now fragment_kinds }
 {
     let mut hints = [[0u16; 2]; SLOTS];
-    hint_ids(keys, &mut hints);
+    hint_ends(keys, &mut hints);
     for k in 0..connections.count() {
-        let source = place_near(keys, &hints, connections.source(k));
-        let sink = place_near(keys, &hints, connections.sink(k));
+        let source = end_place(keys, &hints, connections.source(k));
+        let sink = end_place(keys, &hints, connections.sink(k));
         join_both(connections.kind(k), source, sink, nets, fragments);
     }
 }

@@ -9,7 +9,6 @@ use Rattle.lists.specs.Limits.{component_limit}
 use lib.IntN.{ℤ}
 use Rattle.lists.specs.Records.{component_count}
 use Rattle.lists.proofs.Table.{place_below_lem}
-use Rattle.lists.proofs.Places.{places_table}
 use Rattle.circuit.specs.Forest.{unite_all}
 use Rattle.circuit.specs.Topology.{joins}
 use Rattle.circuit.proofs.Settling.{unite_then, nets_shared}
@@ -22,15 +21,13 @@ loop-k-init c = record { nets = λ cs p. c.requires.start.0; fragments = λ cs p
 pub join_both-requires-clause-source : goal.join_both-requires-clause-source
 join_both-requires-clause-source c p e =
     let cs : List ℤ = c.requires.places.0.0 in
-    let t = places_table c.requires.places.0.1 in
-    let below : p < component_count cs = place_below_lem cs _ p (sym (c.place_near-source.ensures cs t) ∙ e) in
+    let below : p < component_count cs = place_below_lem cs _ p (sym (c.end_place-source.ensures cs c.requires.places.0.1) ∙ e) in
     omega (arith, below, c.requires.places.0.1.long, c.requires.places.1)
 
 pub join_both-requires-clause-sink : goal.join_both-requires-clause-sink
 join_both-requires-clause-sink c p e =
     let cs : List ℤ = c.requires.places.0.0 in
-    let t = places_table c.requires.places.0.1 in
-    let below : p < component_count cs = place_below_lem cs _ p (sym (c.place_near-sink.ensures cs t) ∙ e) in
+    let below : p < component_count cs = place_below_lem cs _ p (sym (c.end_place-sink.ensures cs c.requires.places.0.1) ∙ e) in
     omega (arith, below, c.requires.places.0.1.long, c.requires.places.1)
 
 pub join_both-requires-clause-shared : goal.join_both-requires-clause-shared
@@ -42,6 +39,6 @@ join_both-requires-clause-shared c =
 pub loop-k-preserved : goal.loop-k-preserved
 unfolding joins
 loop-k-preserved c = record {
-  nets = λ cs p. let t = places_table p in rw (add-one, unite_then, ← c.loop-k.invariant.nets cs p) (rw (c.kind.ensures, c.place_near-source.ensures cs t, c.source.ensures.0, c.place_near-sink.ensures cs t, c.sink.ensures.0) at c.join_both.ensures.nets);
-  fragments = λ cs p. let t = places_table p in rw (add-one, unite_then, ← c.loop-k.invariant.fragments cs p) (rw (c.kind.ensures, c.place_near-source.ensures cs t, c.source.ensures.0, c.place_near-sink.ensures cs t, c.sink.ensures.0) at c.join_both.ensures.fragments);
+  nets = λ cs p. rw (add-one, unite_then, ← c.loop-k.invariant.nets cs p) (rw (c.kind.ensures, c.end_place-source.ensures cs p, c.source.ensures.0, c.end_place-sink.ensures cs p, c.sink.ensures.0) at c.join_both.ensures.nets);
+  fragments = λ cs p. rw (add-one, unite_then, ← c.loop-k.invariant.fragments cs p) (rw (c.kind.ensures, c.end_place-source.ensures cs p, c.source.ensures.0, c.end_place-sink.ensures cs p, c.sink.ensures.0) at c.join_both.ensures.fragments);
 }
