@@ -1,7 +1,7 @@
 -- Union by rank on two roots l and r, case by case: what `unite_roots` is, and that the arrays' stores stand for it.
 --     rank_fits       a rank in the array is at most rank_limit
 --     unite_same, unite_left_lower, unite_right_lower, unite_level   the definition's four cases
---     one_root        one root: nothing changes
+--     one_root        two places of one root: nothing changes
 --     left_lower      the left root goes under the right one
 --     right_lower     the right root goes under the left one
 --     level           so it does at equal rank, and the left root's rank grows
@@ -19,7 +19,7 @@ use lib.ListN.{get_or, set}
 use lib.Seq.{set-get_or}
 use borrow.Author.Tests.{eq-eqb, ne_eqb, lt-ltb, le-ltb}
 use Rattle.lists.specs.Limits.{component_limit, rank_limit}
-use Rattle.circuit.specs.Forest.{Forest, root, rank, count, link, unite_roots, unite, unite_all, WellFormed, Represents}
+use Rattle.circuit.specs.Forest.{Forest, root, rank, count, link, unite_roots, unite, unite_all, Rooted, WellFormed, Represents}
 use Rattle.circuit.specs.Connected.{PlacePairs}
 use Rattle.circuit.proofs.Lists.{same_or_not, three_ways}
 use Rattle.circuit.proofs.Link.{rank-≤, link_represents}
@@ -65,41 +65,25 @@ module _ (parents ranks : List ℕ) (f : Forest) (rep : Represents parents ranks
       let kept : set ranks winner (rank f winner) ≡ ranks = ap (λ (x : List ℕ). set ranks winner (get_or x winner 0)) (sym rep.same_ranks) ∙ set-get_or ranks winner 0 in
       rw kept at (link_represents f rep.forest loser winner (rank f winner) hl hw el ew n lt (le_refl (rank f winner)) (omega (arith, heavy winner hw ew)) parents ranks rep)
 
-  -- l is the root of left, and r that of right
-  module _ (left right l r : ℕ) (left_below : left < component_limit) (right-below : right < component_limit) (l-found : l ≡ root f left) (r-found : r ≡ root f right) where
-    l_below : l < component_limit
-    l_below = rw l-found (rep.forest.rooted left left_below).below
-
-    r_below : r < component_limit
-    r_below = rw r-found (rep.forest.rooted right right-below).below
-
-    l_root : root f l ≡ l
-    l_root = rw l-found (rep.forest.rooted left left_below).fixed
-
-    r_root : root f r ≡ r
-    r_root = rw r-found (rep.forest.rooted right right-below).fixed
-
-    at_roots : unite f left right ≡ unite_roots f l r
-    unfolding unite
-    at_roots = rw (l-found, r-found)
-
-    pub left_lower : l ≢ r → get_or ranks l 0 < get_or ranks r 0 → Represents (set parents l r) ranks (unite f left right)
+  -- of two roots
+  module _ (l r : ℕ) (l_below : l < component_limit) (r_below : r < component_limit) (l_root : root f l ≡ l) (r_root : root f r ≡ r) where
+    pub left_lower : l ≢ r → get_or ranks l 0 < get_or ranks r 0 → Represents (set parents l r) ranks (unite_roots f l r)
     left_lower n lt =
         let lt' : rank f l < rank f r = rw rep.same_ranks at lt in
-        rw (at_roots, unite_left_lower f l r n lt') (link_lower l r l_below r_below l_root r_root n lt')
+        rw (unite_left_lower f l r n lt') (link_lower l r l_below r_below l_root r_root n lt')
 
-    pub right_lower : l ≢ r → get_or ranks r 0 < get_or ranks l 0 → Represents (set parents r l) ranks (unite f left right)
+    pub right_lower : l ≢ r → get_or ranks r 0 < get_or ranks l 0 → Represents (set parents r l) ranks (unite_roots f l r)
     right_lower n lt =
         let lt' : rank f r < rank f l = rw rep.same_ranks at lt in
-        rw (at_roots, unite_right_lower f l r n lt') (link_lower r l r_below l_below r_root l_root (λ e. n (sym e)) lt')
+        rw (unite_right_lower f l r n lt') (link_lower r l r_below l_below r_root l_root (λ e. n (sym e)) lt')
 
     pub level : l ≢ r → get_or ranks l 0 ≡ get_or ranks r 0
-        → Represents (set parents r l) (set ranks l (get_or ranks l 0 + 1)) (unite f left right)
+        → Represents (set parents r l) (set ranks l (get_or ranks l 0 + 1)) (unite_roots f l r)
     level n e =
         let e' : rank f l ≡ rank f r = rw rep.same_ranks at e in
         let kept : get_or ranks l 0 ≡ rank f l = ap (λ (x : List ℕ). get_or x l 0) rep.same_ranks in
         let weight : 2 ^ (rank f l + 1) ≤ count l f.roots + count r f.roots = two_trees (rank f l) (heavy l l_below l_root) (rw e' (heavy r r_below r_root)) in
-        rw (at_roots, unite_level f l r n e', kept)
+        rw (unite_level f l r n e', kept)
         (link_represents f rep.forest r l (rank f l + 1) r_below l_below r_root l_root (λ q. n (sym q)) (omega arith) (omega arith) weight parents ranks rep)
 
 -- the roots themselves are parents that stand for the forest
@@ -113,18 +97,29 @@ own_represents f wf =
     }
 
 pub unite_well_formed : (f : Forest) → WellFormed f → (left right : ℕ) → left < component_limit → right < component_limit → WellFormed (unite f left right)
-unite_well_formed f wf left right hl hr = go (same_or_not (root f left) (root f right)) (three_ways (rank f (root f left)) (rank f (root f right)))
+unfolding unite
+unite_well_formed f wf left right hl hr = go (same_or_not l r) (three_ways (rank f l) (rank f r))
   where
     rep : Represents f.roots f.ranks f
     rep = own_represents f wf
 
-    go : (root f left ≡ root f right) ⊎ (root f left ≢ root f right)
-        → (rank f (root f left) < rank f (root f right)) ⊎ ((rank f (root f left) ≡ rank f (root f right)) ⊎ (rank f (root f right) < rank f (root f left)))
-        → WellFormed (unite f left right)
-    go (inl e) way = subst WellFormed (one_root f left right e) wf
-    go (inr n) (inl lt) = (left_lower _ _ f rep left right _ _ hl hr refl refl n lt).forest
-    go (inr n) (inr (inl e)) = (level _ _ f rep left right _ _ hl hr refl refl n e).forest
-    go (inr n) (inr (inr lt)) = (right_lower _ _ f rep left right _ _ hl hr refl refl n lt).forest
+    l : ℕ
+    l = root f left
+
+    r : ℕ
+    r = root f right
+
+    at : Rooted f left l
+    at = wf.rooted left hl
+
+    at' : Rooted f right r
+    at' = wf.rooted right hr
+
+    go : (l ≡ r) ⊎ (l ≢ r) → (rank f l < rank f r) ⊎ ((rank f l ≡ rank f r) ⊎ (rank f r < rank f l)) → WellFormed (unite_roots f l r)
+    go (inl e) way = subst WellFormed (sym (unite_same f l r e)) wf
+    go (inr n) (inl lt) = (left_lower _ _ f rep l r at.below at'.below at.fixed at'.fixed n lt).forest
+    go (inr n) (inr (inl e)) = (level _ _ f rep l r at.below at'.below at.fixed at'.fixed n e).forest
+    go (inr n) (inr (inr lt)) = (right_lower _ _ f rep l r at.below at'.below at.fixed at'.fixed n lt).forest
 
 pub united_well_formed : (pairs : List (ℕ × ℕ)) (f : Forest) → WellFormed f → PlacePairs pairs → WellFormed (unite_all f pairs)
 unfolding unite_all

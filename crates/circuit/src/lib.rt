@@ -3,6 +3,7 @@
 // Lent slices stay parameters: a struct of `&mut` fields would owe a ghost name for what each is left as.
 #![tactic(auto)]
 
+mod ends;
 mod forest;
 pub mod settle;
 

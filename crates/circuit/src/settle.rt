@@ -4,12 +4,14 @@ ghost use Rattle.std.specs.Prelude.{Option, Some};
 ghost use Rattle.std.specs.Prelude.{◌≡◌, cond, ℕ, List, ◌≤◌, ◌<◌, leb, length, ℤ};
 ghost use Rattle.lists.specs.Limits.{component_limit};
 ghost use Rattle.lists.specs.Places.{PlacesOfIds, IsPlacesOfIds};
-ghost use Rattle.circuit.specs.Forest.{unite_all};
-ghost use Rattle.circuit.specs.Topology.{GroupedBy, join_of, joins_of, net_kinds, fragment_kinds};
+ghost use Rattle.circuit.specs.Forest.{singletons, unite_all};
+ghost use Rattle.circuit.specs.Topology.{GroupedBy, join_of, forest_of, net_kinds, fragment_kinds};
+ghost use Rattle.circuit.specs.Within.{RootsShared};
 
 use super::Counts;
+use super::ends::{end_place, hint_ends};
 use super::forest::UnionFind;
-use lists::hints::{SLOTS, hint_ids, place_near};
+use lists::hints::SLOTS;
 use lists::kinds::ConnectionKind;
 use lists::views::ConnectionList;
 
@@ -26,16 +28,26 @@ fn sink_or_source(counts: bool, source: usize, sink: usize) -> usize
     if counts { sink } else { source }
 }
 
-// Joins two places, where their connection counts.
-fn join_one(counts: bool, source: usize, sink: usize, forest: &mut UnionFind)
-    requires { (source < component_limit) × (sink < component_limit) }
-    ensures { forest.new ≡ unite_all forest.old (join_of counts (Some source) (Some sink)) }
+// Joins the ends of a connection where its kind counts, in the forest of nets and in that of fragments. Ends of one net are of one
+// fragment already.
+fn join_ends(kind: u64, source: usize, sink: usize, nets: &mut UnionFind, fragments: &mut UnionFind)
+    requires places { (source < component_limit) × (sink < component_limit) }
+    requires shared { RootsShared nets.old fragments.old }
+    ensures nets { nets.new ≡ unite_all nets.old (join_of (leb kind net_kinds) (Some source) (Some sink)) }
+    ensures fragments { fragments.new ≡ unite_all fragments.old (join_of (leb kind fragment_kinds) (Some source) (Some sink)) }
 {
-    let other = sink_or_source(counts, source, sink);
-    forest.union(source, other);
+    let other = sink_or_source(kind <= FRAGMENT_KINDS, source, sink);
+    let l = nets.root(source);
+    let r = nets.root(other);
+    if l != r {
+        if kind <= NET_KINDS {
+            nets.union_roots(l, r);
+        }
+        fragments.union(source, other);
+    }
 }
 
-// Joins what a connection joins, in the forest of nets and in that of fragments.
+// Joins what a connection joins: nothing where an end is no component.
 fn join_both(
     kind: u64,
     source: Option<usize>,
@@ -45,13 +57,13 @@ fn join_both(
 )
     requires source { (p : ℕ) → source ≡ Some p → p < component_limit }
     requires sink { (p : ℕ) → sink ≡ Some p → p < component_limit }
+    requires shared { RootsShared nets.old fragments.old }
     ensures nets { nets.new ≡ unite_all nets.old (join_of (leb kind net_kinds) source sink) }
     ensures fragments { fragments.new ≡ unite_all fragments.old (join_of (leb kind fragment_kinds) source sink) }
 {
     if let Some(a) = source {
         if let Some(b) = sink {
-            join_one(kind <= NET_KINDS, a, b, nets);
-            join_one(kind <= FRAGMENT_KINDS, a, b, fragments);
+            join_ends(kind, a, b, nets, fragments);
         }
     }
 }
@@ -64,16 +76,16 @@ fn join_all(
     fragments: &mut UnionFind,
 )
     requires places { IsPlacesOfIds keys.now × (length keys.now ≤ component_limit) }
-    ensures nets { (cs : List ℤ) → PlacesOfIds cs keys.now →
-        nets.new ≡ unite_all nets.old (joins_of cs connections.entry.numbers.now net_kinds) }
+    requires start { (nets.old ≡ singletons) × (fragments.old ≡ singletons) }
+    ensures nets { (cs : List ℤ) → PlacesOfIds cs keys.now → nets.new ≡ forest_of cs connections.entry.numbers.now net_kinds }
     ensures fragments { (cs : List ℤ) → PlacesOfIds cs keys.now →
-        fragments.new ≡ unite_all fragments.old (joins_of cs connections.entry.numbers.now fragment_kinds) }
+        fragments.new ≡ forest_of cs connections.entry.numbers.now fragment_kinds }
 {
     let mut hints = [[0u16; 2]; SLOTS];
-    hint_ids(keys, &mut hints);
+    hint_ends(keys, &mut hints);
     for k in 0..connections.count() {
-        let source = place_near(keys, &hints, connections.source(k));
-        let sink = place_near(keys, &hints, connections.sink(k));
+        let source = end_place(keys, &hints, connections.source(k));
+        let sink = end_place(keys, &hints, connections.sink(k));
         join_both(connections.kind(k), source, sink, nets, fragments);
     }
 }

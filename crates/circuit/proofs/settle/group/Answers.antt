@@ -19,7 +19,7 @@ number_groups-requires-clause-inside c v h =
     let n = length c.args.keys.now in
     let front = length-take-le n c.args.nets.now c.requires.keys_len_bound.1.0 in
     let stays = roots_stay (component_count cs) (omega (arith, p.long, c.requires.keys_len_bound.0)) _ (joins_below cs c.args.connections.numbers.now net_kinds (connection_count c.args.connections.numbers.now)) in
-    rw (front, p.long, c.join_all.ensures.nets cs p, c.new-net_forest.ensures) (stays.inside v (rw (front, p.long) at h))
+    rw (front, p.long, c.join_all.ensures.nets cs p) (stays.inside v (rw (front, p.long) at h))
 
 pub number_groups-requires-2-clause-inside : goal.number_groups-requires-2-clause-inside
 number_groups-requires-2-clause-inside c v h =
@@ -28,15 +28,15 @@ number_groups-requires-2-clause-inside c v h =
     let n = length c.args.keys.now in
     let front = length-take-le n c.args.fragments.now c.requires.keys_len_bound.1.1 in
     let stays = roots_stay (component_count cs) (omega (arith, p.long, c.requires.keys_len_bound.0)) _ (joins_below cs c.args.connections.numbers.now fragment_kinds (connection_count c.args.connections.numbers.now)) in
-    rw (front, p.long, c.join_all.ensures.fragments cs p, c.new-fragment_forest.ensures) (stays.inside v (rw (front, p.long) at h))
+    rw (front, p.long, c.join_all.ensures.fragments cs p) (stays.inside v (rw (front, p.long) at h))
 
 pub returns : goal.returns
 returns c cs p =
     let ps = c.args.connections.numbers.now in
     let nets = c.number_groups in
     let fragments = c.number_groups-2 in
-    let net_forest : c.join_all.new.nets ≡ forest_of cs ps net_kinds = rw c.new-net_forest.ensures at c.join_all.ensures.nets cs p in
-    let fragment_forest : c.join_all.new.fragments ≡ forest_of cs ps fragment_kinds = rw c.new-fragment_forest.ensures at c.join_all.ensures.fragments cs p in
+    let net_forest : c.join_all.new.nets ≡ forest_of cs ps net_kinds = c.join_all.ensures.nets cs p in
+    let fragment_forest : c.join_all.new.fragments ≡ forest_of cs ps fragment_kinds = c.join_all.ensures.fragments cs p in
     let net_long : length nets.new.out ≡ component_count cs = nets.auto.out ∙ length-take-le (length c.args.keys.now) c.args.nets.now c.requires.keys_len_bound.1.0 ∙ p.long in
     let fragment_long : length fragments.new.out ≡ component_count cs = fragments.auto.out ∙ length-take-le (length c.args.keys.now) c.args.fragments.now c.requires.keys_len_bound.1.1 ∙ p.long in
     record {

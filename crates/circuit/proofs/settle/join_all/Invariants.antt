@@ -4,11 +4,12 @@ use mathlib.Core.Path.{◌≡◌}
 use mathlib.Core.List.{List}
 use lib.IntN.{ℤ}
 use Rattle.lists.specs.Places.{PlacesOfIds}
-use Rattle.circuit.specs.Forest.{unite_all}
+use Rattle.circuit.specs.Forest.{singletons, unite_all}
 use Rattle.circuit.specs.Topology.{joins, net_kinds, fragment_kinds}
 use Rattle.circuit.proofs.settle.join_all.Given as goal
 
 abbrev pub invariant-loop-k : goal.invariant-loop-k
-invariant-loop-k l =
-    ((cs : List ℤ) → PlacesOfIds cs l.keys → l.nets ≡ unite_all l.initial.nets (joins cs l.connections.numbers.now net_kinds l.k))
-    × ((cs : List ℤ) → PlacesOfIds cs l.keys → l.fragments ≡ unite_all l.initial.fragments (joins cs l.connections.numbers.now fragment_kinds l.k))
+invariant-loop-k l = record {
+  nets : (cs : List ℤ) → PlacesOfIds cs l.keys → l.nets ≡ unite_all singletons (joins cs l.connections.numbers.now net_kinds l.k);
+  fragments : (cs : List ℤ) → PlacesOfIds cs l.keys → l.fragments ≡ unite_all singletons (joins cs l.connections.numbers.now fragment_kinds l.k);
+}

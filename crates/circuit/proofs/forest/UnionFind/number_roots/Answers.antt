@@ -17,6 +17,9 @@ pub loop-v-init : goal.loop-v-init
 unfolding roots_below
 loop-v-init c = record { counted = refl; numbered = below_none _ }
 
+pub overflow_cast-number : goal.overflow_cast-number
+overflow_cast-number c = omega (arith, c.loop-v.invariant.counted, roots_most c.args.self.now c.loop-v.v)
+
 pub overflow_add-count : goal.overflow_add-count
 overflow_add-count c = omega (arith, c.loop-v.invariant.counted, roots_most c.args.self.now c.loop-v.v)
 
