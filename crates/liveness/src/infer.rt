@@ -1,5 +1,5 @@
 // Which wires are inferred inputs: the regions fed from outside, then a test for each component.
-ghost use Rattle.std.specs.Prelude.{◌≡◌, ◌×◌, List, ◌≤◌, length, ℤ};
+ghost use Rattle.std.specs.Prelude.{◌≡◌, List, ◌≤◌, length, ℤ};
 ghost use Rattle.lists.specs.Limits.{component_limit};
 ghost use Rattle.lists.specs.Records.{component_count};
 ghost use Rattle.signals.specs.Signals.{signals};
