@@ -1,122 +1,95 @@
--- `liveness::alive::flag_alive` meets its contract: the regions with a drive source, and those with an inferred input too, carried along the
--- pairs of regions.
--- Assumes nothing.
-use mathlib.Core.Path.{◌≡◌, sym, ap, subst, ◌∙◌}
-use mathlib.Core.Bool.{Bool, ◌&&◌, ◌||◌}
-use mathlib.Core.List.{List}
-use Prim.Native.Nat.{ℕ, ◌≤◌}
-use native.Mathlib.Omega.{arith}
-use lib.Dec.{eqb}
-use lib.ListN.{length, get_or, take}
-use lib.Seq.{length-take-le}
-use lib.IntN.{ℤ}
-use Rattle.std.proofs.lemmas.List.{get_or-take}
+-- Answers for the goals that the search leaves: the regions with a drive source, and those with an inferred input too, carried along the
+-- edges.
+use Rattle.std.proofs.Common.{◌≡◌, ◌≤◌, ◌<◌, Bool, false, List, ℕ, ℤ, length, get_or, sym, ap, ◌∙◌, arith}
 use Rattle.lists.specs.Limits.{component_limit}
 use Rattle.lists.specs.Records.{component_count}
-use Rattle.lists.specs.First.{some}
-use Rattle.regions.specs.Graph.{marked}
-use Rattle.tables.specs.Pairs.{KeysBelow}
-use Rattle.regions.specs.Carry.{carry, Crossings}
+use Rattle.regions.specs.Graph.{at, marked}
+use Rattle.graph.specs.Rows.{edges_of}
+use Rattle.graph.specs.Carried.{Carried}
 use Rattle.signals.specs.Signals.{signals}
-use Rattle.signals.specs.Regions.{labels, region_of_place, holds_drive}
-use Rattle.signals.specs.Flags.{Flags, Indices, Numbers}
+use Rattle.signals.specs.Regions.{labels, holds_drive}
+use Rattle.signals.specs.Flags.{Flags, Indices}
 use Rattle.signals.proofs.Lent.{indices_same}
-use Rattle.signals.proofs.Within.{labels_count, labels_under, places_under}
-use Rattle.assessment.proofs.Reached.{drive_is, potential_is}
-use Rattle.liveness.proofs.Inferring.{SceneRegions, regions_of_lem, crossings_of}
+use Rattle.assessment.proofs.Reached.{Exactly, drive_is, potential_is}
+use Rattle.liveness.specs.Scene.{Scene, Prepared}
+use Rattle.liveness.proofs.Inferring.{labels_long, ends_long, graph, labels_small, regions_small}
 use Rattle.liveness.proofs.alive.flag_alive.Goals as goal
+use Rattle.liveness.proofs.alive.flag_alive.Goals.{Start}
 
--- ---- the regions of a scene
-module _ {cs ps : List ℤ} {forward labelled region_of : List ℕ} (r : SceneRegions cs ps forward labelled region_of) where
-  few : component_count cs ≤ component_limit
-  few = r.scene.components.few
+-- ---- a prepared scene
+few : (s : Start) → component_count s.args.plot.now.plot.components.now ≤ component_limit
+few s = s.args.plot.now.plot.accepted.scene.components.few
 
-  all : length labelled ≡ component_count cs
-  all = ap length r.labels_are ∙ labels_count cs ps r.scene.ends
+all : (s : Start) → length s.args.plot.now.labels.now ≡ component_count s.args.plot.now.plot.components.now
+all s = labels_long s.args.plot.now.plot.accepted.scene s.args.plot.now.prepared
 
-  labels_small : Indices (length labelled) component_limit labelled
-  labels_small =
-      subst (λ (l : List ℕ). Indices (length l) component_limit l) (sym r.labels_are) (labels_under cs ps r.scene.ends component_limit few)
+small : (s : Start) → Indices (length s.args.plot.now.labels.now) component_limit s.args.plot.now.labels.now
+small s = labels_small s.args.plot.now.plot.accepted.scene s.args.plot.now.prepared component_limit (few s)
 
-  -- the regions of the components, at the front of their array
-  abbrev regions : List ℕ
-  regions = take (length labelled) region_of
+module _ {cs ps : List ℤ} (scene : Scene cs ps) {ends next back_ends back labelled members region_of : List ℕ}
+    (p : Prepared cs ps ends next back_ends back labelled members region_of) where
+  -- marks of regions, carried along its edges
+  carried_by : {before after : List Bool} → Carried (length ends) (edges_of ends next) before after
+      → Exactly (component_count cs) (signals cs ps) (marked before) (marked after)
+  carried_by c = let e = rw (p.forward.rows.nodes, graph scene p) at c in record { exactly = e.exactly }
 
-  regions_lent : length regions ≡ component_count cs
-  regions_lent = length-take-le _ _ (omega (arith, all, r.regions_are.long)) ∙ all
-
-  regions_front : Numbers (component_count cs) (region_of_place cs ps) regions
-  regions_front = record {
-    long = omega (arith, regions_lent);
-    at = λ p h. get_or-take (length labelled) region_of p 0 (omega (arith, all)) ∙ r.regions_are.at p h;
-  }
-
-  regions_small : Indices (length regions) component_limit regions
-  regions_small =
-      subst (λ (n : ℕ). Indices n component_limit regions) (sym regions_lent) (places_under cs ps r.scene.ends component_limit few regions_front)
-
-  -- flags of the regions' marks, by the labels of the scene
-  by_labels : (mark : ℕ → Bool) {out : List Bool} → Flags (length labelled) (λ m. mark (get_or labelled m 0)) out
-      → Flags (component_count cs) (λ m. mark (get_or (labels cs ps) m 0)) out
-  by_labels mark f = record {
-    long = omega (arith, all, f.long);
-    at = λ m h. f.at m (omega (arith, all)) ∙ ap (λ (l : List ℕ). mark (get_or l m 0)) r.labels_are;
+  -- and spread over its nodes
+  spread_by : (marks : List Bool) {out : List Bool} → component_count cs ≤ length out
+      → ((m : ℕ) (d : Bool) → m < length labelled → get_or out m d ≡ get_or marks (get_or labelled m 0) d)
+      → Flags (component_count cs) (λ m. marked marks (at (labels cs ps) m)) out
+  spread_by marks room values = record {
+    long = room;
+    at = λ m h. values m false (omega (arith, labels_long scene p)) ∙ ap (λ (l : List ℕ). marked marks (at l m)) p.labels_are;
   }
 
 -- ---- the calls
-pub find_crossings-crossings-requires : goal.find_crossings-crossings-requires
-find_crossings-crossings-requires c =
-    let r = regions_of_lem c.args.plot.now.plot.accepted.scene c.args.plot.now.prepared in record {
-      rows = (r.rows, (r.few, r.few));
-      indices = labels_small r;
-    }
-
 pub possible_regions-requires-clause-indices : goal.possible_regions-requires-clause-indices
 possible_regions-requires-clause-indices c =
-    let r = regions_of_lem c.args.plot.now.plot.accepted.scene c.args.plot.now.prepared in
-    (regions_small r, omega (arith, regions_lent r, c.requires.inferred_room))
+    let p = c.args.plot.now in
+    (regions_small p.plot.accepted.scene p.prepared component_limit p.plot.accepted.scene.components.few, omega (arith, p.prepared.regions_long, c.requires.inferred_room))
 
-keys_as : {m n : ℕ} {keys : List ℕ} → m ≡ n → KeysBelow m keys → KeysBelow n keys
-keys_as e k = record { first = λ i h. omega (arith, e, k.first i h); second = λ i h. omega (arith, e, k.second i h) }
+pub by_region-requires-clause-nodes : goal.by_region-requires-clause-nodes
+by_region-requires-clause-nodes c =
+    let s = (goal.at.by_region-requires-clause-nodes c).Start in
+    (omega (arith, all s, few s), omega (arith, all s, few s))
 
-pub carry_marks-requires : goal.carry_marks-requires
-carry_marks-requires c =
-    let below = c.find_crossings-crossings.ensures.below in
-    let r = regions_of_lem c.args.plot.now.plot.accepted.scene c.args.plot.now.prepared in
-    let small = labels_small r in
-    let long-a = c.copy_from_slice.ensures.len in
-    let long-b = c.possible_regions.auto.possible in record {
-      keys_below = (keys_as (sym long-a) below, keys_as (sym long-b) below);
-      indices = (indices_same (sym long-a) small, omega (arith, c.requires.drive_room, all r));
-      indices_2 = (indices_same (sym long-b) small, omega (arith, c.requires.potential_room, all r));
-    }
+pub by_region-requires-clause-below : goal.by_region-requires-clause-below
+by_region-requires-clause-below c x h = (small (goal.at.by_region-requires-clause-below c).Start).below x h
+
+pub carry_marks-requires-clause-nodes : goal.carry_marks-requires-clause-nodes
+carry_marks-requires-clause-nodes c =
+    rw (ends_long c.args.plot.now.plot.accepted.scene c.args.plot.now.prepared) c.by_region.ensures.sorted
+
+pub carry_marks-requires-clause-below : goal.carry_marks-requires-clause-below
+carry_marks-requires-clause-below c x h =
+    let s = (goal.at.carry_marks-requires-clause-below c).Start in
+    let low = (small s).below x (omega (arith, ends_long c.args.plot.now.plot.accepted.scene c.args.plot.now.prepared)) in
+    (omega (arith, c.copy_from_slice.ensures.len), omega (arith, c.possible_regions.auto.possible))
+
+pub spread-requires : goal.spread-requires
+spread-requires c =
+    let s = (goal.at.spread-requires c).Start in
+    (indices_same (sym (c.carry_marks.auto.a ∙ c.copy_from_slice.ensures.len)) (small s), omega (arith, all s, c.requires.drive_room))
+
+pub spread-requires-2 : goal.spread-requires-2
+spread-requires-2 c =
+    let s = (goal.at.spread-requires-2 c).Start in
+    (indices_same (sym (c.carry_marks.auto.b ∙ c.possible_regions.auto.possible)) (small s), omega (arith, all s, c.requires.potential_room))
 
 pub returns : goal.returns
 returns c rules fs driven inferred =
+    let s = (goal.at.returns c).Start in
     let p = c.args.plot.now in
     let cs = p.plot.components.now in
     let ps = p.plot.ports.now in
-    let r = regions_of_lem p.plot.accepted.scene p.prepared in
-    let carried = c.carry_marks in
-    let possible = c.possible_regions in
-    let room = c.requires in
-    let keys = c.find_crossings-crossings.result.now in
-    let pairs : Crossings (signals cs ps) (labels cs ps) keys = crossings_of r c.find_crossings-crossings.ensures.pairs in
+    let scene = p.plot.accepted.scene in
+    let drive_room = c.spread.auto.out ∙ c.requires.drive_room in
+    let potential_room = c.spread-2.auto.out ∙ c.requires.potential_room in
     let marks : Flags component_limit (holds_drive cs ps fs) c.copy_from_slice.new.self = rw c.copy_from_slice.ensures.after driven in
-    let joined : Flags component_limit
-    (λ k. marked c.args.has_drive.now k || some (λ p. marked c.args.inferred.now p && eqb (get_or (regions r) p 0) k)
-    (component_count cs))
-    possible.new.possible =
-    rw (regions_lent r) at possible.ensures in
     record {
-      drive_is = drive_is cs ps (few r) r.scene.ends pairs fs (carried.auto.out_a ∙ room.drive_room)
-          (by_labels r (carry keys (marked c.copy_from_slice.new.self)) carried.ensures.0) marks;
-      potential_is = potential_is cs ps (few r) r.scene.ends pairs fs (carried.auto.out_b ∙ room.potential_room)
-          (by_labels r (carry keys (marked possible.new.possible)) carried.ensures.1)
-          rules (regions_front r) driven inferred joined;
+      drive_is = drive_is cs ps (few s) scene.ends fs (carried_by scene p.prepared c.carry_marks.ensures.first) drive_room
+          (spread_by scene p.prepared c.carry_marks.new.a (omega (arith, drive_room)) c.spread.ensures.values) marks;
+      potential_is = potential_is cs ps (few s) scene.ends fs (carried_by scene p.prepared c.carry_marks.ensures.second) potential_room
+          (spread_by scene p.prepared c.carry_marks.new.b (omega (arith, potential_room)) c.spread-2.ensures.values)
+          rules p.prepared.regions_are driven inferred (rw p.prepared.regions_long at c.possible_regions.ensures);
     }
-
-pub slice_bounds-possible_regions-end : goal.slice_bounds-possible_regions-end
-slice_bounds-possible_regions-end c =
-    let r = regions_of_lem c.args.plot.now.plot.accepted.scene c.args.plot.now.prepared in
-    omega (arith, all r, regions_lent r)

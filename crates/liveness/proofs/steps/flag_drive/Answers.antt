@@ -14,27 +14,15 @@ use Rattle.regions.specs.Graph.{marked}
 use Rattle.signals.specs.Sources.{source_kind, is_on_frontier, is_drive}
 use Rattle.signals.specs.Regions.{region_of_place, holds_drive}
 use Rattle.signals.specs.Flags.{Flags, Numbers, Gathered}
+use Rattle.signals.proofs.Lent.{gathered_same}
 use Rattle.signals.proofs.Tabulated.{first_cong}
-use Rattle.signals.specs.Flags.{Indices}
-use Rattle.signals.proofs.Lent.{gathered_front, indices_front}
-use Rattle.signals.proofs.Within.{places_under}
-use Rattle.liveness.specs.Scene.{Scene}
+use Rattle.liveness.proofs.Inferring.{regions_small}
 use Rattle.liveness.proofs.steps.flag_drive.Goals as goal
-
-pub drive_flags-requires : goal.drive_flags-requires
-drive_flags-requires c =
-    record { components_in_bounds = (c.frontier_flags.ensures.long, c.requires.components_in_bounds.1.0) }
-
--- each component's region has a flag
-regions_small : (cs ps : List ℤ) {region_at : List ℕ} {m : ℕ} → Scene cs ps → Numbers (component_count cs) (region_of_place cs ps) region_at → m ≡ component_limit
-    → Indices (component_count cs) m region_at
-regions_small cs ps scene numbers e = places_under cs ps scene.ends _ (omega (arith, scene.components.few, e)) numbers
 
 pub gather-requires-clause-indices : goal.gather-requires-clause-indices
 gather-requires-clause-indices c =
-    let (ps, (scene, numbers)) = c.requires.scene in
-    rw c.count.ensures.0
-    (indices_front c.args.region_at.now (regions_small c.args.components.numbers.now ps scene numbers c.requires.components_in_bounds.1.1))
+    let p = c.args.plot.now in
+    regions_small p.plot.accepted.scene p.prepared _ (omega (arith, p.plot.accepted.scene.components.few, c.requires.regions))
 
 -- a component on a frontier is a drive source
 drives_too : (cs fs : List ℤ) {frontier driven : List Bool} → Flags (component_count cs) (is_on_frontier cs fs) frontier
@@ -56,18 +44,14 @@ regions_driven cs ps fs long at_place driven g = record {
 }
 
 pub returns : goal.returns
-returns c ps placed =
-    let fs = c.args.frontiers.now in
-    let drives = drives_too c.args.components.numbers.now fs c.frontier_flags.ensures c.drive_flags.ensures in
+returns c =
+    let p = c.args.plot.now in
+    let cs = p.plot.components.now in
+    let fs = p.plot.frontiers.now in
+    let drives = drives_too cs fs c.frontier_flags.ensures (rw c.component_list.ensures at c.drive_flags.ensures) in
     record {
       frontier_flags = c.frontier_flags.ensures;
       drive_flags = drives;
-      region_flags = regions_driven c.args.components.numbers.now ps fs (c.gather.auto.out ∙ c.requires.components_in_bounds.1.1) placed drives
-          (gathered_front c.args.region_at.now placed.long (rw c.count.ensures.0 at c.gather.ensures));
+      region_flags = regions_driven cs p.plot.ports.now fs (c.gather.auto.out ∙ c.requires.regions) p.prepared.regions_are drives
+          (gathered_same p.prepared.regions_long c.gather.ensures);
     }
-
-pub frontier_flags-requires : goal.frontier_flags-requires
-frontier_flags-requires c = record {
-  components_value = c.requires.scene.1.0.ascending;
-  components_in_bounds = c.requires.components_in_bounds.0;
-}
