@@ -1,0 +1,55 @@
+//! Names of blocks, and numbers of things.
+
+use dustroute::ComponentId;
+
+use crate::plot::Plot;
+use crate::terms;
+
+/// A block by kind and id, as in "wire 6".
+#[must_use]
+pub fn named(plot: &Plot, id: ComponentId) -> (ComponentId, String) {
+    let kind = plot.block(id).map_or("block", |it| terms::kind(it.kind));
+    (id, format!("{kind} {}", id.0))
+}
+
+/// Where a block is, as in "5,0,0".
+#[must_use]
+pub fn at(plot: &Plot, id: ComponentId) -> String {
+    let Some(block) = plot.block(id) else {
+        return "no place".to_string();
+    };
+    let position = block.position;
+    format!("{},{},{}", position.x, position.y, position.z)
+}
+
+/// With a capital letter first.
+#[must_use]
+pub fn capital(text: &str) -> String {
+    let mut letters = text.chars();
+    let first = letters.next();
+    first.map_or_else(String::new, |it| it.to_uppercase().chain(letters).collect())
+}
+
+/// How many there are of something.
+#[must_use]
+pub fn count(count: usize, one: &str, more: &str) -> String {
+    match count {
+        1 => format!("1 {one}"),
+        _ => format!("{count} {more}"),
+    }
+}
+
+/// Ids, three or more in a row as "2 to 6".
+#[must_use]
+pub fn ids(of: impl IntoIterator<Item = ComponentId>) -> String {
+    let mut sorted: Vec<u32> = of.into_iter().map(|it| it.0).collect();
+    sorted.sort_unstable();
+    let rows = sorted.chunk_by(|a, b| a.checked_add(1) == Some(*b));
+    let rows = rows.map(|row| match row {
+        [first, _, .., last] => format!("{first} to {last}"),
+        [first, second] => format!("{first}, {second}"),
+        [one] => one.to_string(),
+        [] => String::new(),
+    });
+    rows.collect::<Vec<_>>().join(", ")
+}
