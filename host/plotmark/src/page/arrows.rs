@@ -23,22 +23,38 @@ const SIGN: i32 = 10;
 pub fn draw(html: &mut Html, marked: &Marked, links: &Links, layer: &Layer) {
     for ((first, second, face), link) in &links.arrows {
         if let (Some(a), Some(b)) = (layer.spots.get(first), layer.spots.get(second)) {
-            let free = |id, face| if has_sign(&marked.inputs, id, face) { SIGN } else { FREE };
+            let free = |id, face| {
+                if has_sign(&marked.inputs, id, face) {
+                    SIGN
+                } else {
+                    FREE
+                }
+            };
             let a = off(*a, *face, 0, free(*first, *face));
             let back = opposite(*face);
             let b = off(*b, back, 0, free(*second, back));
-            titled(html, "arrow", &link.said, |html| arrow(html, link, a, b, *face));
+            titled(html, "arrow", &link.said, |html| {
+                arrow(html, link, a, b, *face)
+            });
         }
     }
     for ((id, face, is_above), link) in &links.stubs {
         if let Some(spot) = layer.spots.get(id) {
-            let class = if *is_above { "stub above" } else { "stub below" };
-            titled(html, class, &link.said, |html| stub(html, link, *spot, *face, *is_above));
+            let class = if *is_above {
+                "stub above"
+            } else {
+                "stub below"
+            };
+            titled(html, class, &link.said, |html| {
+                stub(html, link, *spot, *face, *is_above)
+            });
         }
     }
     for ((id, face), link) in &links.uprights {
         if let Some(spot) = layer.spots.get(id) {
-            titled(html, "upright", &link.said, |html| upright(html, link, *spot, *face));
+            titled(html, "upright", &link.said, |html| {
+                upright(html, link, *spot, *face)
+            });
         }
     }
     for (place, cross) in &links.crosses {
@@ -98,7 +114,11 @@ fn stub(html: &mut Html, link: &Link, spot: Spot, face: Facing, is_above: bool) 
 /// Straight up or down: at the block's upper or lower edge.
 fn upright(html: &mut Html, link: &Link, spot: Spot, face: Facing) {
     let up = if face == Facing::Up { -1 } else { 1 };
-    let edge = if face == Facing::Up { spot.y } else { spot.y + HEIGHT };
+    let edge = if face == Facing::Up {
+        spot.y
+    } else {
+        spot.y + HEIGHT
+    };
     let x = spot.x + 13;
     if link.out {
         shapes::head(html, "to", (x, edge + 8 * up), (0, up));
@@ -111,7 +131,11 @@ fn upright(html: &mut Html, link: &Link, spot: Spot, face: Facing) {
 
 /// A red cross, or a grey one where only support is left out; it leads to its line.
 fn left_out(html: &mut Html, cross: &Cross, (id, side): Place, spot: Spot) {
-    let class = if cross.matters { "left-out" } else { "left-out support" };
+    let class = if cross.matters {
+        "left-out"
+    } else {
+        "left-out support"
+    };
     let at = match side {
         Some(face) => off(spot, face, ASIDE, BETWEEN / 2),
         None => (spot.x + WIDTH, spot.y + HEIGHT),

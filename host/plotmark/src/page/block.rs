@@ -48,7 +48,9 @@ impl<'a> Found<'a> {
 
     fn is_place(&self) -> bool {
         let kinds = self.sources.iter().map(|it| it.kind);
-        kinds.into_iter().all(|it| it == SignalSourceKind::InferredPrimaryInput)
+        kinds
+            .into_iter()
+            .all(|it| it == SignalSourceKind::InferredPrimaryInput)
     }
 
     /// All of it in a sentence, for who cannot see or points at it.
@@ -84,7 +86,11 @@ pub fn anchor(id: ComponentId) -> String {
 pub fn draw(html: &mut Html, marked: &Marked, found: &Found<'_>, spot: Spot) {
     let id = found.block.id;
     let unread = marked.plot.sheet.rules.leaves_unread(found.block);
-    let class = format!("block {}{}", found.state.class(), if unread { " unread" } else { "" });
+    let class = format!(
+        "block {}{}",
+        found.state.class(),
+        if unread { " unread" } else { "" }
+    );
     let lights = u8::from(found.state == State::Driven);
     let attributes: &[(&str, &dyn std::fmt::Display)] = &[
         ("class", &class),
@@ -98,11 +104,27 @@ pub fn draw(html: &mut Html, marked: &Marked, found: &Found<'_>, spot: Spot) {
         let (x, y) = (spot.x, spot.y);
         html.empty(
             "rect",
-            &[("x", &x), ("y", &y), ("width", &WIDTH), ("height", &HEIGHT), ("rx", &5)],
+            &[
+                ("x", &x),
+                ("y", &y),
+                ("width", &WIDTH),
+                ("height", &HEIGHT),
+                ("rx", &5),
+            ],
         );
-        label(html, "kind", (x + WIDTH / 2, y + 21), terms::short_kind(found.block.kind));
+        label(
+            html,
+            "kind",
+            (x + WIDTH / 2, y + 21),
+            terms::short_kind(found.block.kind),
+        );
         let digits = id.0.to_string();
-        label(html, id_class(digits.len()), (x + WIDTH / 2, y + 37), &digits);
+        label(
+            html,
+            id_class(digits.len()),
+            (x + WIDTH / 2, y + 37),
+            &digits,
+        );
         shapes::lamp(html, found.state, (x + 23, y + 47));
         label(html, "region", (x + 31, y + 50), &found.region.to_string());
         facing(html, found, unread, spot);
@@ -133,7 +155,11 @@ fn facing(html: &mut Html, found: &Found<'_>, unread: bool, spot: Spot) {
     if unread {
         return label(html, "faces", (x + 11, y + 13), "?");
     }
-    let class = if found.block.facing.is_some() { "faces" } else { "faces taken" };
+    let class = if found.block.facing.is_some() {
+        "faces"
+    } else {
+        "faces taken"
+    };
     match found.block.facing.unwrap_or(Facing::North) {
         Facing::North => shapes::head(html, class, (x + 12, y + 3), (0, -1)),
         Facing::East => shapes::head(html, class, (x + WIDTH - 3, y + 49), (1, 0)),
@@ -151,7 +177,12 @@ fn signs(html: &mut Html, found: &Found<'_>, spot: Spot) {
         if found.is_place() {
             html.empty(
                 "circle",
-                &[("class", &"place"), ("cx", &corner.0), ("cy", &corner.1), ("r", &7)],
+                &[
+                    ("class", &"place"),
+                    ("cx", &corner.0),
+                    ("cy", &corner.1),
+                    ("r", &7),
+                ],
             );
             label(html, "place", (corner.0, corner.1 + 4), "?");
         } else {
@@ -171,8 +202,17 @@ pub fn has_sign(inputs: &[Input], id: ComponentId, face: Facing) -> bool {
 
 /// The verdicts, with what their signs mean.
 pub const VERDICTS: [(RequiredInputStatus, &str); 4] = [
-    (RequiredInputStatus::DrivenByKnownSource, "its input is driven"),
-    (RequiredInputStatus::AwaitingExternalInput, "waits for an input from outside"),
+    (
+        RequiredInputStatus::DrivenByKnownSource,
+        "its input is driven",
+    ),
+    (
+        RequiredInputStatus::AwaitingExternalInput,
+        "waits for an input from outside",
+    ),
     (RequiredInputStatus::Disconnected, "nothing is connected"),
-    (RequiredInputStatus::NoKnownSource, "connected, but nothing drives it"),
+    (
+        RequiredInputStatus::NoKnownSource,
+        "connected, but nothing drives it",
+    ),
 ];

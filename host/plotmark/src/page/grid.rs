@@ -69,7 +69,11 @@ fn columns(html: &mut Html, axis: &Axis, end: i32) {
         let middle = track.start + track.size / 2;
         shapes::line(html, "guide", (track.start, TOP), (track.start, end));
         let (class, said) = told(track.of, "x");
-        html.saying("text", &[("class", &class), ("x", &middle), ("y", &20)], &said);
+        html.saying(
+            "text",
+            &[("class", &class), ("x", &middle), ("y", &20)],
+            &said,
+        );
         if let Of::Gap(count) = track.of {
             let said = words::count(gap(count), "column", "columns");
             cut(html, (track.start, TOP, track.size, end - TOP), &said);
@@ -88,7 +92,11 @@ fn rows(html: &mut Html, axis: &Axis, end: i32) {
         shapes::line(html, "guide", (LEFT, track.start), (end, track.start));
         let (class, said) = told(track.of, "z");
         let class = format!("{class} z");
-        html.saying("text", &[("class", &class), ("x", &(LEFT - 8)), ("y", &(middle + 4))], &said);
+        html.saying(
+            "text",
+            &[("class", &class), ("x", &(LEFT - 8)), ("y", &(middle + 4))],
+            &said,
+        );
         if let Of::Gap(count) = track.of {
             let said = words::count(gap(count), "row", "rows");
             cut(html, (LEFT, track.start, end - LEFT, track.size), &said);
@@ -112,7 +120,14 @@ fn told(of: Of, axis: &str) -> (&'static str, String) {
 /// What was cut out between far parts.
 fn cut(html: &mut Html, (x, y, width, height): (i32, i32, i32, i32), what: &str) {
     html.within("g", &[("class", &"cut"), ("role", &"img")], |html| {
-        html.saying("title", &[], &format!("{what} without a block are cut out here"));
-        html.empty("rect", &[("x", &x), ("y", &y), ("width", &width), ("height", &height)]);
+        html.saying(
+            "title",
+            &[],
+            &format!("{what} without a block are cut out here"),
+        );
+        html.empty(
+            "rect",
+            &[("x", &x), ("y", &y), ("width", &width), ("height", &height)],
+        );
     });
 }

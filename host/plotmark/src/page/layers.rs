@@ -99,9 +99,15 @@ pub fn layers(components: &[Component]) -> Vec<Layer> {
         by_height.entry(block.position.y).or_default().push(block);
     }
     let whole = axes(&components.iter().collect::<Vec<_>>());
-    let is_small = [&whole.0, &whole.1].iter().all(|it| it.tracks().len() <= FEW);
+    let is_small = [&whole.0, &whole.1]
+        .iter()
+        .all(|it| it.tracks().len() <= FEW);
     let each = by_height.into_iter().map(|(height, blocks)| {
-        let axes = if is_small { whole.clone() } else { axes(&blocks) };
+        let axes = if is_small {
+            whole.clone()
+        } else {
+            axes(&blocks)
+        };
         layer(height, &blocks, axes)
     });
     each.collect()

@@ -8,14 +8,18 @@ use crate::html::Html;
 
 /// Draws the legend.
 pub fn draw(html: &mut Html) {
-    html.within("section", &[("class", &"legend"), ("aria-label", &"Signs")], |html| {
-        html.saying("h2", &[], "Signs");
-        html.within("ul", &[], |html| {
-            states(html);
-            verdicts(html);
-            others(html);
-        });
-    });
+    html.within(
+        "section",
+        &[("class", &"legend"), ("aria-label", &"Signs")],
+        |html| {
+            html.saying("h2", &[], "Signs");
+            html.within("ul", &[], |html| {
+                states(html);
+                verdicts(html);
+                others(html);
+            });
+        },
+    );
     html.line();
 }
 
@@ -41,7 +45,13 @@ fn states(html: &mut Html) {
         sign(html, &said, &format!("block {}", state.class()), |html| {
             html.empty(
                 "rect",
-                &[("x", &2), ("y", &2), ("width", &26), ("height", &18), ("rx", &4)],
+                &[
+                    ("x", &2),
+                    ("y", &2),
+                    ("width", &26),
+                    ("height", &18),
+                    ("rx", &4),
+                ],
             );
             shapes::lamp(html, state, (15, 11));
         });
@@ -51,20 +61,37 @@ fn states(html: &mut Html) {
 fn verdicts(html: &mut Html) {
     for (status, said) in VERDICTS {
         let said = format!("on the side of an input: {said}");
-        sign(html, &said, "block", |html| shapes::disc(html, status, (15, 11)));
+        sign(html, &said, "block", |html| {
+            shapes::disc(html, status, (15, 11))
+        });
     }
 }
 
 fn others(html: &mut Html) {
-    sign(html, "a source", "block", |html| shapes::star(html, (15, 11)));
-    sign(html, "a place where an input could be put", "block", |html| {
-        html.empty("circle", &[("class", &"place"), ("cx", &15), ("cy", &11), ("r", &7)]);
-        html.saying("text", &[("class", &"place"), ("x", &15), ("y", &15)], "?");
+    sign(html, "a source", "block", |html| {
+        shapes::star(html, (15, 11))
     });
-    sign(html, "how a device faces (empty: not known, taken as North)", "block", |html| {
-        shapes::head(html, "faces", (11, 11), (1, 0));
-        shapes::head(html, "faces taken", (24, 11), (1, 0));
-    });
+    sign(
+        html,
+        "a place where an input could be put",
+        "block",
+        |html| {
+            html.empty(
+                "circle",
+                &[("class", &"place"), ("cx", &15), ("cy", &11), ("r", &7)],
+            );
+            html.saying("text", &[("class", &"place"), ("x", &15), ("y", &15)], "?");
+        },
+    );
+    sign(
+        html,
+        "how a device faces (empty: not known, taken as North)",
+        "block",
+        |html| {
+            shapes::head(html, "faces", (11, 11), (1, 0));
+            shapes::head(html, "faces taken", (24, 11), (1, 0));
+        },
+    );
     sign(html, "feeds; both ways", "arrow", |html| {
         shapes::line(html, "shaft", (2, 5), (22, 5));
         shapes::head(html, "head", (27, 5), (1, 0));
@@ -72,18 +99,33 @@ fn others(html: &mut Html) {
         shapes::head(html, "head", (27, 16), (1, 0));
         shapes::head(html, "head", (2, 16), (-1, 0));
     });
-    sign(html, "feeds, or is fed by, the layer above or below", "stub", |html| {
-        shapes::head(html, "head", (10, 11), (1, 0));
-        shapes::head(html, "to", (15, 8), (0, -1));
-        shapes::head(html, "to", (24, 14), (0, 1));
-    });
+    sign(
+        html,
+        "feeds, or is fed by, the layer above or below",
+        "stub",
+        |html| {
+            shapes::head(html, "head", (10, 11), (1, 0));
+            shapes::head(html, "to", (15, 8), (0, -1));
+            shapes::head(html, "to", (24, 14), (0, 1));
+        },
+    );
     sign(html, "a connection that was left out", "left-out", |html| {
         shapes::cross(html, false, (15, 11));
     });
-    sign(html, "one that names a block which is not on the plot", "left-out", |html| {
-        shapes::cross(html, true, (15, 11));
-    });
-    sign(html, "support, which carries no signal", "left-out support", |html| {
-        shapes::cross(html, false, (15, 11));
-    });
+    sign(
+        html,
+        "one that names a block which is not on the plot",
+        "left-out",
+        |html| {
+            shapes::cross(html, true, (15, 11));
+        },
+    );
+    sign(
+        html,
+        "support, which carries no signal",
+        "left-out support",
+        |html| {
+            shapes::cross(html, false, (15, 11));
+        },
+    );
 }

@@ -93,15 +93,32 @@ impl Links {
             return;
         };
         let names = [source, sink].map(|id| words::named(plot, id).1);
-        let said = format!("{} to {}: {}", names[0], names[1], transfer(it.connection.transfer));
+        let said = format!(
+            "{} to {}: {}",
+            names[0],
+            names[1],
+            transfer(it.connection.transfer)
+        );
         let back = terms::opposite(step.face);
         if step.is_upright() {
-            self.uprights.entry((source, step.face)).or_default().add(true, &said);
-            self.uprights.entry((sink, back)).or_default().add(false, &said);
+            self.uprights
+                .entry((source, step.face))
+                .or_default()
+                .add(true, &said);
+            self.uprights
+                .entry((sink, back))
+                .or_default()
+                .add(false, &said);
         } else if step.climb != 0 {
             let rises = step.climb > 0;
-            self.stubs.entry((source, step.face, rises)).or_default().add(true, &said);
-            self.stubs.entry((sink, back, !rises)).or_default().add(false, &said);
+            self.stubs
+                .entry((source, step.face, rises))
+                .or_default()
+                .add(true, &said);
+            self.stubs
+                .entry((sink, back, !rises))
+                .or_default()
+                .add(false, &said);
         } else if matches!(step.face, Facing::East | Facing::South) {
             let key = (source, sink, step.face);
             self.arrows.entry(key).or_default().add(true, &said);

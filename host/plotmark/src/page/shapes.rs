@@ -56,7 +56,10 @@ pub fn disc(html: &mut Html, status: RequiredInputStatus, (x, y): Point) {
         RequiredInputStatus::Disconnected => ("empty", "m-4,0h8"),
         RequiredInputStatus::NoKnownSource => ("bad", "m-3,-3l6,6m0,-6l-6,6"),
     };
-    html.empty("circle", &[("class", &class), ("cx", &x), ("cy", &y), ("r", &8)]);
+    html.empty(
+        "circle",
+        &[("class", &class), ("cx", &x), ("cy", &y), ("r", &8)],
+    );
     path(html, "sign", &format!("M{x},{y}{sign}"));
 }
 
@@ -71,13 +74,19 @@ pub fn cross(html: &mut Html, gone: bool, (x, y): Point) {
     path(html, "hit", &format!("M{x},{y}m-5,-5h10v10h-10z"));
     path(html, "x", &format!("M{x},{y}m-3,-3l6,6m0,-6l-6,6"));
     if gone {
-        html.empty("circle", &[("class", &"ring"), ("cx", &x), ("cy", &y), ("r", &6)]);
+        html.empty(
+            "circle",
+            &[("class", &"ring"), ("cx", &x), ("cy", &y), ("r", &6)],
+        );
     }
 }
 
 /// Full, half or empty: driven, would be, not.
 pub fn lamp(html: &mut Html, state: State, (x, y): Point) {
-    html.empty("circle", &[("class", &"lamp"), ("cx", &x), ("cy", &y), ("r", &4)]);
+    html.empty(
+        "circle",
+        &[("class", &"lamp"), ("cx", &x), ("cy", &y), ("r", &4)],
+    );
     let inside = match state {
         State::Driven => format!("M{x},{y}m-4,0a4,4,0,1,1,8,0a4,4,0,1,1,-8,0z"),
         State::Would => format!("M{x},{y}m0,-4a4,4,0,0,0,0,8z"),

@@ -25,17 +25,23 @@ const fn state(tone: Tone) -> State {
 
 /// Draws the strip. Without the script it is a list.
 pub fn draw(html: &mut Html, marked: &Marked) {
-    html.within("section", &[("class", &"strip"), ("aria-label", &"Regions")], |html| {
-        html.saying("h2", &[], "Regions, in the order in which to light them");
-        html.within("p", &[("id", &"stepping"), ("hidden", &"hidden")], |html| {
-            for (name, text) in BUTTONS {
-                html.saying("button", &[("type", &"button"), ("id", &name)], text);
-                html.text(" ");
-            }
-            html.saying("span", &[("id", &"step"), ("role", &"status")], "");
-        });
-        html.within("ol", &[("id", &"regions"), ("start", &0)], |html| regions(html, marked));
-    });
+    html.within(
+        "section",
+        &[("class", &"strip"), ("aria-label", &"Regions")],
+        |html| {
+            html.saying("h2", &[], "Regions, in the order in which to light them");
+            html.within("p", &[("id", &"stepping"), ("hidden", &"hidden")], |html| {
+                for (name, text) in BUTTONS {
+                    html.saying("button", &[("type", &"button"), ("id", &name)], text);
+                    html.text(" ");
+                }
+                html.saying("span", &[("id", &"step"), ("role", &"status")], "");
+            });
+            html.within("ol", &[("id", &"regions"), ("start", &0)], |html| {
+                regions(html, marked)
+            });
+        },
+    );
     html.line();
 }
 
@@ -44,10 +50,14 @@ fn regions(html: &mut Html, marked: &Marked) {
         let (tone, _) = words::lights(marked, &step);
         let class = state(tone).class();
         html.line();
-        html.within("li", &[("class", &class), ("data-region", &step.region)], |html| {
-            html.saying("b", &[], &step.region.to_string());
-            html.text(" ");
-            telling::parts(html, &words::region(marked, &step));
-        });
+        html.within(
+            "li",
+            &[("class", &class), ("data-region", &step.region)],
+            |html| {
+                html.saying("b", &[], &step.region.to_string());
+                html.text(" ");
+                telling::parts(html, &words::region(marked, &step));
+            },
+        );
     }
 }
