@@ -99,3 +99,20 @@ impl Html {
         let _ = write!(Escaped(&mut self.0), "{value}");
     }
 }
+
+#[cfg(test)]
+mod tests {
+    use super::Html;
+
+    #[test]
+    fn texts_and_values_are_escaped() {
+        let mut html = Html::default();
+        html.within("p", &[("title", &"\"a\" < b & c"), ("x", &-7)], |html| {
+            html.text("<b>&\r\0\u{7f}");
+            html.empty("br", &[]);
+        });
+        let wanted = "<p title=\"&quot;a&quot; &lt; b &amp; c\" x=\"-7\">\
+            &lt;b&gt;&amp;\u{fffd}\u{fffd}\u{fffd}<br/></p>";
+        assert_eq!(html.finish(), wanted);
+    }
+}

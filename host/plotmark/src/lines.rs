@@ -49,3 +49,26 @@ impl Lines {
         }
     }
 }
+
+#[cfg(test)]
+mod tests {
+    use super::Lines;
+    use dustroute::Form;
+
+    #[test]
+    fn records_follow_their_counts() {
+        let lines = |form, head| Lines {
+            form,
+            head,
+            components: 2,
+        };
+        // components=, eight lines twice, connections=, three lines each.
+        let old = lines(Form::Old, 0);
+        assert_eq!([0, 1].map(|place| old.component(place)), [2, 10]);
+        assert_eq!([0, 1].map(|place| old.connection(place)), [19, 22]);
+        // sheet=2, rules=, components=, a line twice, connections=.
+        let short = lines(Form::Short, 2);
+        assert_eq!([0, 1].map(|place| short.component(place)), [4, 5]);
+        assert_eq!([0, 1].map(|place| short.connection(place)), [7, 8]);
+    }
+}

@@ -37,3 +37,36 @@ impl Step {
         matches!(self.face, Facing::Up | Facing::Down)
     }
 }
+
+#[cfg(test)]
+mod tests {
+    use super::Step;
+    use dustroute::{Facing, Position};
+
+    #[test]
+    fn a_step_is_one_cell_and_may_climb() {
+        let step = |x, y, z| {
+            let step = Step::between(
+                Position::new(5, 64, -3),
+                Position::new(5 + x, 64 + y, z - 3),
+            );
+            step.map(|it| (it.face, it.climb))
+        };
+        assert_eq!(step(0, 0, -1), Some((Facing::North, 0)));
+        assert_eq!(step(1, 1, 0), Some((Facing::East, 1)));
+        assert_eq!(step(0, -1, 1), Some((Facing::South, -1)));
+        assert_eq!(step(-1, 0, 0), Some((Facing::West, 0)));
+        assert_eq!(step(0, 1, 0), Some((Facing::Up, 1)));
+        assert_eq!(step(0, -1, 0), Some((Facing::Down, -1)));
+        for (x, y, z) in [
+            (0, 0, 0),
+            (1, 0, 1),
+            (2, 0, 0),
+            (1, 2, 0),
+            (0, 2, 0),
+            (0, -2, -1),
+        ] {
+            assert_eq!(step(x, y, z), None);
+        }
+    }
+}

@@ -95,3 +95,35 @@ impl Axis {
         self.end
     }
 }
+
+#[cfg(test)]
+mod tests {
+    use super::{Axis, GAP, Of};
+
+    #[test]
+    fn far_parts_are_cut_and_near_ones_are_not() {
+        let used = [-30_000_000, -29_999_997, 5, 6, 9, 30_000_000];
+        let used = used.into_iter().map(|at| (at, 10)).collect();
+        let axis = Axis::of(100, &used, 7);
+        let of: Vec<Of> = axis.tracks().iter().map(|it| it.of).collect();
+        let wanted = [
+            Of::Cells(-30_000_000),
+            Of::Cells(-29_999_999),
+            Of::Cells(-29_999_998),
+            Of::Cells(-29_999_997),
+            Of::Gap(30_000_001),
+            Of::Cells(5),
+            Of::Cells(6),
+            Of::Cells(7),
+            Of::Cells(8),
+            Of::Cells(9),
+            Of::Gap(29_999_990),
+            Of::Cells(30_000_000),
+        ];
+        assert_eq!(of, wanted);
+        assert_eq!(axis.start(-30_000_000), Some(100));
+        assert_eq!(axis.start(-29_999_997), Some(124));
+        assert_eq!(axis.start(0), None);
+        assert_eq!(axis.end(), 100 + 6 * 10 + 4 * 7 + 2 * GAP);
+    }
+}

@@ -53,3 +53,35 @@ pub fn ids(of: impl IntoIterator<Item = ComponentId>) -> String {
     });
     rows.collect::<Vec<_>>().join(", ")
 }
+
+#[cfg(test)]
+mod tests {
+    use super::{capital, count, ids};
+    use dustroute::ComponentId;
+
+    #[test]
+    fn three_ids_in_a_row_are_a_range() {
+        let told = |of: &[u32]| ids(of.iter().map(|id| ComponentId(*id)));
+        assert_eq!(told(&[]), "");
+        assert_eq!(told(&[7]), "7");
+        assert_eq!(told(&[8, 7]), "7, 8");
+        assert_eq!(told(&[4, 2, 3, 6, 9, 10]), "2 to 4, 6, 9, 10");
+        assert_eq!(
+            told(&[u32::MAX, 0, u32::MAX - 1]),
+            "0, 4294967294, 4294967295"
+        );
+    }
+
+    #[test]
+    fn words_have_their_number() {
+        assert_eq!(count(1, "box", "boxes"), "1 box");
+        assert_eq!(
+            [0, 2].map(|it| count(it, "box", "boxes")),
+            ["0 boxes", "2 boxes"]
+        );
+        assert_eq!(
+            [capital("pressure plate 3"), capital("")],
+            ["Pressure plate 3", ""]
+        );
+    }
+}
