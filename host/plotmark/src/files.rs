@@ -6,6 +6,7 @@ use std::fs::File;
 use std::io::{self, IsTerminal, Read, Write};
 
 use crate::args::STANDARD;
+use crate::closed;
 use crate::text::Colours;
 
 /// No sheet has as many bytes.
@@ -57,6 +58,9 @@ pub fn read(sheet: &OsStr) -> Result<Vec<u8>, Fault> {
 }
 
 fn standard() -> io::Result<Vec<u8>> {
+    if closed::input() {
+        return Err(io::Error::other("it is closed"));
+    }
     let input = io::stdin();
     if input.is_terminal() {
         let _ = writeln!(
@@ -82,7 +86,13 @@ fn whole(from: impl Read) -> io::Result<Vec<u8>> {
 /// Where it cannot be written.
 pub fn put(bytes: &[u8]) -> Result<(), Fault> {
     let mut out = io::stdout().lock();
-    let written = out.write_all(bytes).and_then(|()| out.flush());
+    let written = if bytes.is_empty() {
+        Ok(())
+    } else if closed::output() {
+        Err(io::Error::other("it is closed"))
+    } else {
+        out.write_all(bytes).and_then(|()| out.flush())
+    };
     written.map_err(|fault| Fault::Failed(format!("standard output: not written: {fault}")))
 }
 

@@ -14,6 +14,7 @@
 )]
 
 pub mod args;
+mod closed;
 pub mod files;
 pub mod html;
 pub mod lines;

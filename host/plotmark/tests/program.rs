@@ -252,6 +252,25 @@ fn what_cannot_be_read_or_written_is_told() -> Done {
     Ok(())
 }
 
+/// What is closed from the start is no empty sheet, and takes no words.
+#[test]
+fn closed_descriptors_are_told() -> Done {
+    for (redirected, wanted) in [
+        (">&-", "standard output: not written: "),
+        ("<&-", "standard input: not read: "),
+    ] {
+        let line = format!("\"$0\" {redirected}");
+        let mut shell = Command::new("sh");
+        shell.args(["-c", &line, env!("CARGO_BIN_EXE_plotmark")]);
+        let sheet = File::open(own().join("row.sheet"))?;
+        let output = shell.stdin(sheet).output()?;
+        let errors = String::from_utf8_lossy(&output.stderr);
+        assert_eq!(output.status.code(), Some(2), "{redirected}: {errors}");
+        assert!(errors.starts_with(wanted), "{redirected}: {errors}");
+    }
+    Ok(())
+}
+
 /// Nobody reads on: told, and no signal ends it.
 #[test]
 fn a_closed_pipe_is_told() -> Done {

@@ -57,6 +57,28 @@ const STATUS: [&str; 4] = [
     "is connected, but nothing drives what feeds it",
 ];
 
+/// How many inputs a line tells of, and their verdict.
+fn verdict(rest: &str) -> (usize, u64) {
+    if let Some(sides) = rest.strip_prefix("s on its ") {
+        let sides = sides.strip_suffix(" sides have nothing connected.");
+        let sides = sides.unwrap_or_else(|| panic!("{rest}"));
+        return (
+            sides
+                .split([',', ' '])
+                .filter(|it| !["", "and"].contains(it))
+                .count(),
+            2,
+        );
+    }
+    let is = |status: &&str| {
+        [")", " side"]
+            .iter()
+            .any(|it| rest.ends_with(&format!("{it} {status}.")))
+    };
+    let status = STATUS.iter().position(|it| is(&it));
+    (1, status.unwrap_or_else(|| panic!("{rest}")) as u64)
+}
+
 /// The verdicts, and the ways by device.
 fn verdicts(lines: &[&str]) -> (Vec<Verdict>, Vec<Vec<u64>>) {
     let (mut found, mut ways): (Vec<Verdict>, Vec<Vec<u64>>) = (Vec::new(), Vec::new());
@@ -73,16 +95,16 @@ fn verdicts(lines: &[&str]) -> (Vec<Verdict>, Vec<Vec<u64>>) {
             } else if let Some(way) = line.strip_prefix("the way: ") {
                 ways.push(way.split(" > ").map(last).collect());
             }
-        } else if let Some((name, rest)) = line.split_once(": its input ") {
-            let status = STATUS.iter().position(|it| {
-                rest.ends_with(&format!(") {it}.")) || rest.ends_with(&format!(" side {it}."))
-            });
-            found.push(Verdict {
-                device: last(name.split(" at ").next().unwrap_or_default()),
-                status: status.unwrap_or_else(|| panic!("{line}")) as u64,
+        } else if let Some((name, rest)) = line.split_once(": its input") {
+            let device = last(name.split(" at ").next().unwrap_or_default());
+            let (count, status) = verdict(rest);
+            let verdict = Verdict {
+                device,
+                status,
                 immediate: BTreeSet::new(),
                 inferred: BTreeSet::new(),
-            });
+            };
+            found.extend(std::iter::repeat_n(verdict, count));
         }
     }
     (found, ways)

@@ -20,7 +20,7 @@ fn words_are_as_recorded() -> Done {
     for path in marked_sheets()? {
         let marked = Marked::read(&fs::read(&path)?)?;
         let name = name(&path);
-        let driven = if name.starts_with("full") {
+        let driven = if name == "full-plot.sheet" {
             Driven::Few
         } else {
             Driven::All

@@ -59,9 +59,17 @@ pub fn draw(html: &mut Html, marked: &Marked, links: &Links, layer: &Layer) {
     }
     for (place, cross) in &links.crosses {
         if let Some(spot) = layer.spots.get(&place.0) {
-            left_out(html, cross, *place, *spot);
+            let along = if is_free(links, *place) { 0 } else { ASIDE };
+            left_out(html, cross, *place, *spot, along);
         }
     }
+}
+
+/// Whether no arrow is drawn on the side on which a cross stands.
+fn is_free(links: &Links, (id, side): Place) -> bool {
+    let arrows = links.arrows.keys();
+    let mut here = arrows.filter(|it| it.0 == id && Some(it.2) == side);
+    here.next().is_none()
 }
 
 fn titled(html: &mut Html, class: &str, said: &[String], inside: impl FnOnce(&mut Html)) {
@@ -130,14 +138,14 @@ fn upright(html: &mut Html, link: &Link, spot: Spot, face: Facing) {
 }
 
 /// A red cross, or a grey one where only support is left out; it leads to its line.
-fn left_out(html: &mut Html, cross: &Cross, (id, side): Place, spot: Spot) {
+fn left_out(html: &mut Html, cross: &Cross, (id, side): Place, spot: Spot, along: i32) {
     let class = if cross.matters {
         "left-out"
     } else {
         "left-out support"
     };
     let at = match side {
-        Some(face) => off(spot, face, ASIDE, BETWEEN / 2),
+        Some(face) => off(spot, face, along, BETWEEN / 2),
         None => (spot.x + WIDTH, spot.y + HEIGHT),
     };
     let line = format!("#line{}", cross.line);

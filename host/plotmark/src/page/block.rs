@@ -153,7 +153,7 @@ fn facing(html: &mut Html, found: &Found<'_>, unread: bool, spot: Spot) {
     }
     let (x, y) = (spot.x, spot.y);
     if unread {
-        return label(html, "faces", (x + 11, y + 13), "?");
+        return label(html, "faces", (x + 11, y + 9), "?");
     }
     let class = if found.block.facing.is_some() {
         "faces"
@@ -165,8 +165,8 @@ fn facing(html: &mut Html, found: &Found<'_>, unread: bool, spot: Spot) {
         Facing::East => shapes::head(html, class, (x + WIDTH - 3, y + 49), (1, 0)),
         Facing::South => shapes::head(html, class, (x + 12, y + HEIGHT - 3), (0, 1)),
         Facing::West => shapes::head(html, class, (x + 3, y + 49), (-1, 0)),
-        Facing::Up => label(html, "faces", (x + 11, y + 11), "up"),
-        Facing::Down => label(html, "faces", (x + 13, y + 11), "down"),
+        Facing::Up => label(html, "faces", (x + 11, y + 9), "up"),
+        Facing::Down => label(html, "faces", (x + 15, y + 9), "down"),
     }
 }
 

@@ -53,7 +53,7 @@ fn body(html: &mut Html, name: &str, marked: &Marked) {
     let told = words::told(name, marked, Driven::All);
     html.within("header", &[], |html| {
         html.saying("h1", &[], name);
-        paragraph(html, &words::summary(name, marked));
+        paragraph(html, &words::summary("", marked));
     });
     html.line();
     html.within("main", &[], |html| {
@@ -63,7 +63,9 @@ fn body(html: &mut Html, name: &str, marked: &Marked) {
             grid::draw(html, marked, &links, &layer);
         }
         legend::draw(html);
-        for section in &told.sections {
+        // The strip has the regions.
+        let sections = told.sections.iter();
+        for section in sections.filter(|it| it.title != words::title(marked)) {
             telling::section(html, section);
         }
     });

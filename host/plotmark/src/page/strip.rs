@@ -29,7 +29,7 @@ pub fn draw(html: &mut Html, marked: &Marked) {
         "section",
         &[("class", &"strip"), ("aria-label", &"Regions")],
         |html| {
-            html.saying("h2", &[], "Regions, in the order in which to light them");
+            html.saying("h2", &[], &words::title(marked));
             html.within("p", &[("id", &"stepping"), ("hidden", &"hidden")], |html| {
                 for (name, text) in BUTTONS {
                     html.saying("button", &[("type", &"button"), ("id", &name)], text);

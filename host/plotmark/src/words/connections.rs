@@ -2,7 +2,7 @@
 
 use dustroute::{Component, ComponentId, Facing, LeftOut, Role, Why};
 
-use super::named;
+use super::names::{self, named};
 use crate::plot::Plot;
 use crate::steps::Step;
 use crate::terms;
@@ -11,17 +11,16 @@ use crate::told::{Line, Section};
 /// A connection that was left out, its line in the sheet, and why.
 #[must_use]
 pub fn left_out(plot: &Plot, it: &LeftOut, before: &str) -> Line {
-    Line::plain(before)
-        .and(format!("{}, ", joined(it)))
-        .and(format!("sheet line {}: ", plot.lines.connection(it.item)))
+    joined(Line::plain(before), plot, it)
+        .and(format!(", sheet line {}: ", plot.lines.connection(it.item)))
         .and(reason(plot, it))
 }
 
-/// As in "6 to 7 (dust)".
-fn joined(it: &LeftOut) -> String {
-    let kind = terms::connection(it.connection.kind);
-    let [source, sink] = [it.connection.source.0, it.connection.sink.0];
-    format!("{source} to {sink} ({kind})")
+/// Goes on as in "6 to 7 (dust)".
+fn joined(line: Line, plot: &Plot, it: &LeftOut) -> Line {
+    let line = names::id(line, plot, it.connection.source).and(" to ");
+    let line = names::id(line, plot, it.connection.sink);
+    line.and(format!(" ({})", terms::connection(it.connection.kind)))
 }
 
 /// Why a connection was left out: the core's reason, in words with names.
@@ -86,7 +85,8 @@ fn there(plot: &Plot, block: &Component, face: Facing) -> String {
 pub fn section(plot: &Plot) -> Section {
     let each = plot.left_out.iter().map(|it| {
         let line = plot.lines.connection(it.item);
-        Line::plain(format!("sheet line {line}: {}: ", joined(it)))
+        let told = joined(Line::plain(format!("sheet line {line}: ")), plot, it);
+        told.and(": ")
             .and(reason(plot, it))
             .marked(format!("line{line}"))
     });

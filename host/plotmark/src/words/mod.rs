@@ -7,8 +7,8 @@ mod regions;
 
 pub use connections::{left_out, reason};
 pub use inputs::{side, tone};
-pub use names::{at, capital, count, ids, named};
-pub use regions::{lights, region};
+pub use names::{at, capital, count, named};
+pub use regions::{lights, region, title};
 
 use dustroute::RequiredInputStatus;
 
@@ -43,16 +43,17 @@ pub fn told(name: &str, marked: &Marked, driven: Driven) -> Told {
 }
 
 /// The first line.
-#[must_use]
-pub fn head(name: &str, marked: &Marked) -> Line {
+fn head(name: &str, marked: &Marked) -> Line {
     let sheet = &marked.plot.sheet;
     let blocks = count(sheet.components.len(), "block", "blocks");
     let connections = count(sheet.connections.len(), "connection", "connections");
-    Line::plain(format!(
-        "{name}: marked by {} ({}). ",
-        sheet.rules, sheet.form
-    ))
-    .and(format!("{blocks}, {connections}, {}.", left(&marked.plot)))
+    let how = format!("marked by {} ({}). ", sheet.rules, sheet.form);
+    let how = if name.is_empty() {
+        capital(&how)
+    } else {
+        format!("{name}: {how}")
+    };
+    Line::plain(how).and(format!("{blocks}, {connections}, {}.", left(&marked.plot)))
 }
 
 fn left(plot: &Plot) -> String {
@@ -62,42 +63,44 @@ fn left(plot: &Plot) -> String {
     }
 }
 
-/// The one line that is told of a plot among others.
+/// The one line that is told of a plot among others. Without a name it begins with what
+/// is told.
 #[must_use]
 pub fn summary(name: &str, marked: &Marked) -> Line {
-    let inputs = count(marked.inputs.len(), "input", "inputs");
-    let line = head(name, marked).and(format!(" {inputs}"));
+    let line = head(name, marked).and(" ");
+    verdicts(line, marked).and(".")
+}
+
+/// Goes on with how many inputs there are, and of each verdict.
+fn verdicts(line: Line, marked: &Marked) -> Line {
     let of = |status| {
-        marked
-            .inputs
-            .iter()
-            .filter(move |it| it.status == status)
-            .count()
+        let each = marked.inputs.iter();
+        each.filter(|it| it.status == status).count()
     };
-    let counts = RequiredInputStatus::ALL.map(|status| (status, of(status)));
-    let some = counts.into_iter().filter(|(_, count)| *count > 0);
+    let mut line = line.and(count(marked.inputs.len(), "input", "inputs"));
     let mut between = ": ";
-    let mut line = line;
-    for (status, count) in some {
-        let text = format!("{count} {}", inputs::briefly(status));
-        line = line.and(between).verdict(tone(status), text);
-        between = ", ";
+    for status in RequiredInputStatus::ALL {
+        if of(status) > 0 {
+            let text = format!("{} {}", of(status), inputs::briefly(status));
+            line = line.and(between).verdict(tone(status), text);
+            between = ", ";
+        }
     }
-    line.and(".")
+    line
 }
 
 /// What is told of some inputs alone.
 #[must_use]
 pub fn device(name: &str, plot: &Plot, found: &[Input]) -> Told {
-    let each = found.iter().map(|it| inputs::line(plot, it));
-    let title = "Inputs".to_string();
-    let lines = each.collect();
+    let sheet = &plot.sheet;
+    let found: Vec<&Input> = found.iter().collect();
+    let section = Section {
+        title: "Inputs".to_string(),
+        lines: inputs::lines(plot, &found),
+    };
     Told {
-        head: Line::plain(format!(
-            "{name}: {}, {}.",
-            plot.sheet.rules, plot.sheet.form
-        )),
-        sections: vec![Section { title, lines }],
+        head: Line::plain(format!("{name}: {} ({}).", sheet.rules, sheet.form)),
+        sections: vec![section],
     }
 }
 
@@ -105,18 +108,18 @@ fn inputs_section(marked: &Marked, driven: Driven) -> Section {
     let is_driven = |it: &&Input| it.status == RequiredInputStatus::DrivenByKnownSource;
     let inputs = marked.inputs.iter();
     let (good, bad): (Vec<&Input>, Vec<&Input>) = inputs.partition(is_driven);
-    let each = |it: &&Input| inputs::line(&marked.plot, it);
-    let mut lines: Vec<Line> = bad.iter().map(each).collect();
+    let mut lines = inputs::lines(&marked.plot, &bad);
     if driven == Driven::All || good.len() <= FEW {
-        lines.extend(good.iter().map(each));
+        lines.extend(inputs::lines(&marked.plot, &good));
     } else {
         lines.push(inputs::counted(good.len(), bad.is_empty()));
     }
     if marked.inputs.is_empty() {
-        lines.push(Line::plain("none: nothing here must be driven"));
+        lines.push(Line::plain("Nothing here must be driven."));
     }
+    let counts = verdicts(Line::default(), marked);
     Section {
-        title: "Inputs".to_string(),
+        title: format!("Inputs: {}", counts.text()),
         lines,
     }
 }
@@ -125,7 +128,7 @@ fn inputs_section(marked: &Marked, driven: Driven) -> Section {
 fn unread_section(plot: &Plot) -> Option<Section> {
     let each = plot.sheet.unread().map(|id| {
         let text = " is not known, so that nothing is said of its input";
-        let line = Line::plain("how ").block(named(plot, id));
+        let line = Line::plain("How ").block(named(plot, id));
         line.and(format!(" at {} faces{text}", at(plot, id)))
     });
     let lines: Vec<Line> = each.collect();

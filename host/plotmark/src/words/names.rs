@@ -4,6 +4,7 @@ use dustroute::ComponentId;
 
 use crate::plot::Plot;
 use crate::terms;
+use crate::told::Line;
 
 /// A block by kind and id, as in "wire 6".
 #[must_use]
@@ -39,29 +40,41 @@ pub fn count(count: usize, one: &str, more: &str) -> String {
     }
 }
 
-/// Ids, three or more in a row as "2 to 6".
-#[must_use]
-pub fn ids(of: impl IntoIterator<Item = ComponentId>) -> String {
-    let mut sorted: Vec<u32> = of.into_iter().map(|it| it.0).collect();
+/// An id as a block's name where the block is on the plot, else as text.
+pub fn id(line: Line, plot: &Plot, id: ComponentId) -> Line {
+    match plot.block(id) {
+        Some(_) => line.block((id, id.0.to_string())),
+        None => line.and(id.0.to_string()),
+    }
+}
+
+/// Goes on with ids, three or more in a row as "2 to 6".
+pub fn ids(line: Line, of: impl IntoIterator<Item = ComponentId>) -> Line {
+    let mut sorted: Vec<ComponentId> = of.into_iter().collect();
     sorted.sort_unstable();
-    let rows = sorted.chunk_by(|a, b| a.checked_add(1) == Some(*b));
-    let rows = rows.map(|row| match row {
-        [first, _, .., last] => format!("{first} to {last}"),
-        [first, second] => format!("{first}, {second}"),
-        [one] => one.to_string(),
-        [] => String::new(),
-    });
-    rows.collect::<Vec<_>>().join(", ")
+    let rows = sorted.chunk_by(|a, b| a.0.checked_add(1) == Some(b.0));
+    let name = |id: ComponentId| (id, id.0.to_string());
+    let mut line = line;
+    for (place, row) in rows.enumerate() {
+        line = if place > 0 { line.and(", ") } else { line };
+        line = match row {
+            [first, _, .., last] => line.block(name(*first)).and(" to ").block(name(*last)),
+            few => line.blocks(few.iter().map(|id| name(*id)), ", "),
+        };
+    }
+    line
 }
 
 #[cfg(test)]
 mod tests {
     use super::{capital, count, ids};
+    use crate::told::Line;
     use dustroute::ComponentId;
 
     #[test]
     fn three_ids_in_a_row_are_a_range() {
-        let told = |of: &[u32]| ids(of.iter().map(|id| ComponentId(*id)));
+        let ids = |of: &[u32]| ids(Line::default(), of.iter().map(|id| ComponentId(*id)));
+        let told = |of: &[u32]| ids(of).text();
         assert_eq!(told(&[]), "");
         assert_eq!(told(&[7]), "7");
         assert_eq!(told(&[8, 7]), "7, 8");

@@ -8,15 +8,18 @@ use crate::terms;
 use crate::told::{Line, Section, Tone};
 
 /// What a region's blocks are, as in "wires 2 to 6".
-fn members(plot: &Plot, blocks: &[ComponentId]) -> String {
+fn members(plot: &Plot, blocks: &[ComponentId]) -> Line {
     let kinds = blocks.iter().filter_map(|id| plot.block(*id));
     let mut kinds: Vec<BlockKind> = kinds.map(|it| it.kind).collect();
     kinds.sort_unstable();
     kinds.dedup();
     match (blocks, kinds.as_slice()) {
-        ([one], _) => named(plot, *one).1,
-        (_, [kind]) => format!("{} {}", terms::kinds(*kind), ids(blocks.iter().copied())),
-        _ => format!("blocks {}", ids(blocks.iter().copied())),
+        ([one], _) => Line::default().block(named(plot, *one)),
+        (_, [kind]) => {
+            let line = Line::plain(format!("{} ", terms::kinds(*kind)));
+            ids(line, blocks.iter().copied())
+        }
+        _ => ids(Line::plain("blocks "), blocks.iter().copied()),
     }
 }
 
@@ -38,12 +41,8 @@ pub fn lights(marked: &Marked, step: &Step) -> (Tone, &'static str) {
 /// A region without its number.
 #[must_use]
 pub fn region(marked: &Marked, step: &Step) -> Line {
-    let name = members(&marked.plot, &step.blocks);
-    let line = match step.blocks.as_slice() {
-        [one] => Line::default().block((*one, name)),
-        _ => Line::plain(name),
-    };
     let (tone, text) = lights(marked, step);
+    let line = members(&marked.plot, &step.blocks);
     let line = line.and(": ").verdict(tone, text);
     let found = marked.liveness.regions.get(step.region);
     let line = match found {
@@ -59,6 +58,18 @@ pub fn region(marked: &Marked, step: &Step) -> Line {
     }
 }
 
+/// How many regions there are, and how many of them have a ring.
+#[must_use]
+pub fn title(marked: &Marked) -> String {
+    let rings = marked.rings.rings.iter().filter(|has| **has).count();
+    let with = match rings {
+        0 => "none with a ring".to_string(),
+        rings => format!("{rings} with a ring"),
+    };
+    let regions = count(marked.rings.rings.len(), "region", "regions");
+    format!("Regions, in the order in which to light them: {regions}, {with}")
+}
+
 pub fn section(marked: &Marked) -> Section {
     let steps = marked.lighting.steps();
     let lines = steps.map(|step| {
@@ -67,15 +78,8 @@ pub fn section(marked: &Marked) -> Section {
         line.parts.insert(0, crate::told::Part::Plain(number));
         line
     });
-    let lines: Vec<Line> = lines.collect();
-    let rings = marked.rings.rings.iter().filter(|has| **has).count();
-    let with = match rings {
-        0 => "none with a ring".to_string(),
-        rings => format!("{rings} with a ring"),
-    };
-    let regions = count(lines.len(), "region", "regions");
     Section {
-        title: format!("Regions, in the order in which to light them: {regions}, {with}"),
-        lines,
+        title: title(marked),
+        lines: lines.collect(),
     }
 }
