@@ -1,26 +1,29 @@
-//! The old server's types turned into this crate's, and both its calls made
-//! the old way and the new. The old server knows the first year's rules, so the
-//! new calls are made by these. To be copied and changed.
+//! The old server's types turned into this crate's, and a plot marked the old way,
+//! by three calls, and the new, by one: no port is found or written down by the
+//! server. The old server knows the first year's rules, so the plot is marked by
+//! these. To be copied and changed.
 //!
 //!     cargo run --offline --example old_server
 
 use std::collections::BTreeSet;
 use std::error::Error;
+use std::iter::zip;
 
 use dustroute_physical as physical;
 use dustroute_translate::{SignalLivenessReport, analyze_signal_liveness};
 
 use dustroute::{
     BlockKind, Component, ComponentId, ComponentLiveness, Connection, ConnectionKind, Facing,
-    Groups, Liveness, PortConnection, PortRef, Position, RequiredInput, RequiredInputStatus, Rules,
-    SignalSource, SignalSourceKind, TransferKind,
+    Groups, Mark, PortRef, Position, Rules, Scene,
 };
 
 type Failure = Box<dyn Error>;
 
 /// Ids of the server have 64 bits, ids of the library 32.
 fn id(old: physical::ComponentId) -> Result<ComponentId, Failure> {
-    Ok(ComponentId(u32::try_from(old.0)?))
+    let number = old.0;
+    let id = u32::try_from(number).map_err(|_| format!("the id {number} has more than 32 bits"))?;
+    Ok(ComponentId(id))
 }
 
 const fn position(old: physical::Pos) -> Position {
@@ -105,130 +108,95 @@ fn connection(old: &physical::PhysicalConnection) -> Result<Connection, Failure>
     })
 }
 
-fn port(old: physical::PortRef) -> Result<PortRef, Failure> {
-    Ok(PortRef::new(id(old.component)?, old.port.0))
-}
-
-fn port_connection(old: &physical::PortConnection) -> Result<PortConnection, Failure> {
-    use physical::TransferKind as Old;
-    Ok(PortConnection {
-        source: port(old.source)?,
-        sink: port(old.sink)?,
-        transfer: match old.transfer {
-            Old::DustPropagation => TransferKind::DustPropagation,
-            Old::DirectSignal => TransferKind::DirectSignal,
-            Old::WeakPower => TransferKind::WeakPower,
-            Old::StrongPower => TransferKind::StrongPower,
-            Old::DirectionalDevice => TransferKind::DirectionalDevice,
-            Old::SideControl => TransferKind::SideControl,
-            Old::StructuralSupport => TransferKind::StructuralSupport,
-        },
-    })
-}
-
-/// In place of `VerifiedTopology::from_parts`, which sorts both lists; this
-/// refuses lists that do not ascend.
-pub fn grouped(
+/// The old server's lists. The old calls sort them; the new refuse lists that do not
+/// ascend.
+pub fn scene(
     components: &[physical::PhysicalComponent],
     connections: &[physical::PhysicalConnection],
-) -> Result<Groups, Failure> {
+    observation: &physical::Observation,
+) -> Result<Scene, Failure> {
     let components = components.iter();
     let components = components.map(|old| component(old.id, old.pos, &old.block));
     let connections = connections.iter().map(connection);
-    Ok(dustroute::groups(
-        Rules::One,
-        &components.collect::<Result<Vec<_>, _>>()?,
-        &connections.collect::<Result<Vec<_>, _>>()?,
-    )?)
+    let frontiers = observation.frontier.iter();
+    Ok(Scene {
+        rules: Rules::One,
+        components: components.collect::<Result<_, _>>()?,
+        connections: connections.collect::<Result<_, _>>()?,
+        frontiers: frontiers.map(|old| position(old.position)).collect(),
+    })
 }
 
-/// In place of `analyze_signal_liveness`.
-pub fn analyzed(scene: &physical::PhysicalScene) -> Result<Liveness, Failure> {
-    let components = scene.components.iter();
-    let components = components.map(|old| component(old.id, old.pos, &old.block));
-    let connections = scene.connections.iter().map(port_connection);
-    let frontiers = scene.observation.frontier.iter();
-    let frontiers = frontiers.map(|old| position(old.position));
-    Ok(dustroute::liveness(
-        Rules::One,
-        &components.collect::<Result<Vec<_>, _>>()?,
-        &connections.collect::<Result<Vec<_>, _>>()?,
-        &frontiers.collect::<Vec<_>>(),
-    )?)
-}
-
-/// In place of an assessment's `immediate_sources`.
-pub fn immediate_sources(connections: &[PortConnection], input: PortRef) -> BTreeSet<ComponentId> {
-    let feeds =
-        |it: &&PortConnection| it.sink == input && it.transfer != TransferKind::StructuralSupport;
-    let sources = connections.iter().filter(feeds);
-    sources.map(|it| it.source.component).collect()
-}
-
-/// In place of `drive_sources`.
-pub fn drive_sources(found: &Liveness) -> BTreeSet<ComponentId> {
-    let drives = |it: &&SignalSource| it.kind != SignalSourceKind::InferredPrimaryInput;
-    let sources = found.sources.iter().filter(drives);
-    sources.map(|it| it.component).collect()
-}
-
-/// In place of `undriven_inputs`.
-pub fn undriven_inputs(found: &Liveness) -> Vec<PortRef> {
-    let undriven = |it: &&RequiredInput| match it.status {
-        RequiredInputStatus::Disconnected | RequiredInputStatus::NoKnownSource => true,
-        RequiredInputStatus::DrivenByKnownSource | RequiredInputStatus::AwaitingExternalInput => {
-            false
-        }
-    };
-    let inputs = found.inputs.iter().filter(undriven);
-    inputs.map(|it| it.input).collect()
+/// In place of `VerifiedTopology::from_parts`, `PhysicalScene::from_unvalidated_topology`
+/// and `analyze_signal_liveness`. A refusal is told in words.
+pub fn marked(scene: &Scene) -> Result<Mark, Failure> {
+    let mark = scene.mark();
+    mark.map_err(|refusal| format!("{refusal}: {}", refusal.explain(scene)).into())
 }
 
 fn ids(old: &BTreeSet<physical::ComponentId>) -> Result<BTreeSet<ComponentId>, Failure> {
     old.iter().copied().map(id).collect()
 }
 
-/// Whether what a scene's liveness has in both forms is the same.
-pub fn agree(
-    scene: &physical::PhysicalScene,
-    old: &SignalLivenessReport,
-    new: &Liveness,
-) -> Result<bool, Failure> {
+fn port(old: physical::PortRef) -> Result<PortRef, Failure> {
+    Ok(PortRef::new(id(old.component)?, old.port.0))
+}
+
+/// Whether nets and fragments are the same in both forms.
+pub fn groups_agree(old: &physical::VerifiedTopology, new: &Groups) -> Result<bool, Failure> {
+    let nets = old.nets.iter().map(|it| ids(&it.components));
+    let fragments = old.fragments.iter().map(|it| ids(&it.components));
+    Ok(nets.collect::<Result<Vec<_>, _>>()? == new.nets()
+        && fragments.collect::<Result<Vec<_>, _>>()? == new.fragments())
+}
+
+/// Whether the port connections are.
+pub fn ports_agree(old: &physical::PhysicalScene, new: &Mark) -> Result<bool, Failure> {
+    let mut same = old.connections.len() == new.ports.kept.len();
+    for (old, new) in zip(&old.connections, &new.ports.kept) {
+        same &= port(old.source)? == new.connection.source
+            && port(old.sink)? == new.connection.sink
+            && old.transfer as u8 == new.connection.transfer as u8;
+    }
+    Ok(same)
+}
+
+/// Whether what liveness has in both forms is.
+pub fn liveness_agrees(old: &SignalLivenessReport, new: &Mark) -> Result<bool, Failure> {
+    let found = &new.liveness;
     let reached = |holds: fn(&ComponentLiveness) -> bool| -> BTreeSet<ComponentId> {
-        let some = new.components.iter().filter(|it| holds(it));
+        let some = found.components.iter().filter(|it| holds(it));
         some.map(|it| it.id).collect()
     };
     let undriven = old.undriven_inputs.iter().map(|it| port(it.input));
     Ok(ids(&old.drive_reachable)? == reached(|it| it.drive)
         && ids(&old.potential_drive_reachable)? == reached(|it| it.potential)
-        && ids(&old.drive_sources)? == drive_sources(new)
-        && undriven.collect::<Result<Vec<_>, _>>()? == undriven_inputs(new)
-        && rows_agree(scene, old, new)?)
+        && ids(&old.drive_sources)? == found.drive_sources()
+        && found
+            .undriven()
+            .eq(undriven.collect::<Result<Vec<_>, _>>()?)
+        && rows_agree(old, new)?)
 }
 
 /// Regions, sources and required inputs, one by one.
-fn rows_agree(
-    scene: &physical::PhysicalScene,
-    old: &SignalLivenessReport,
-    new: &Liveness,
-) -> Result<bool, Failure> {
-    let connections = scene.connections.iter().map(port_connection);
-    let connections = connections.collect::<Result<Vec<_>, _>>()?;
-    let mut same = old.directed_regions.len() == new.regions.len()
-        && old.sources.len() == new.sources.len()
+fn rows_agree(old: &SignalLivenessReport, new: &Mark) -> Result<bool, Failure> {
+    let found = &new.liveness;
+    let mut same = old.directed_regions.len() == found.regions.len()
+        && old.sources.len() == found.sources.len()
         && old.required_input_assessments.len() == new.inputs.len();
-    let regions = new.regions.iter().zip(new.region_members());
-    for (old, (region, members)) in old.directed_regions.iter().zip(regions) {
+    let regions = zip(&found.regions, found.region_members());
+    for (old, (region, members)) in zip(&old.directed_regions, regions) {
         same &= ids(&old.components)? == members
             && [old.cyclic, old.contains_drive_source] == [region.cyclic, region.has_drive];
     }
-    for (old, new) in old.sources.iter().zip(&new.sources) {
+    for (old, new) in zip(&old.sources, &found.sources) {
         same &= id(old.component)? == new.component && old.kind as u8 == new.kind as u8;
     }
-    for (old, new) in old.required_input_assessments.iter().zip(&new.inputs) {
+    for (old, new) in zip(&old.required_input_assessments, &new.inputs) {
         same &= port(old.input)? == new.input
             && old.status as u8 == new.status as u8
-            && ids(&old.immediate_sources)? == immediate_sources(&connections, new.input);
+            && ids(&old.immediate_sources)? == new.immediate
+            && ids(&old.inferred_primary_inputs)? == new.inferred;
     }
     Ok(same)
 }
@@ -238,17 +206,19 @@ fn rows_agree(
 fn main() -> Result<(), Failure> {
     let components = oracle::lists::components(&[1, 0, 0, 0, 4, 0, 0, 0, 2, 1, 0, 0, 1, 2, 0, 0]);
     let connections = oracle::lists::connections(&[1, 2, 5]);
-
-    let old = physical::VerifiedTopology::from_parts(components.clone(), connections.clone());
-    let new = grouped(&components, &connections)?;
-    println!("nets: old {}, new {}", old.nets.len(), new.net_count);
-
     let observation = oracle::lists::observation(&[]);
-    let scene = physical::PhysicalScene::from_unvalidated_topology(observation, &old);
-    let (old, new) = (analyze_signal_liveness(&scene), analyzed(&scene)?);
+    let new = marked(&scene(&components, &connections, &observation)?)?;
+
+    let topology = physical::VerifiedTopology::from_parts(components, connections);
+    let old = physical::PhysicalScene::from_unvalidated_topology(observation, &topology);
+    let report = analyze_signal_liveness(&old);
+
     for input in &new.inputs {
-        println!("{:?}: {:?}", input.input, input.status);
+        println!("{:?} {}", input.input, input.status);
     }
-    println!("old and new agree: {}", agree(&scene, &old, &new)?);
+    let agree = groups_agree(&topology, &new.groups)?
+        && ports_agree(&old, &new)?
+        && liveness_agrees(&report, &new)?;
+    println!("old and new agree: {agree}");
     Ok(())
 }

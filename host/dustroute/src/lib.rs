@@ -5,10 +5,10 @@
 //! - [`groups`] joins components into nets and fragments.
 //! - [`liveness`] finds regions of signals that feed each other, the sources of
 //!   signals, what they drive, and a verdict for each required input.
-//! - [`ports`] finds the port connections that grouping connections make, and
-//!   whether each climbs.
-//! - [`left_out`] tells of the others why they are none, and [`block_ports`] has the
-//!   ports of a block.
+//! - [`ports`] finds the port connections that grouping connections make, and why the
+//!   others make none; [`block_ports`] has the ports of a block.
+//! - [`mark`] joins all this: from blocks and connections to verdicts and what feeds
+//!   each input, in one value.
 //! - [`driven`] tells of one required input whether it is driven, without the
 //!   rest of the plot; [`input`] tells what feeds it.
 //! - [`trail`] shows the way from a drive source to a driven input, and
@@ -24,11 +24,14 @@
 //!   change of either answer.
 //! - [`read_sheet`] reads the lists of a sheet, [`report`] marks one as the program
 //!   `plotreport` does, and [`convert`] writes it in its other form.
+//! - [`self_test`] marks the paper's worked plots by the library that is linked, for
+//!   the start of a server.
 //!
 //! Each takes the [`Rules`] first, by which year's rules the plot is marked; a sheet
 //! has its own.
 //!
-//! Every list gets an answer or one [`Refusal`] with the place of the fault.
+//! Every list gets an answer or one [`Refusal`] with the place of the fault, which
+//! [`Refusal::explain`] puts in words for the person who sent the plot.
 //! Nothing here panics, and nothing is kept from call to call: every function
 //! may be called from any number of threads at once. A call needs less than
 //! 1 MiB of stack, most of it for the library's own tables.
@@ -79,12 +82,14 @@ pub mod bytes;
 mod clear;
 mod codes;
 mod driven;
+mod explain;
 mod groups;
 mod input;
 mod interface;
 mod light;
 pub mod limits;
 mod liveness;
+mod mark;
 mod numbers;
 mod ports;
 mod reach_table;
@@ -94,15 +99,18 @@ mod rings;
 mod rows;
 mod rules;
 mod scene;
+mod self_test;
 mod sheet;
 mod trail;
 mod what_if;
+mod words;
 mod work;
 
 pub use block::{Channel, Port, Role, block_ports};
 pub use clear::{Cleared, Dropped, Missing, clear};
 pub use codes::{BlockKind, ConnectionKind, Facing, Slope, TransferKind};
 pub use driven::{DrivenInput, driven};
+pub use explain::Given;
 pub use groups::{ComponentGroups, Groups, groups};
 pub use input::{InputSources, input};
 pub use interface::{INTERFACE, interface};
@@ -111,13 +119,15 @@ pub use liveness::{
     ComponentLiveness, Liveness, Region, RequiredInput, RequiredInputStatus, SignalSource,
     SignalSourceKind, liveness,
 };
-pub use ports::{KeptConnection, ports};
+pub use mark::{Mark, MarkedInput, Scene, mark};
+pub use ports::{KeptConnection, Ports, ports};
 pub use reach_table::{ReachTable, reach_table};
 pub use reasons::{LeftOut, Why, left_out};
 pub use refusal::{List, Place, Reason, Refusal};
 pub use rings::{ComponentRegion, Rings, rings};
 pub use rules::Rules;
 pub use scene::{Component, ComponentId, Connection, PortConnection, PortRef, Position};
+pub use self_test::{SelfTestFailure, self_test};
 pub use sheet::{Form, Sheet, convert, read_sheet, report};
 pub use trail::{check_trail, trail};
 pub use what_if::{Change, ChangedInput, Joined, what_if, what_if_joined};

@@ -1,11 +1,13 @@
 //! Regions, sources and verdicts.
 
-use std::collections::BTreeSet;
+use std::collections::{BTreeMap, BTreeSet};
 
 use crate::bytes::{self, Lent, NUMBER, SETS, WORDS};
 use crate::groups::gathered;
 use crate::numbers::{Bytes, at, below, counts, id, lend, port_ref, rows};
-use crate::{Component, ComponentId, PortConnection, PortRef, Position, Refusal, Rules, limits};
+use crate::{
+    Component, ComponentId, PortConnection, PortRef, Position, Refusal, Rules, TransferKind, limits,
+};
 
 /// What is found of an accepted scene.
 #[derive(Clone, Debug, Default, Eq, PartialEq)]
@@ -284,6 +286,70 @@ fn input(&[device, port, status]: &[Bytes; 3]) -> Result<RequiredInput, Refusal>
 }
 
 impl Liveness {
+    /// The components that are drive sources: those of every kind but inferred inputs.
+    ///
+    /// ```
+    /// use dustroute::{
+    ///     BlockKind, Component, ComponentId, Facing, PortConnection, PortRef, Position, Rules,
+    ///     TransferKind, liveness,
+    /// };
+    ///
+    /// // A lever before a repeater, and a repeater for itself.
+    /// let east = |id, x| Component {
+    ///     facing: Some(Facing::East),
+    ///     ..Component::new(ComponentId(id), Position::new(x, 0, 0), BlockKind::Repeater)
+    /// };
+    /// let lever = Component::new(ComponentId(1), Position::new(0, 0, 0), BlockKind::Lever);
+    /// let components = [lever, east(2, 1), east(3, 9)];
+    /// let fed = [PortConnection {
+    ///     source: PortRef::new(ComponentId(1), 1),
+    ///     sink: PortRef::new(ComponentId(2), 1),
+    ///     transfer: TransferKind::DirectSignal,
+    /// }];
+    ///
+    /// let found = liveness(Rules::Three, &components, &fed, &[])?;
+    /// assert_eq!(found.drive_sources(), [ComponentId(1)].into());
+    /// assert!(found.undriven().eq([PortRef::new(ComponentId(3), 1)]));
+    /// assert_eq!(found.immediate(&fed), [[ComponentId(1)].into(), [].into()]);
+    /// # Ok::<(), dustroute::Refusal>(())
+    /// ```
+    #[must_use]
+    pub fn drive_sources(&self) -> BTreeSet<ComponentId> {
+        let drives = |it: &&SignalSource| it.kind != SignalSourceKind::InferredPrimaryInput;
+        let sources = self.sources.iter().filter(drives);
+        sources.map(|it| it.component).collect()
+    }
+
+    /// The required inputs that nothing drives or would drive, in order: those that
+    /// are disconnected, and those whose feed no source reaches.
+    pub fn undriven(&self) -> impl Iterator<Item = PortRef> {
+        let undriven = |it: &&RequiredInput| {
+            matches!(
+                it.status,
+                RequiredInputStatus::Disconnected | RequiredInputStatus::NoKnownSource
+            )
+        };
+        self.inputs.iter().filter(undriven).map(|it| it.input)
+    }
+
+    /// What feeds each required input, in their order: the components whose
+    /// connections, of those given, go to it, supports left out.
+    #[must_use]
+    pub fn immediate(&self, connections: &[PortConnection]) -> Vec<BTreeSet<ComponentId>> {
+        let mut feeds: BTreeMap<PortRef, BTreeSet<ComponentId>> = BTreeMap::new();
+        for it in connections {
+            if it.transfer != TransferKind::StructuralSupport {
+                feeds
+                    .entry(it.sink)
+                    .or_default()
+                    .insert(it.source.component);
+            }
+        }
+        let each = self.inputs.iter();
+        each.map(|it| feeds.get(&it.input).cloned().unwrap_or_default())
+            .collect()
+    }
+
     /// The members of each region.
     #[must_use]
     pub fn region_members(&self) -> Vec<BTreeSet<ComponentId>> {

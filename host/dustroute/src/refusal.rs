@@ -64,6 +64,7 @@ impl fmt::Display for List {
 
 /// What is wrong. The numbers are those of sheets, reports and the C header.
 #[derive(Clone, Copy, Debug, Eq, Hash, Ord, PartialEq, PartialOrd)]
+#[non_exhaustive]
 pub enum Reason {
     /// 1: a list over its limit, or not whole records (which only
     /// [bytes](crate::bytes) can be).

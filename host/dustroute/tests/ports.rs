@@ -8,8 +8,8 @@
 mod typed;
 
 use dustroute::{
-    Component, ComponentId, KeptConnection, List, Place, Position, Refusal, Rules, Slope,
-    TransferKind, liveness, ports,
+    Component, ComponentId, KeptConnection, List, Place, Ports, Position, Refusal, Rules, Slope,
+    TransferKind, left_out, liveness, ports,
 };
 use scenes::damage::{pair, single};
 use scenes::random::Random;
@@ -69,14 +69,16 @@ impl Asked {
             given,
             refusals::ports(RULES.number(), components, connections, usize::MAX),
         ) {
-            (Ok(kept), None) => {
+            (Ok(found), None) => {
+                let kept = &found.kept;
                 let wanted = paper::ports(RULES.number(), components, connections);
                 let wanted = paper::sloped(components, &wanted);
                 let rows: Vec<[i64; 6]> = kept.iter().map(numbers).collect();
                 assert_eq!(rows, wanted, "{case}{scene}");
                 self.connections += lists.connections.len() as u64;
                 kept.iter().for_each(|it| self.kept[it.slope as usize] += 1);
-                hold_kept(&lists, &kept, case);
+                hold_kept(&lists, kept, case);
+                hold_parted(&lists, &found, case);
             }
             (Err(refusal), Some(wanted)) => {
                 let wanted = [wanted.number, wanted.list, wanted.item];
@@ -104,6 +106,23 @@ fn hold_kept(lists: &Lists, kept: &[KeptConnection], case: &str) {
     let fed: Vec<_> = kept.iter().map(|it| it.connection).collect();
     let taken = liveness(RULES, &lists.components, &fed, &[]);
     assert_eq!(taken.err(), None, "{case}");
+}
+
+/// Each connection given is kept or left out, at its place.
+fn hold_parted(lists: &Lists, found: &Ports, case: &str) {
+    let ends = |item: usize| lists.connections.get(item).map(|it| [it.source, it.sink]);
+    for it in &found.kept {
+        let kept = [it.connection.source, it.connection.sink].map(|end| end.component);
+        assert_eq!(ends(it.item), Some(kept), "{case}");
+    }
+    let left_out = left_out(RULES, &lists.components, &lists.connections);
+    assert_eq!(left_out.as_ref(), Ok(&found.left_out), "{case}");
+    let kept = found.kept.iter().map(|it| it.item);
+    let mut items: Vec<usize> = kept
+        .chain(found.left_out.iter().map(|it| it.item))
+        .collect();
+    items.sort_unstable();
+    assert!(items.into_iter().eq(0..lists.connections.len()), "{case}");
 }
 
 /// Number, list and item, as the table has them.

@@ -114,7 +114,7 @@ impl Asked {
         let found = left_out(rules, components, connections);
         let kept = ports(rules, components, connections);
         let (found, kept) = match (found, kept) {
-            (Ok(found), Ok(kept)) => (found, kept),
+            (Ok(found), Ok(ports)) => (found, ports.kept),
             (found, kept) => {
                 assert!(found.is_err(), "{case}");
                 assert_eq!(found.err(), kept.err(), "{case}");

@@ -223,8 +223,7 @@ fn of_the_examples_the_loop_alone() -> Result<(), Box<dyn Error>> {
         }
         let found = if name.ends_with(".sheet") {
             let sheet = read_sheet(&fs::read(path)?)?;
-            let kept = ports(sheet.rules, &sheet.components, &sheet.connections)?;
-            let fed: Vec<PortConnection> = kept.into_iter().map(|it| it.connection).collect();
+            let fed = ports(sheet.rules, &sheet.components, &sheet.connections)?.connections();
             rings(sheet.rules, &sheet.components, &fed, &sheet.frontiers)
         } else {
             let text = fs::read_to_string(path)?;

@@ -57,11 +57,11 @@ fn kept_connections_are_the_restatement() {
     let (mut scenes, mut kept) = (0_u64, [0; 2]);
     for (lists, scene, case) in plots(1, 60_000) {
         let typed = |rules| match ports(rules, &lists.components, &lists.connections) {
-            Ok(rows) => rows,
+            Ok(found) => found.connections(),
             Err(refusal) => panic!("{case}: {refusal}{scene}"),
         };
         let [before, after] = [Rules::Two, RULES].map(typed);
-        let rows: Vec<[i64; 5]> = after.iter().map(|it| record(&it.connection)).collect();
+        let rows: Vec<[i64; 5]> = after.iter().map(record).collect();
         let wanted = paper::ports(RULES.number(), &scene.components, &scene.connections);
         assert_eq!(rows, wanted, "{case}{scene}");
         assert_eq!(before, typed(Rules::One), "{case}{scene}");
@@ -72,7 +72,7 @@ fn kept_connections_are_the_restatement() {
                 && sink.is_none_or(|kind| kind == BlockKind::Piston)
         };
         let mut wanted = before.clone();
-        wanted.retain(|it| stays(&it.connection));
+        wanted.retain(stays);
         assert_eq!(after, wanted, "{case}{scene}");
         scenes += 1;
         kept = [kept[0] + before.len(), kept[1] + after.len()];
@@ -87,7 +87,7 @@ fn verdicts_are_the_restatement() {
     let (mut calls, mut rows, mut missing) = (0_u64, 0, 0);
     for (lists, mut scene, case) in plots(5, 40_000) {
         let kept = match ports(RULES, &lists.components, &lists.connections) {
-            Ok(kept) => kept.into_iter().map(|it| it.connection).collect(),
+            Ok(found) => found.connections(),
             Err(refusal) => panic!("{case}: {refusal}{scene}"),
         };
         for ports in [kept, lists.ports] {
