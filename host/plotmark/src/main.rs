@@ -1,0 +1,7 @@
+//! The program `plotmark`.
+
+use std::process::ExitCode;
+
+fn main() -> ExitCode {
+    plotmark::run::main()
+}

@@ -1,0 +1,158 @@
+//! Connections as they are drawn.
+
+use dustroute::Facing;
+
+use super::block::has_sign;
+use super::layers::{BETWEEN, HEIGHT, Layer, Spot, WIDTH, direction};
+use super::links::{Cross, Link, Links, Place};
+use super::shapes::{self, Point};
+use crate::html::Html;
+use crate::plot::Marked;
+use crate::terms::opposite;
+
+/// How far from the middle of a side stands what leads to another layer, and a cross.
+const ABOVE: i32 = -13;
+const BELOW: i32 = 13;
+const ASIDE: i32 = 25;
+
+/// What an arrow leaves free at a block, and at a sign.
+const FREE: i32 = 2;
+const SIGN: i32 = 10;
+
+/// Draws all that begins or ends in a layer.
+pub fn draw(html: &mut Html, marked: &Marked, links: &Links, layer: &Layer) {
+    for ((first, second, face), link) in &links.arrows {
+        if let (Some(a), Some(b)) = (layer.spots.get(first), layer.spots.get(second)) {
+            let free = |id, face| {
+                if has_sign(&marked.inputs, id, face) {
+                    SIGN
+                } else {
+                    FREE
+                }
+            };
+            let a = off(*a, *face, 0, free(*first, *face));
+            let back = opposite(*face);
+            let b = off(*b, back, 0, free(*second, back));
+            titled(html, "arrow", &link.said, |html| {
+                arrow(html, link, a, b, *face)
+            });
+        }
+    }
+    for ((id, face, is_above), link) in &links.stubs {
+        if let Some(spot) = layer.spots.get(id) {
+            let class = if *is_above {
+                "stub above"
+            } else {
+                "stub below"
+            };
+            titled(html, class, &link.said, |html| {
+                stub(html, link, *spot, *face, *is_above)
+            });
+        }
+    }
+    for ((id, face), link) in &links.uprights {
+        if let Some(spot) = layer.spots.get(id) {
+            titled(html, "upright", &link.said, |html| {
+                upright(html, link, *spot, *face)
+            });
+        }
+    }
+    for (place, cross) in &links.crosses {
+        if let Some(spot) = layer.spots.get(&place.0) {
+            let along = if is_free(links, *place) { 0 } else { ASIDE };
+            left_out(html, cross, *place, *spot, along);
+        }
+    }
+}
+
+/// Whether no arrow is drawn on the side on which a cross stands.
+fn is_free(links: &Links, (id, side): Place) -> bool {
+    let arrows = links.arrows.keys();
+    let mut here = arrows.filter(|it| it.0 == id && Some(it.2) == side);
+    here.next().is_none()
+}
+
+fn titled(html: &mut Html, class: &str, said: &[String], inside: impl FnOnce(&mut Html)) {
+    html.within("g", &[("class", &class), ("role", &"img")], |html| {
+        html.saying("title", &[], &said.join("\n"));
+        inside(html);
+    });
+    html.line();
+}
+
+/// A point so far along a side from its middle, and so far off the block.
+fn off(spot: Spot, face: Facing, along: i32, out: i32) -> Point {
+    let ((x, y), (dx, dy)) = (spot.on(face, along), direction(face));
+    (x + dx * out, y + dy * out)
+}
+
+const fn turned((dx, dy): Point) -> Point {
+    (-dx, -dy)
+}
+
+fn arrow(html: &mut Html, link: &Link, a: Point, b: Point, face: Facing) {
+    let (dx, dy) = direction(face);
+    let shorter = |(x, y): Point, by: i32| (x + dx * by, y + dy * by);
+    let from = if link.back { shorter(a, 4) } else { a };
+    let to = if link.out { shorter(b, -4) } else { b };
+    shapes::line(html, "shaft", from, to);
+    if link.out {
+        shapes::head(html, "head", b, (dx, dy));
+    }
+    if link.back {
+        shapes::head(html, "head", a, turned((dx, dy)));
+    }
+}
+
+/// To or from the layer above or below: a head at the block, and which layer behind it.
+fn stub(html: &mut Html, link: &Link, spot: Spot, face: Facing, is_above: bool) {
+    let along = if is_above { ABOVE } else { BELOW };
+    let way = direction(face);
+    if link.out {
+        shapes::head(html, "head", off(spot, face, along, 7), way);
+    }
+    if link.back {
+        shapes::head(html, "head", off(spot, face, along, 1), turned(way));
+    }
+    let (x, y) = off(spot, face, along, 10);
+    let up = if is_above { -1 } else { 1 };
+    shapes::head(html, "to", (x, y + 3 * up), (0, up));
+}
+
+/// Straight up or down: at the block's upper or lower edge.
+fn upright(html: &mut Html, link: &Link, spot: Spot, face: Facing) {
+    let up = if face == Facing::Up { -1 } else { 1 };
+    let edge = if face == Facing::Up {
+        spot.y
+    } else {
+        spot.y + HEIGHT
+    };
+    let x = spot.x + 13;
+    if link.out {
+        shapes::head(html, "to", (x, edge + 8 * up), (0, up));
+    }
+    if link.back {
+        let x = if link.out { x + 9 } else { x };
+        shapes::head(html, "to", (x, edge + 2 * up), (0, -up));
+    }
+}
+
+/// A red cross, or a grey one where only support is left out; it leads to its line.
+fn left_out(html: &mut Html, cross: &Cross, (id, side): Place, spot: Spot, along: i32) {
+    let class = if cross.matters {
+        "left-out"
+    } else {
+        "left-out support"
+    };
+    let at = match side {
+        Some(face) => off(spot, face, along, BETWEEN / 2),
+        None => (spot.x + WIDTH, spot.y + HEIGHT),
+    };
+    let line = format!("#line{}", cross.line);
+    let said = format!("block {}: {}", id.0, cross.said.join("\n"));
+    html.within("a", &[("href", &line), ("class", &class)], |html| {
+        html.saying("title", &[], &said);
+        shapes::cross(html, cross.gone, at);
+    });
+    html.line();
+}

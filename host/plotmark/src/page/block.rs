@@ -1,0 +1,218 @@
+//! A block of the picture.
+
+use dustroute::{
+    Component, ComponentId, Facing, RequiredInputStatus, SignalSource, SignalSourceKind,
+};
+
+use super::layers::{HEIGHT, Spot, WIDTH};
+use super::shapes::{self, State};
+use crate::html::Html;
+use crate::plot::{Input, Marked};
+use crate::terms;
+use crate::words;
+
+/// What is found of a block.
+pub struct Found<'a> {
+    pub block: &'a Component,
+    pub state: State,
+    pub net: usize,
+    pub fragment: usize,
+    pub region: usize,
+    pub sources: Vec<&'a SignalSource>,
+    pub inputs: Vec<&'a Input>,
+}
+
+impl<'a> Found<'a> {
+    /// Of the block at a place of the list.
+    pub fn at(marked: &'a Marked, place: usize) -> Option<Self> {
+        let block = marked.plot.sheet.components.get(place)?;
+        let alive = marked.liveness.components.get(place)?;
+        let groups = marked.groups.components.get(place)?;
+        let state = match (alive.drive, alive.potential) {
+            (true, _) => State::Driven,
+            (false, true) => State::Would,
+            (false, false) => State::Not,
+        };
+        let sources = marked.liveness.sources.iter();
+        let inputs = marked.inputs.iter();
+        Some(Self {
+            block,
+            state,
+            net: groups.net,
+            fragment: groups.fragment,
+            region: alive.region,
+            sources: sources.filter(|it| it.component == block.id).collect(),
+            inputs: inputs.filter(|it| it.port.component == block.id).collect(),
+        })
+    }
+
+    fn is_place(&self) -> bool {
+        let kinds = self.sources.iter().map(|it| it.kind);
+        kinds
+            .into_iter()
+            .all(|it| it == SignalSourceKind::InferredPrimaryInput)
+    }
+
+    /// All of it in a sentence, for who cannot see or points at it.
+    pub fn said(&self, marked: &Marked) -> String {
+        let (id, block) = (self.block.id, self.block);
+        let (_, name) = words::named(&marked.plot, id);
+        let mut said = format!("{name} at {}", words::at(&marked.plot, id));
+        if let (true, Some(face)) = (terms::turns(block.kind), block.facing) {
+            said += &format!(", faces {}", terms::face(face));
+        }
+        if let Some(blank) = terms::blank(marked.plot.sheet.rules, block) {
+            said += &format!(", {blank}");
+        }
+        said += &format!("; {}; region {}", self.state.said(), self.region);
+        said += &format!(", net {}, fragment {}", self.net, self.fragment);
+        for source in &self.sources {
+            said += &format!("; {}", terms::source(source.kind));
+        }
+        for input in &self.inputs {
+            let side = words::side(&marked.plot, input);
+            said += &format!("; its input {side} {}", terms::status(input.status));
+        }
+        said
+    }
+}
+
+/// The name by which a page links to a block.
+pub fn anchor(id: ComponentId) -> String {
+    format!("b{}", id.0)
+}
+
+/// Draws a block where it belongs.
+pub fn draw(html: &mut Html, marked: &Marked, found: &Found<'_>, spot: Spot) {
+    let id = found.block.id;
+    let unread = marked.plot.sheet.rules.leaves_unread(found.block);
+    let class = format!(
+        "block {}{}",
+        found.state.class(),
+        if unread { " unread" } else { "" }
+    );
+    let lights = u8::from(found.state == State::Driven);
+    let attributes: &[(&str, &dyn std::fmt::Display)] = &[
+        ("class", &class),
+        ("id", &anchor(id)),
+        ("role", &"img"),
+        ("data-region", &found.region),
+        ("data-lights", &lights),
+    ];
+    html.within("g", attributes, |html| {
+        html.saying("title", &[], &found.said(marked));
+        let (x, y) = (spot.x, spot.y);
+        html.empty(
+            "rect",
+            &[
+                ("x", &x),
+                ("y", &y),
+                ("width", &WIDTH),
+                ("height", &HEIGHT),
+                ("rx", &5),
+            ],
+        );
+        label(
+            html,
+            "kind",
+            (x + WIDTH / 2, y + 21),
+            terms::short_kind(found.block.kind),
+        );
+        let digits = id.0.to_string();
+        label(
+            html,
+            id_class(digits.len()),
+            (x + WIDTH / 2, y + 37),
+            &digits,
+        );
+        shapes::lamp(html, found.state, (x + 23, y + 47));
+        label(html, "region", (x + 31, y + 50), &found.region.to_string());
+        facing(html, found, unread, spot);
+        signs(html, found, spot);
+    });
+    html.line();
+}
+
+/// How large an id is written.
+const fn id_class(digits: usize) -> &'static str {
+    match digits {
+        0..=5 => "name",
+        6..=7 => "name long",
+        _ => "name longer",
+    }
+}
+
+fn label(html: &mut Html, class: &str, (x, y): (i32, i32), text: &str) {
+    html.saying("text", &[("class", &class), ("x", &x), ("y", &y)], text);
+}
+
+/// A triangle on the side to which a device faces.
+fn facing(html: &mut Html, found: &Found<'_>, unread: bool, spot: Spot) {
+    if !terms::turns(found.block.kind) {
+        return;
+    }
+    let (x, y) = (spot.x, spot.y);
+    if unread {
+        return label(html, "faces", (x + 11, y + 9), "?");
+    }
+    let class = if found.block.facing.is_some() {
+        "faces"
+    } else {
+        "faces taken"
+    };
+    match found.block.facing.unwrap_or(Facing::North) {
+        Facing::North => shapes::head(html, class, (x + 12, y + 3), (0, -1)),
+        Facing::East => shapes::head(html, class, (x + WIDTH - 3, y + 49), (1, 0)),
+        Facing::South => shapes::head(html, class, (x + 12, y + HEIGHT - 3), (0, 1)),
+        Facing::West => shapes::head(html, class, (x + 3, y + 49), (-1, 0)),
+        Facing::Up => label(html, "faces", (x + 11, y + 9), "up"),
+        Facing::Down => label(html, "faces", (x + 15, y + 9), "down"),
+    }
+}
+
+/// Sources at the corner, verdicts at their sides.
+fn signs(html: &mut Html, found: &Found<'_>, spot: Spot) {
+    let corner = (spot.x + WIDTH, spot.y);
+    if !found.sources.is_empty() {
+        if found.is_place() {
+            html.empty(
+                "circle",
+                &[
+                    ("class", &"place"),
+                    ("cx", &corner.0),
+                    ("cy", &corner.1),
+                    ("r", &7),
+                ],
+            );
+            label(html, "place", (corner.0, corner.1 + 4), "?");
+        } else {
+            shapes::star(html, corner);
+        }
+    }
+    for input in &found.inputs {
+        shapes::disc(html, input.status, spot.on(input.face, 0));
+    }
+}
+
+/// Whether an input's sign stands on a side.
+pub fn has_sign(inputs: &[Input], id: ComponentId, face: Facing) -> bool {
+    let mut here = inputs.iter().filter(|it| it.port.component == id);
+    here.any(|it| it.face == face)
+}
+
+/// The verdicts, with what their signs mean.
+pub const VERDICTS: [(RequiredInputStatus, &str); 4] = [
+    (
+        RequiredInputStatus::DrivenByKnownSource,
+        "its input is driven",
+    ),
+    (
+        RequiredInputStatus::AwaitingExternalInput,
+        "waits for an input from outside",
+    ),
+    (RequiredInputStatus::Disconnected, "nothing is connected"),
+    (
+        RequiredInputStatus::NoKnownSource,
+        "connected, but nothing drives it",
+    ),
+];
