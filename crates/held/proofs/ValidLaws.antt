@@ -32,7 +32,7 @@ use Rattle.held.specs.Tests.{any, every, distinct, same_numbers}
 use Rattle.held.specs.Plot.{Record, Place, free, taken, blocks, id_of, source_of, sink_of, is_present, ends_present, fits, opening}
 use Rattle.held.specs.Left.{is_accepted, same_id, valid_places, valid_freed, valid_connections, valid}
 use Rattle.held.specs.Lent.{Lent, flat, record_at, counter, used_in, freed_count_in, held_in, frontier_count_in, freed_places_in, place_in, plot_in, Roomy, has_room, counts_fit, is_blank, tidy, lent_valid}
-use Rattle.held.specs.Inspected.{Counts, zero_behind, opens_with, both_ends, connections_pass, stand_pass, blocks_in, held_part, Frame, Parts, Marks, marked_place}
+use Rattle.held.specs.Inspected.{Standing, Counts, zero_behind, opens_with, both_ends, connections_pass, stand_pass, blocks_in, held_part, Frame, Parts, Marks, marked_place}
 use Rattle.held.proofs.Lists.{true_not_false, every_member, member_every}
 use Rattle.held.proofs.Places.{not_both, same_block, taken_below, present_at, present_found}
 use Rattle.held.proofs.Sound.{freed_of, of_freed, from_all}
@@ -447,3 +447,18 @@ pub last_part : (lent : Lent) (r : Bool) → Frame lent
     → every (is_blank lent.places) (freed_places_in lent.state) ≡ true → r ≡ stand_pass (blocks_in lent) (held_part lent) → r ≡ lent_valid lent
 last_part lent true f d b e = sym (of_parts lent (record { frame = f; freed = d; blank = b; stand = sym e }))
 last_part lent false f d b e = sym (part_fails lent (λ p. true_not_false (sym p.stand ∙ sym e)))
+
+-- ---- what is answered
+
+pub none_some : {X : Type 0} {n : ℕ} → ◌≡◌ {A = Option ℕ} None (Some n) → X
+none_some e = let z : ◌≡◌ {A = ℕ} 0 1 = cc in absurd (omega arith)
+
+pub some_is : {m n : ℕ} → ◌≡◌ {A = Option ℕ} (Some m) (Some n) → m ≡ n
+some_is e = cc
+
+-- the slices cannot be left: no blocks
+pub strange : (lent : Lent) {out : List ℤ} → (Parts lent → ⊥) → Standing lent out None
+strange lent n = record { left = sym (part_fails lent n); blocks_are = λ n e. none_some e }
+
+pub frame_of : (lent : Lent) → Frame lent → Roomy lent × Counts lent.state
+frame_of lent f = (room_of lent f.room, counts_of lent.state f.counts)

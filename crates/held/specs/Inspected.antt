@@ -1,6 +1,6 @@
 -- What the functions that look for number 18 hand to each other.
 -- Assumes nothing: these are definitions.
-use Rattle.std.specs.Prelude.{ℕ, ◌+◌, ◌*◌, ◌≤◌, ◌<◌, ◌≡◌, Bool, true, false, not, cond, ◌&&◌, List, length, get_or, take, drop, eqb, ltb, ℤ}
+use Rattle.std.specs.Prelude.{Option, Some, ℕ, ◌+◌, ◌*◌, ◌≤◌, ◌<◌, ◌≡◌, Bool, true, false, not, cond, ◌&&◌, List, length, get_or, take, drop, eqb, ltb, ℤ}
 use Rattle.std.proofs.Math.Seq.{paste}
 use Rattle.tables.specs.Order.{member}
 use Rattle.lists.specs.Limits.{component_limit, connection_limit, frontier_limit, component_width, port_width, frontier_width}
@@ -11,7 +11,7 @@ use Rattle.lists.specs.Ids.{has_component, first_repeated, IdTable}
 use Rattle.lists.specs.First.{tabulate, is_found, all_from}
 use Rattle.held.specs.Tests.{every, distinct, same_numbers}
 use Rattle.held.specs.Plot.{Place, free, taken, blocks, present}
-use Rattle.held.specs.Lent.{Lent, flat, counts_width, record_at, used_in, freed_count_in, held_in, frontier_count_in, freed_places_in, zeros_from, is_blank, has_room, counts_fit, counter, plot_in}
+use Rattle.held.specs.Lent.{Lent, flat, counts_width, record_at, used_in, freed_count_in, held_in, frontier_count_in, freed_places_in, zeros_from, is_blank, has_room, counts_fit, counter, plot_in, lent_valid}
 
 -- the four slices
 abbrev pub lent_of : List ℕ → List ℤ → List ℤ → List ℤ → Lent
@@ -86,6 +86,11 @@ blocks_in lent = flat (blocks (plot_in lent).places)
 
 abbrev pub held_part : Lent → List ℤ
 held_part lent = take (held_in lent.state * port_width) lent.connections
+
+-- slices that can be left, and the blocks that stand at the front of a list
+pub record Standing (lent : Lent) (out : List ℤ) (r : Option ℕ) : Type 0 where
+  pub left : is_found r ≡ lent_valid lent
+  pub blocks_are : (n : ℕ) → r ≡ Some n → take n out ≡ blocks_in lent
 
 -- room, counts, zeros and what was opened
 pub record Frame (lent : Lent) : Type 0 where

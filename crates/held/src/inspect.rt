@@ -9,7 +9,7 @@ ghost use Rattle.held.specs.Tests.{any, every, distinct, same_numbers};
 ghost use Rattle.held.specs.Lent.{record_at, is_zero, is_blank, freed_count_in, freed_places_in, counts_width};
 ghost use Rattle.held.specs.Lent.{Roomy, has_room, counts_fit, lent_valid};
 ghost use Rattle.held.specs.Inspected.{lent_of, FreedMarked, GatheredOne, Gathered, Counts, zero_behind, opens_with};
-ghost use Rattle.held.specs.Inspected.{BlocksChecked, both_ends, connections_pass, FrameFits, stand_pass};
+ghost use Rattle.held.specs.Inspected.{BlocksChecked, both_ends, connections_pass, FrameFits, stand_pass, Standing};
 
 use super::writes::{COUNTS, FREED, FRONTIERS_AT, HELD, RULES_AT, USED, put_numbers};
 use checks::ranges::{COMPONENT_RANGES, FRONTIER_RANGES, PORT_RANGES};
@@ -286,23 +286,42 @@ fn stand_pass(blocks: &[i64], connections: &[i64]) -> bool
     connections_pass(keys, connections)
 }
 
-// Whether an opening and clicks can leave these slices. If not they are refused with 18.
-pub fn is_left(state: &[usize], frontiers: &[i64], places: &[i64], connections: &[i64]) -> bool
-    ensures { result ≡ lent_valid (lent_of state.now frontiers.now places.now connections.now) }
+// Where an opening and clicks can leave these slices, the numbers of the blocks that stand are laid at the front of `blocks`, by rising
+// place, and this is how many numbers they are.
+pub fn standing(
+    state: &[usize],
+    frontiers: &[i64],
+    places: &[i64],
+    connections: &[i64],
+    blocks: &mut [i64],
+) -> Option<usize>
+    requires { component_limit * component_width ≤ length blocks.old }
+    ensures { Standing (lent_of state.now frontiers.now places.now connections.now) blocks.new result }
 {
     if !frame_fits(state, frontiers, places, connections) {
-        return false;
+        return None;
     }
     let used = state[USED];
     let mut marks = [false; COMPONENTS];
     if !mark_freed(state, used, &mut marks) {
-        return false;
+        return None;
     }
     if !blanks(state, places, used) {
-        return false;
+        return None;
     }
-    let mut blocks = [0i64; COMPONENTS * COMPONENT];
-    let numbers = gather(places, &marks, used, &mut blocks) * COMPONENT;
+    let numbers = gather(places, &marks, used, blocks) * COMPONENT;
     let held = state[HELD] * PORT;
-    stand_pass(&blocks[..numbers], &connections[..held])
+    if stand_pass(&blocks[..numbers], &connections[..held]) {
+        Some(numbers)
+    } else {
+        None
+    }
+}
+
+// Whether an opening and clicks can leave these slices. If not they are refused with 18.
+pub fn is_left(state: &[usize], frontiers: &[i64], places: &[i64], connections: &[i64]) -> bool
+    ensures { result ≡ lent_valid (lent_of state.now frontiers.now places.now connections.now) }
+{
+    let mut blocks = [0i64; COMPONENTS * COMPONENT];
+    standing(state, frontiers, places, connections, &mut blocks).is_some()
 }

@@ -1,8 +1,8 @@
 -- Answers for the goals that the search leaves.
-use mathlib.Core.Path.{◌≡◌, sym, ap, ◌∙◌}
+use mathlib.Core.Path.{◌≡◌, sym, ap, subst, ◌∙◌}
 use mathlib.Core.Bool.{true}
 use mathlib.Core.List.{List}
-use Prim.Native.Nat.{◌*◌, ◌≤◌}
+use Prim.Native.Nat.{ℕ, ◌*◌}
 use native.Mathlib.Omega.{arith}
 use lib.Dec.{eqb}
 use lib.ListN.{length, take}
@@ -10,13 +10,14 @@ use lib.Seq.{length-take-le}
 use lib.IntN.{ℤ}
 use Rattle.lists.proofs.Search.{both}
 use Rattle.held.specs.Tests.{distinct}
-use Rattle.held.specs.Lent.{Lent, Roomy, used_in, held_in, freed_places_in}
-use Rattle.held.specs.Inspected.{lent_of, Counts, Frame, held_part, stand_pass}
+use Rattle.held.specs.Lent.{Lent, Roomy, held_in, freed_places_in}
+use Rattle.held.specs.Lent.{lent_valid}
+use Rattle.held.specs.Inspected.{blocks_in, lent_of, Counts, Frame, held_part, stand_pass}
 use Rattle.held.proofs.Lists.{true_not_false}
 use Rattle.held.proofs.LentLaws.{room_of}
-use Rattle.held.proofs.ValidLaws.{counts_of, part_fails, none_marked, marked_blocks, last_part}
-use Rattle.held.proofs.inspect.is_left.Goals as goal
-use Rattle.held.proofs.inspect.is_left.Goals.{After-frame_fits, After-gather-numbers}
+use Rattle.held.proofs.ValidLaws.{strange, some_is, none_some, frame_of, counts_of, none_marked, marked_blocks, last_part}
+use Rattle.held.proofs.inspect.standing.Goals as goal
+use Rattle.held.proofs.inspect.standing.Goals.{After-frame_fits, After-stand_pass}
 
 -- ---- what the frame says
 
@@ -38,8 +39,7 @@ module _ (c : After-frame_fits) (was : c.frame_fits.result ≡ true) where
 
 pub returns-then-not-frame_fits : goal.returns-then-not-frame_fits
 returns-then-not-frame_fits c =
-    sym (part_fails (lent_of c.args.state.now c.args.frontiers.now c.args.places.now c.args.connections.now)
-    (λ p. c.frame_fits.ensures.fails c.if-not-frame_fits.true p.frame))
+    strange (lent_of c.args.state.now c.args.frontiers.now c.args.places.now c.args.connections.now) (λ p. c.frame_fits.ensures.fails c.if-not-frame_fits.true p.frame)
 
 pub bounds-state-1 : goal.bounds-state-1
 bounds-state-1 c = omega (arith, (roomy (goal.at.bounds-state-1 c).After-frame_fits c.if-not-frame_fits.false).state_room)
@@ -57,8 +57,7 @@ mark_freed-requires-clause-unmarked c = none_marked 1024
 
 pub returns-then-not-mark_freed : goal.returns-then-not-mark_freed
 returns-then-not-mark_freed c =
-    let no = sym c.mark_freed.ensures.answer ∙ c.if-not-mark_freed.true in
-    sym (part_fails (lent_of c.args.state.now c.args.frontiers.now c.args.places.now c.args.connections.now) (λ p. true_not_false (sym p.freed ∙ no)))
+    strange (lent_of c.args.state.now c.args.frontiers.now c.args.places.now c.args.connections.now) (λ p. true_not_false (sym p.freed ∙ (sym c.mark_freed.ensures.answer ∙ c.if-not-mark_freed.true)))
 
 pub blanks-requires-clause-within : goal.blanks-requires-clause-within
 blanks-requires-clause-within c =
@@ -75,8 +74,7 @@ blanks-requires-clause-below c = (both (distinct eqb (freed_places_in c.args.sta
 
 pub returns-then-not-blanks : goal.returns-then-not-blanks
 returns-then-not-blanks c =
-    let no = sym c.blanks.ensures ∙ c.if-not-blanks.true in
-    sym (part_fails (lent_of c.args.state.now c.args.frontiers.now c.args.places.now c.args.connections.now) (λ p. true_not_false (sym p.blank ∙ no)))
+    strange (lent_of c.args.state.now c.args.frontiers.now c.args.places.now c.args.connections.now) (λ p. true_not_false (sym p.blank ∙ (sym c.blanks.ensures ∙ c.if-not-blanks.true)))
 
 pub gather-numbers-requires-clause-within : goal.gather-numbers-requires-clause-within
 gather-numbers-requires-clause-within c =
@@ -98,17 +96,17 @@ bounds-state-3 c = omega (arith, (roomy (goal.at.bounds-state-3 c).After-frame_f
 pub overflow_mul-held : goal.overflow_mul-held
 overflow_mul-held c = omega (arith, (counts (goal.at.overflow_mul-held c).After-frame_fits c.if-not-frame_fits.false).held)
 
-pub slice_bounds-blocks-end : goal.slice_bounds-blocks-end
-slice_bounds-blocks-end c =
-    omega (arith, c.gather-numbers.ensures.few, c.gather-numbers.auto.out, (counts (goal.at.slice_bounds-blocks-end c).After-frame_fits c.if-not-frame_fits.false).used)
-
 pub slice_bounds-stand_pass-end : goal.slice_bounds-stand_pass-end
 slice_bounds-stand_pass-end c =
-    sym (length-take-le _ _
-    (omega (arith, c.gather-numbers.ensures.few, c.gather-numbers.auto.out, (counts (goal.at.slice_bounds-stand_pass-end c).After-frame_fits c.if-not-frame_fits.false).used)))
+    omega (arith, c.gather-numbers.ensures.few, c.gather-numbers.auto.out, (counts (goal.at.slice_bounds-stand_pass-end c).After-frame_fits c.if-not-frame_fits.false).used)
 
 pub slice_bounds-stand_pass-end-2 : goal.slice_bounds-stand_pass-end-2
-slice_bounds-stand_pass-end-2 c = sym (held_long (goal.at.slice_bounds-stand_pass-end-2 c).After-frame_fits c.if-not-frame_fits.false)
+slice_bounds-stand_pass-end-2 c =
+    sym (length-take-le _ _
+    (omega (arith, c.gather-numbers.ensures.few, c.gather-numbers.auto.out, (counts (goal.at.slice_bounds-stand_pass-end-2 c).After-frame_fits c.if-not-frame_fits.false).used)))
+
+pub slice_bounds-stand_pass-end-3 : goal.slice_bounds-stand_pass-end-3
+slice_bounds-stand_pass-end-3 c = sym (held_long (goal.at.slice_bounds-stand_pass-end-3 c).After-frame_fits c.if-not-frame_fits.false)
 
 pub stand_pass-requires : goal.stand_pass-requires
 stand_pass-requires c =
@@ -118,13 +116,28 @@ stand_pass-requires c =
     length-take-le _ _ (omega (arith, c.gather-numbers.ensures.few, c.gather-numbers.auto.out, used)) in
     (omega (arith, long, c.gather-numbers.ensures.few, used), omega (arith, held_long p c.if-not-frame_fits.false, (counts p c.if-not-frame_fits.false).held))
 
-pub returns : goal.returns
-returns c =
-    let p = (goal.at.returns c).After-frame_fits in
-    let l = lent p c.if-not-frame_fits.false in
-    let passed = sym c.mark_freed.ensures.answer ∙ c.if-not-mark_freed.false in
-    let blank = sym c.blanks.ensures ∙ c.if-not-blanks.false in
-    let room : used_in l.state ≤ length c.mark_freed.new.marks = omega (arith, (counts p c.if-not-frame_fits.false).used, c.mark_freed.auto.marks) in
-    let numbers = c.gather-numbers.ensures.numbers ∙ marked_blocks l c.mark_freed.new.marks (c.mark_freed.ensures.marked c.if-not-mark_freed.false) room in
-    last_part l c.stand_pass.result (frame p c.if-not-frame_fits.false) passed blank
-    (c.stand_pass.ensures ∙ ap (λ (t : List ℤ). stand_pass t (held_part l)) numbers)
+-- the test, by what the last part says
+module _ (c : After-stand_pass) where
+  abbrev l : Lent
+  l = lent_of c.args.state.now c.args.frontiers.now c.args.places.now c.args.connections.now
+
+  numbers_are : take (c.gather-numbers.result * 8) c.gather-numbers.new.out ≡ blocks_in l
+  numbers_are =
+      let f = frame_of l (c.frame_fits.ensures.fits c.if-not-frame_fits.false) in
+      c.gather-numbers.ensures.numbers
+      ∙ marked_blocks l c.mark_freed.new.marks (c.mark_freed.ensures.marked c.if-not-mark_freed.false) (omega (arith, f.1.used, c.mark_freed.auto.marks))
+
+  test_is : c.stand_pass.result ≡ lent_valid l
+  test_is =
+      last_part l c.stand_pass.result (c.frame_fits.ensures.fits c.if-not-frame_fits.false) (sym c.mark_freed.ensures.answer ∙ c.if-not-mark_freed.false)
+      (sym c.blanks.ensures ∙ c.if-not-blanks.false) (c.stand_pass.ensures ∙ ap (λ (t : List ℤ). stand_pass t (held_part l)) numbers_are)
+
+pub returns-then-stand_pass : goal.returns-then-stand_pass
+returns-then-stand_pass c =
+    let p = (goal.at.returns-then-stand_pass c).After-stand_pass in
+    record { left = sym c.if-stand_pass.true ∙ test_is p; blocks_are = λ n e. subst (λ (k : ℕ). take k p.gather-numbers.new.out ≡ blocks_in (l p)) (some_is e) (numbers_are p) }
+
+pub returns-else-stand_pass : goal.returns-else-stand_pass
+returns-else-stand_pass c =
+    let p = (goal.at.returns-else-stand_pass c).After-stand_pass in
+    record { left = sym c.if-stand_pass.false ∙ test_is p; blocks_are = λ n e. none_some e }
