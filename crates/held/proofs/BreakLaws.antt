@@ -35,7 +35,8 @@ use Rattle.held.proofs.Sound.{Sound, sound_of_valid}
 use Rattle.held.proofs.Kept.{freed_count}
 use Rattle.held.proofs.Reached.{length_tabulate, get_or_tabulate}
 use Rattle.held.proofs.Flat.{Long, length_flat, zeros_are}
-use Rattle.held.proofs.LentLaws.{Passes, passes, lent_back, slots_long, held_long}
+use Rattle.held.proofs.LentLaws.{Passes, passes, lent_back}
+use Rattle.held.proofs.Shown.{slots_long, held_long}
 use Rattle.held.proofs.SceneLaws.{every_get_or}
 use Rattle.held.proofs.InspectLaws.{and_last}
 use Rattle.held.proofs.WriteLaws.{free_state, free_places}

@@ -24,7 +24,8 @@ use Rattle.held.specs.Lent.{Lent, record_at, held_in, plot_in, laid_state, laid_
 use Rattle.held.specs.Writes.{joined_connections}
 use Rattle.held.proofs.Sound.{sound_of_valid}
 use Rattle.held.proofs.Reached.{length_tabulate}
-use Rattle.held.proofs.LentLaws.{passes, lent_back, fits_long, held_long}
+use Rattle.held.proofs.LentLaws.{passes, lent_back}
+use Rattle.held.proofs.Shown.{fits_long, held_long}
 use Rattle.held.proofs.WriteLaws.{join_state, join_connections}
 use Rattle.held.proofs.EntryLaws.{refusal}
 use Rattle.held.proofs.BreakLaws.{connections_shown}

@@ -35,7 +35,8 @@ use Rattle.held.proofs.InspectLaws.{seen, seen_more, later}
 use Rattle.held.proofs.Sound.{SoundFreed, Sound, sound_of_valid}
 use Rattle.held.proofs.Kept.{freed_count, Placing, placing_accepts}
 use Rattle.held.proofs.Reached.{length_tabulate}
-use Rattle.held.proofs.LentLaws.{Passes, passes, lent_back, fits_long, slots_long}
+use Rattle.held.proofs.LentLaws.{Passes, passes, lent_back}
+use Rattle.held.proofs.Shown.{fits_long, slots_long}
 use Rattle.held.proofs.WriteLaws.{seat_is, seat_state, seat_places}
 
 member_back : (k : ℕ) (xs ys : List ℕ) → member k ys ≡ true → member k (xs ++ ys) ≡ true

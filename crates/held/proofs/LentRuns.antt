@@ -13,7 +13,8 @@ use Rattle.held.specs.Plot.{Plot, opening, opened}
 use Rattle.held.specs.Left.{Click, checks_of, effect_of, left_if, left_by, run, Leavable}
 use Rattle.held.specs.Lent.{Lent, Roomy, LentLeavable, plot_in, has_room, layout, laid_state, laid_frontiers, laid_places, laid_connections, lent_if, lent_answer, lent_after, lent_run, LentReached, LentReaches}
 use Rattle.held.proofs.Theorems.{leavable_sound, left_again}
-use Rattle.held.proofs.LentLaws.{room_of, of_room, plot_back, lent_decides, lent_valid_lem, laid_leavable, long_state, long_frontiers, long_places, long_connections}
+use Rattle.held.proofs.LentLaws.{room_of, of_room, lent_decides, lent_valid_lem, laid_leavable, long_state, long_frontiers, long_places, long_connections}
+use Rattle.held.proofs.Shown.{plot_back}
 use Rattle.held.proofs.OpenLaws.{opening_parts}
 
 module _ (lent : Lent) (r : Roomy lent) where

@@ -40,7 +40,7 @@ use Rattle.held.specs.Scene.{less_by, sorted, SceneAccepted, Fresh}
 use Rattle.held.proofs.Lists.{or_neither, or_cases}
 use Rattle.held.proofs.Places.{present_found}
 use Rattle.held.proofs.Sound.{Sound, at_every, from_all, of_one}
-use Rattle.held.proofs.LentLaws.{fits_long, held_long}
+use Rattle.held.proofs.Shown.{fits_long, held_long}
 use Rattle.held.proofs.Flat.{Long, length_flat, drop_flat}
 use Rattle.held.proofs.Sorting.{every_sorted, any_sorted, sorted_length, sorted_distinct, sorted_rising, rising_at, rising_unique}
 

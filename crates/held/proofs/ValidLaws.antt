@@ -1,7 +1,7 @@
 -- The test of number 18 in the parts in which the code makes it.
 --     places_shown       the places that slices show, free where a place is freed
 --     freed_part, opens_part, blocks-part, connections_part      each part says what `valid` says of it
---     parts_of, of_parts
+--     present_part       an id is present exactly if the blocks have it
 -- Assumes nothing.
 use Rattle.std.specs.Prelude.{Option, Some, None, Ok}
 use Rattle.lists.specs.Rules.{known_rules}
@@ -13,7 +13,7 @@ use mathlib.Core.List.{List, [], ◌∷◌, append-nil}
 use Prim.Native.Nat.{ℕ, zero, suc, ◌+◌, ◌*◌, ◌/◌, ◌%◌, ◌≤◌, ◌<◌}
 use native.Mathlib.Nat.{zero-add, mul-le-mul_right, suc-mul}
 use native.Mathlib.Omega.{arith}
-use lib.ListN.{length, get_or, take, drop, replicate, length-drop}
+use lib.ListN.{length, get_or, take, drop, length-drop}
 use lib.Seq.{length-take-le, ext_get_or}
 use lib.Dec.{eqb, leb, ltb}
 use lib.IntN.{ℤ, nat_abs}
@@ -22,7 +22,7 @@ use Rattle.tables.specs.Order.{member}
 use Rattle.lists.specs.Limits.{component_limit, connection_limit, frontier_limit, component_width, port_width, frontier_width}
 use Rattle.lists.specs.Signed.{at, in_range}
 use Rattle.lists.specs.Records.{component, port_connection, component_count, port_count}
-use Rattle.lists.specs.Ranges.{record_in_range, first_out_of_range, component_low, component_high, port_low, port_high, frontier_low, frontier_high}
+use Rattle.lists.specs.Ranges.{record_in_range, first_out_of_range, port_low, port_high, frontier_low, frontier_high}
 use Rattle.lists.specs.Ids.{place_below, has_component, used_earlier, first_repeated}
 use Rattle.lists.specs.First.{all_from, is_found, tabulate}
 use Rattle.lists.proofs.Search.{never, both, all_at, none_found, first_nothing}
@@ -30,17 +30,15 @@ use Rattle.lists.proofs.Some.{and_true, some_at, some_found}
 use Rattle.checks.specs.Refusals.{refuse, ◌or_else◌}
 use Rattle.held.specs.Tests.{any, every, distinct, same_numbers}
 use Rattle.held.specs.Plot.{Record, Place, free, taken, blocks, id_of, source_of, sink_of, is_present, ends_present, fits, opening}
-use Rattle.held.specs.Left.{is_accepted, same_id, valid_places, valid_freed, valid_connections, valid}
-use Rattle.held.specs.Lent.{Lent, flat, record_at, counter, used_in, freed_count_in, held_in, frontier_count_in, freed_places_in, place_in, plot_in, Roomy, has_room, counts_fit, is_blank, tidy, lent_valid}
-use Rattle.held.specs.Inspected.{Standing, Counts, zero_behind, opens_with, both_ends, connections_pass, stand_pass, blocks_in, held_part, Frame, Parts, Marks, marked_place}
+use Rattle.held.specs.Left.{is_accepted, same_id, valid_freed, valid_connections}
+use Rattle.held.specs.Lent.{flat, record_at, used_in, freed_count_in, held_in, place_in, counts_fit}
+use Rattle.held.specs.Inspected.{Counts, opens_with, both_ends, connections_pass}
 use Rattle.held.proofs.Lists.{true_not_false, every_member, member_every}
 use Rattle.held.proofs.Places.{not_both, same_block, taken_below, present_at, present_found}
 use Rattle.held.proofs.Sound.{freed_of, of_freed, from_all}
 use Rattle.held.proofs.Reached.{length_tabulate, get_or_tabulate}
-use Rattle.held.proofs.LentLaws.{room_of}
 use Rattle.held.proofs.Flat.{Long, length_flat, flat_tabulate, record_flat}
 use Rattle.held.proofs.SceneLaws.{at_flat, first_flat, flat_in_range, every_get_or, any_get_or, at_any, distinct_at, whole}
-use Rattle.held.proofs.InspectLaws.{not_true_false}
 
 -- two tests that pass together are the same
 bool_iff : (a b : Bool) → (a ≡ true → b ≡ true) → (b ≡ true → a ≡ true) → a ≡ b
@@ -185,7 +183,7 @@ at_distinct (r ∷ rs) h =
     none (t ∷ ts) g = rw (ne_eqb (id_of t) (id_of r) (g 0 (omega arith))) (none ts (λ k b. g (suc k) (omega arith)))
 
 module _ (rs : List Record) (l : Long component_width rs) where
-  row_count : component_count (flat rs) ≡ length rs
+  pub row_count : component_count (flat rs) ≡ length rs
   row_count = omega (arith, length_flat component_width rs l)
 
   id_row : (k : ℕ) → k < length rs → (component (flat rs) k).id ≡ id_of (get_or rs k [])
@@ -350,115 +348,3 @@ module _ (ps : List Place) (l : Long component_width (blocks ps)) (list : List �
   pub connections_part : valid_connections ps (tabulate (record_at port_width list) m) ≡ connections_pass (flat (blocks ps)) (take (m * port_width) list)
   unfolding wires
   connections_part = whole_part ∙ ap (connections_pass (flat (blocks ps))) wires_flat
-
--- ---- the whole test
-
-module _ (lent : Lent) (r : Roomy lent) (c : Counts lent.state) where
-  frontiers_long : length (take (frontier_count_in lent.state * frontier_width) lent.frontiers) ≡ frontier_count_in lent.state * frontier_width
-  frontiers_long = length-take-le (frontier_count_in lent.state * frontier_width) lent.frontiers (omega (arith, c.frontiers, r.frontiers_room))
-
-  pub stand_long : Long component_width (blocks (plot_in lent).places)
-  unfolding plot_in
-  stand_long = blocks_long lent.places (freed_places_in lent.state) (used_in lent.state) (omega (arith, c.used, r.places_room))
-
-  few_places : leb (length (plot_in lent).places) component_limit ≡ true
-  unfolding plot_in
-  few_places =
-      le-leb (length (tabulate (place_in (freed_places_in lent.state) lent.places) (used_in lent.state))) component_limit
-      (omega (arith, c.used, length_tabulate (place_in (freed_places_in lent.state) lent.places) (used_in lent.state)))
-
-  places_part : valid_places (plot_in lent).places ≡ (not (is_found (first_out_of_range component_low component_high (blocks_in lent))) && not (is_found (first_repeated (blocks_in lent))))
-  unfolding valid_places
-  places_part =
-      rw few_places
-      (ap₂ ◌&&◌ (range_part component_low component_high (blocks (plot_in lent).places) stand_long (row_count (blocks (plot_in lent).places) stand_long))
-      (ids_part (blocks (plot_in lent).places) stand_long))
-
-  -- what is valid of the plot that is shown
-  valid_part : valid (plot_in lent)
-      ≡ (opens_with (counter lent.state 0) (take (frontier_count_in lent.state * frontier_width) lent.frontiers)
-      && ((not (is_found (first_out_of_range component_low component_high (blocks_in lent))) && not (is_found (first_repeated (blocks_in lent))))
-      && ((distinct eqb (freed_places_in lent.state) && every (λ k. ltb k (used_in lent.state)) (freed_places_in lent.state)) && connections_pass (blocks_in lent) (held_part lent))))
-  unfolding valid plot_in
-  valid_part =
-      ap₂ ◌&&◌
-      (opens_part (counter lent.state 0) (take (frontier_count_in lent.state * frontier_width) lent.frontiers) (omega (arith, frontiers_long, c.frontiers)) (omega (arith, frontiers_long)))
-      (ap₂ ◌&&◌ places_part
-      (ap₂ ◌&&◌ (freed_part lent.places (freed_places_in lent.state) (used_in lent.state))
-      (connections_part (plot_in lent).places stand_long lent.connections (held_in lent.state) (omega (arith, c.held, r.connections_room)) c.held)))
-
-pub parts_of : (lent : Lent) → lent_valid lent ≡ true → Parts lent
-unfolding lent_valid tidy zero_behind stand_pass
-parts_of lent e =
-    let a = both (has_room lent) _ e in
-    let b = both (counts_fit lent.state) _ a.1 in
-    let v = both (valid (plot_in lent)) (tidy lent) b.1 in
-    let w = sym (valid_part lent (room_of lent a.0) (counts_of lent.state b.0)) ∙ v.0 in
-    let p = both (opens_with (counter lent.state 0) (take (frontier_count_in lent.state * frontier_width) lent.frontiers)) _ w in
-    let q = both (not (is_found (first_out_of_range component_low component_high (blocks_in lent))) && not (is_found (first_repeated (blocks_in lent)))) _ p.1 in
-    let f = both (distinct eqb (freed_places_in lent.state) && every (λ k. ltb k (used_in lent.state)) (freed_places_in lent.state)) _ q.1 in
-    let t = both (every (is_blank lent.places) (freed_places_in lent.state)) _ v.1 in
-    record {
-      frame = record { room = a.0; counts = b.0; behind = t.1; opens = p.0 };
-      freed = f.0;
-      blank = t.0;
-      stand = and_true _ _ q.0 f.1;
-    }
-
-pub of_parts : (lent : Lent) → Parts lent → lent_valid lent ≡ true
-unfolding lent_valid tidy zero_behind stand_pass
-of_parts lent p =
-    let stand = both (not (is_found (first_out_of_range component_low component_high (blocks_in lent))) && not (is_found (first_repeated (blocks_in lent)))) (connections_pass (blocks_in lent) (held_part lent)) p.stand in
-    and_true _ _ p.frame.room
-    (and_true _ _ p.frame.counts
-    (and_true _ _
-    (valid_part lent (room_of lent p.frame.room) (counts_of lent.state p.frame.counts)
-    ∙ and_true _ _ p.frame.opens (and_true _ _ stand.0 (and_true _ _ p.freed stand.1)))
-    (and_true _ _ p.blank p.frame.behind)))
-
--- one part fails: the test fails
-pub part_fails : (lent : Lent) → (Parts lent → ⊥) → lent_valid lent ≡ false
-part_fails lent n = not_true_false (lent_valid lent) (λ e. n (parts_of lent e))
-
--- ---- marks
-
-pub none_marked : (n k : ℕ) → get_or (replicate n false) k false ≡ false
-none_marked zero k = refl
-none_marked (suc n) zero = refl
-none_marked (suc n) (suc k) = none_marked n k
-
-tabulated_same : (f g : ℕ → Place) (n : ℕ) → ((k : ℕ) → k < n → f k ≡ g k) → tabulate f n ≡ tabulate g n
-unfolding tabulate
-tabulated_same f g zero h = refl
-tabulated_same f g (suc n) h = rw (tabulated_same f g n (λ k b. h k (omega arith)), h n (omega arith))
-
--- places by marks are the places that are shown
-pub marked_blocks : (lent : Lent) (marks : List Bool) → Marks lent.state marks → used_in lent.state ≤ length marks
-    → flat (blocks (tabulate (marked_place marks lent.places) (used_in lent.state))) ≡ blocks_in lent
-unfolding plot_in
-marked_blocks lent marks m h =
-    ap (λ (ps : List Place). flat (blocks ps))
-    (tabulated_same (marked_place marks lent.places) (place_in (freed_places_in lent.state) lent.places) (used_in lent.state)
-    (λ k b. ap (λ (t : Bool). cond t free (taken (record_at component_width lent.places k))) (m.at k (omega arith))))
-
--- the last part decides
-pub last_part : (lent : Lent) (r : Bool) → Frame lent
-    → (distinct eqb (freed_places_in lent.state) && every (λ k. ltb k (used_in lent.state)) (freed_places_in lent.state)) ≡ true
-    → every (is_blank lent.places) (freed_places_in lent.state) ≡ true → r ≡ stand_pass (blocks_in lent) (held_part lent) → r ≡ lent_valid lent
-last_part lent true f d b e = sym (of_parts lent (record { frame = f; freed = d; blank = b; stand = sym e }))
-last_part lent false f d b e = sym (part_fails lent (λ p. true_not_false (sym p.stand ∙ sym e)))
-
--- ---- what is answered
-
-pub none_some : {X : Type 0} {n : ℕ} → ◌≡◌ {A = Option ℕ} None (Some n) → X
-none_some e = let z : ◌≡◌ {A = ℕ} 0 1 = cc in absurd (omega arith)
-
-pub some_is : {m n : ℕ} → ◌≡◌ {A = Option ℕ} (Some m) (Some n) → m ≡ n
-some_is e = cc
-
--- the slices cannot be left: no blocks
-pub strange : (lent : Lent) {out : List ℤ} → (Parts lent → ⊥) → Standing lent out None
-strange lent n = record { left = sym (part_fails lent n); blocks_are = λ n e. none_some e }
-
-pub frame_of : (lent : Lent) → Frame lent → Roomy lent × Counts lent.state
-frame_of lent f = (room_of lent f.room, counts_of lent.state f.counts)

@@ -6,7 +6,8 @@ use Rattle.std.specs.Prelude.{Err}
 use Rattle.lists.specs.Ranges.{component_low, component_high}
 use Rattle.held.specs.Lent.{Lent, lent_valid}
 use Rattle.held.specs.Inspected.{lent_of}
-use Rattle.held.proofs.LentLaws.{passes, fits_long}
+use Rattle.held.proofs.LentLaws.{passes}
+use Rattle.held.proofs.Shown.{fits_long}
 use Rattle.held.proofs.EntryLaws.{answer_18, answer_3, answer_16, answer_15, answer_0, count_is, id_natural}
 use Rattle.held.proofs.BreakLaws.{present_by, state_room, places_room, ids_natural}
 use Rattle.held.proofs.clicks.refuse_placing.Goals as goal

@@ -15,7 +15,8 @@ use Rattle.held.specs.Lent.{lent_valid}
 use Rattle.held.specs.Inspected.{blocks_in, lent_of, Counts, Frame, held_part, stand_pass}
 use Rattle.held.proofs.Lists.{true_not_false}
 use Rattle.held.proofs.LentLaws.{room_of}
-use Rattle.held.proofs.ValidLaws.{strange, some_is, none_some, frame_of, counts_of, none_marked, marked_blocks, last_part}
+use Rattle.held.proofs.ValidLaws.{counts_of}
+use Rattle.held.proofs.PartLaws.{strange, some_is, none_some, frame_of, none_marked, marked_blocks, last_part}
 use Rattle.held.proofs.inspect.standing.Goals as goal
 use Rattle.held.proofs.inspect.standing.Goals.{After-frame_fits, After-stand_pass}
 
