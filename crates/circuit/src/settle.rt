@@ -21,7 +21,7 @@ const NET_KINDS: u64 = ConnectionKind::StrongPower as u64;
 const FRAGMENT_KINDS: u64 = ConnectionKind::Control as u64;
 
 // The sink, or where the connection does not count the source: joined with itself it changes nothing. Kinds come in no order
-// that a processor could foresee, and so there is no branch on them.
+// that a processor could foresee, and so there is no branch on them where the ends are of one net.
 fn sink_or_source(counts: bool, source: usize, sink: usize) -> usize
     ensures { result ≡ cond counts sink source }
 {
