@@ -64,9 +64,62 @@ pub fn draw(html: &mut Html, marked: &Marked, links: &Links, layer: &Layer) {
     }
     for (place, cross) in &links.crosses {
         if let Some(spot) = layer.spots.get(&place.0) {
-            let along = if is_free(links, *place) { 0 } else { ASIDE };
-            left_out(html, cross, *place, *spot, along);
+            let class = if cross.matters {
+                "left-out"
+            } else {
+                "left-out support"
+            };
+            let line = format!("#line{}", cross.line);
+            html.within("a", &[("href", &line), ("class", &class)], |html| {
+                let said = format!("block {}: {}", place.0.0, cross.said.join("\n"));
+                html.saying("title", &[], &said);
+                let lost = Lost {
+                    cross,
+                    place: *place,
+                    spot: *spot,
+                };
+                lost.draw(html, marked, links, layer);
+            });
+            html.line();
         }
+    }
+}
+
+/// Connections that were left out: a red cross, or a grey one where only support is; it
+/// leads to the line of words.
+struct Lost<'a> {
+    cross: &'a Cross,
+    place: Place,
+    spot: Spot,
+}
+
+impl Lost<'_> {
+    fn draw(&self, html: &mut Html, marked: &Marked, links: &Links, layer: &Layer) {
+        let (id, side) = self.place;
+        let Some(face) = side else {
+            let corner = (self.spot.x + WIDTH, self.spot.y + HEIGHT);
+            return shapes::cross(html, self.cross.gone, corner);
+        };
+        if !is_free(links, self.place) {
+            return shapes::cross(html, false, off(self.spot, face, ASIDE, BETWEEN / 2));
+        }
+        let free = |id, face| {
+            if has_sign(&marked.inputs, id, face) {
+                SIGN
+            } else {
+                FREE
+            }
+        };
+        let (mut from, mut to) = (free(id, face), BETWEEN - FREE);
+        let other = self.cross.other.filter(|id| layer.spots.contains_key(id));
+        if let Some(other) = other {
+            to = BETWEEN - free(other, opposite(face));
+            let [from, to] = [from, to].map(|out| off(self.spot, face, 0, out));
+            shapes::line(html, "lost", from, to);
+        } else {
+            from = FREE;
+        }
+        shapes::cross(html, false, off(self.spot, face, 0, (from + to) / 2));
     }
 }
 
@@ -193,24 +246,4 @@ fn upright(html: &mut Html, link: &Link, spot: Spot, face: Facing) {
         let x = if link.out { x + 9 } else { x };
         shapes::head(html, "to", (x, edge + 2 * up), (0, -up));
     }
-}
-
-/// A red cross, or a grey one where only support is left out; it leads to its line.
-fn left_out(html: &mut Html, cross: &Cross, (id, side): Place, spot: Spot, along: i32) {
-    let class = if cross.matters {
-        "left-out"
-    } else {
-        "left-out support"
-    };
-    let at = match side {
-        Some(face) => off(spot, face, along, BETWEEN / 2),
-        None => (spot.x + WIDTH, spot.y + HEIGHT),
-    };
-    let line = format!("#line{}", cross.line);
-    let said = format!("block {}: {}", id.0, cross.said.join("\n"));
-    html.within("a", &[("href", &line), ("class", &class)], |html| {
-        html.saying("title", &[], &said);
-        shapes::cross(html, cross.gone, at);
-    });
-    html.line();
 }

@@ -33,6 +33,8 @@ pub struct Cross {
     pub gone: bool,
     /// Whether one is no support: support is left out of every plot.
     pub matters: bool,
+    /// The block at the other end of the first one.
+    pub other: Option<ComponentId>,
     /// The line of the first one in the sheet.
     pub line: usize,
     /// What it says.
@@ -130,6 +132,8 @@ impl Links {
             cross.matters |= it.why != Why::Support;
             if cross.said.is_empty() {
                 cross.line = line;
+                let ends = [it.connection.source, it.connection.sink];
+                cross.other = ends.into_iter().find(|id| *id != place.0);
             }
             cross.said.push(said.clone());
         }
