@@ -1,8 +1,8 @@
 /*
  * Sheets in C: a plot that was scanned through fog, in the old form under rules 1
  * and in the shorter one under rules 3; its lists, its report, there and back, and
- * sheets that are refused at a line. Each slice has a number more than is asked
- * for, dirty.
+ * sheets that are refused at a line; two sheets joined. Each slice has a number more
+ * than is asked for, dirty.
  *
  *     cc -std=c99 -I include -o sheets examples/sheets.c target/staticlib/libcapi.a
  */
@@ -194,6 +194,71 @@ static void refusals(void)
     hold(is_as_before(lent.head, 0, sizeof lent.head) && are_zero(), "a head as it was, and zero");
 }
 
+/* A block more, on another table: a wire behind the repeater. */
+static const char beside[] =
+    "components=2\n"
+    "id=2\nx=1\ny=0\nz=0\nkind=1\nfacing=0\nsupport=0\nconducts=0\n"
+    "id=3\nx=2\ny=0\nz=0\nkind=0\nfacing=0\nsupport=0\nconducts=0\n"
+    "connections=1\nsource=2\nsink=3\nkind=6\nfrontiers=0\n";
+static const char both[] =
+    "components=3\n"
+    "id=1\nx=0\ny=0\nz=0\nkind=4\nfacing=0\nsupport=0\nconducts=0\n"
+    "id=2\nx=1\ny=0\nz=0\nkind=1\nfacing=0\nsupport=0\nconducts=0\n"
+    "id=3\nx=2\ny=0\nz=0\nkind=0\nfacing=0\nsupport=0\nconducts=0\n"
+    "connections=2\nsource=1\nsink=2\nkind=5\nsource=2\nsink=3\nkind=6\n"
+    "frontiers=1\nx=5\ny=0\nz=-3\n";
+
+static struct {
+    int64_t components[DUSTROUTE_SHEET_COMPONENTS_NUMBERS(2 * COUNT) + 1];
+    int64_t connections[DUSTROUTE_SHEET_CONNECTIONS_NUMBERS(2) + 1];
+    int64_t frontiers[DUSTROUTE_SHEET_FRONTIERS_NUMBERS(2) + 1];
+    uint8_t out[ROOM];
+} for_two;
+
+static uint64_t joined(const char *first, const char *second, size_t bytes)
+{
+    memset(&for_two, FILLING, sizeof for_two);
+    return dustroute_join(
+        (const uint8_t *)first, strlen(first), (const uint8_t *)second, strlen(second),
+        for_two.components, sizeof for_two.components / 8,
+        for_two.connections, sizeof for_two.connections / 8,
+        for_two.frontiers, sizeof for_two.frontiers / 8, for_two.out, bytes);
+}
+
+/* Refused, of a sheet, with nothing in the buffer; the work lists are zero but for a
+ * line of the first sheet. */
+static void not_joined(
+    const char *first, const char *second, size_t bytes,
+    unsigned sheet, unsigned number, unsigned list, uint64_t item)
+{
+    uint64_t answer = joined(first, second, bytes);
+    hold(DUSTROUTE_NUMBER(answer) == number && DUSTROUTE_LIST(answer) == list
+        && DUSTROUTE_JOIN_ITEM(answer) == item && DUSTROUTE_JOIN_SHEET(answer) == sheet,
+        "two sheets: refused with the sheet");
+    hold(is_as_before(for_two.out, 0, ROOM), "two sheets: nothing of it");
+    if (sheet == 1 && number == 9)
+        hold(is_as_before(&for_two, 0, sizeof for_two), "two sheets: all as it was");
+    else
+        hold(is_zero(for_two.components, sizeof for_two.components / 8), "two sheets: zero");
+}
+
+static void joins(void)
+{
+    char turned[sizeof beside];
+    memcpy(turned, beside, sizeof beside);
+    strstr(turned, "facing=0")[7] = '2';
+    uint64_t answer = joined(old_form, beside, ROOM);
+    hold(DUSTROUTE_ACCEPTED(answer) && DUSTROUTE_BYTES_WRITTEN(answer) == strlen(both)
+        && memcmp(for_two.out, both, strlen(both)) == 0, "two sheets as one");
+    hold(is_as_before(for_two.out, strlen(both), ROOM), "two sheets: no more written");
+    hold(is_zero(for_two.connections, sizeof for_two.connections / 8), "two sheets: zero");
+    not_joined(old_form, beside, strlen(both) - 1, 0, 2, 3, 0);
+    not_joined(old_form, short_form, ROOM, 0, 13, 3, 0);
+    not_joined(old_form, turned, ROOM, 0, 14, 0, 0);
+    not_joined("rules=01\n", "rules=4\n", ROOM, 1, 9, 3, 0);
+    not_joined(old_form, "sheet=2\nrules=4\n", ROOM, 2, 11, 3, 1);
+}
+
 int main(void)
 {
     setvbuf(stdout, NULL, _IONBF, 0);
@@ -204,6 +269,7 @@ int main(void)
     there_and_back(old_form);
     there_and_back(short_form);
     refusals();
+    joins();
     if (faults == 0)
         printf("all answers are as they must be\n");
     return faults != 0;

@@ -23,7 +23,8 @@
 //! - [`what_if`] and [`what_if_joined`] find what one connection more would
 //!   change of either answer.
 //! - [`read_sheet`] reads the lists of a sheet, [`report`] marks one as the program
-//!   `plotreport` does, and [`convert`] writes it in its other form.
+//!   `plotreport` does, [`convert`] writes it in its other form, and [`join()`] makes
+//!   one sheet of two.
 //! - [`self_test`] marks the paper's worked plots by the library that is linked, for
 //!   the start of a server.
 //!
@@ -86,6 +87,7 @@ mod explain;
 mod groups;
 mod input;
 mod interface;
+mod join;
 mod light;
 pub mod limits;
 mod liveness;
@@ -114,6 +116,7 @@ pub use explain::Given;
 pub use groups::{ComponentGroups, Groups, groups};
 pub use input::{InputSources, input};
 pub use interface::{INTERFACE, interface};
+pub use join::{Clash, JoinRefusal, Unequal, WhichSheet, join};
 pub use light::{ComponentLight, Lighting, Step, light};
 pub use liveness::{
     ComponentLiveness, Liveness, Region, RequiredInput, RequiredInputStatus, SignalSource,

@@ -101,6 +101,11 @@ pub enum Reason {
     UnknownRules,
     /// 12: the line `sheet=` has another number than 2. Only of sheets.
     UnknownForm,
+    /// 13: two sheets are marked by different rules. Only of [`join`](crate::join()).
+    OtherRules,
+    /// 14: two sheets have a component of one id, with unequal fields; the place is
+    /// that of the second sheet's component. Only of [`join`](crate::join()).
+    UnequalFields,
     /// No refusal: the answer is none that the library's contract allows, so
     /// the archive that was linked is not the one of this crate's version.
     Unreadable,
@@ -108,7 +113,7 @@ pub enum Reason {
 
 impl Reason {
     /// The reasons that an entry gives, by rising number.
-    const ALL: [Self; 12] = [
+    const ALL: [Self; 14] = [
         Self::Length,
         Self::ShortSlice,
         Self::OutOfRange,
@@ -121,6 +126,8 @@ impl Reason {
         Self::NotDriven,
         Self::UnknownRules,
         Self::UnknownForm,
+        Self::OtherRules,
+        Self::UnequalFields,
     ];
 
     /// Whether it is of a line wherever it is given.
@@ -145,6 +152,8 @@ impl Reason {
             Self::NotDriven => 10,
             Self::UnknownRules => 11,
             Self::UnknownForm => 12,
+            Self::OtherRules => 13,
+            Self::UnequalFields => 14,
         }
     }
 }
@@ -169,6 +178,8 @@ impl fmt::Display for Reason {
             Self::NotDriven => "the input asked for is not driven",
             Self::UnknownRules => "rules that are not known",
             Self::UnknownForm => "a form of a sheet that is not known",
+            Self::OtherRules => "the two sheets are marked by different rules",
+            Self::UnequalFields => "a component that both sheets have, with unequal fields",
             Self::Unreadable => "the answer of an archive of another version",
         })
     }
@@ -267,7 +278,7 @@ mod tests {
 
     #[test]
     fn every_number_is_read() {
-        for (number, reason) in (1..=12).zip(Reason::ALL) {
+        for (number, reason) in (1..=14).zip(Reason::ALL) {
             assert_eq!(reason.number(), number);
             let refusal = Refusal::of(u64::from(number) + 256 * 3);
             let line = Place {
@@ -332,7 +343,7 @@ mod tests {
             9,
             12,
             9 + 256,
-            13 + 256 * 3,
+            15 + 256 * 3,
             255,
             256,
             1 + 256 * 4,

@@ -87,25 +87,40 @@ const TIMES: usize = 4;
 /// less than half of it.
 const LONGEST: usize = 1 << 28;
 
-/// What a call writes into a buffer that is long enough. The work lists are, so
-/// that a slice which is too short is the buffer.
-fn written(mut call: impl FnMut(&mut [u8]) -> u64) -> Result<Vec<u8>, Refusal> {
+/// What a call answers in place of a text.
+pub trait Told: From<Refusal> {
+    fn reason(&self) -> Reason;
+}
+
+impl Told for Refusal {
+    fn reason(&self) -> Reason {
+        self.reason
+    }
+}
+
+/// What a call writes into a buffer that is long enough; the call answers how many
+/// bytes. The work lists are, so that a slice which is too short is the buffer.
+pub fn written<R: Told>(mut call: impl FnMut(&mut [u8]) -> Result<u64, R>) -> Result<Vec<u8>, R> {
     let mut length = FIRST;
     loop {
         let mut out = vec![0; length];
-        let answer = call(&mut out);
-        match Refusal::of_sheet(answer) {
-            None => {
-                let count = usize::try_from(answer >> 16).ok();
+        match call(&mut out) {
+            Ok(count) => {
+                let count = usize::try_from(count).ok();
                 let count = count.filter(|count| *count <= length);
                 out.truncate(count.ok_or(Refusal::UNREADABLE)?);
                 return Ok(out);
             }
-            Some(refusal) if refusal.reason != Reason::ShortSlice => return Err(refusal),
-            Some(_) if length >= LONGEST => return Err(Refusal::UNREADABLE),
-            Some(_) => length *= TIMES,
+            Err(refusal) if refusal.reason() != Reason::ShortSlice => return Err(refusal),
+            Err(_) if length >= LONGEST => return Err(Refusal::UNREADABLE.into()),
+            Err(_) => length *= TIMES,
         }
     }
+}
+
+/// How many bytes an entry of one sheet has written.
+fn bytes(answer: u64) -> Result<u64, Refusal> {
+    Refusal::of_sheet(answer).map_or(Ok(answer >> 16), Err)
 }
 
 /// The report of a sheet of either form, line by line as docs/SHEET.md has it, under
@@ -130,7 +145,7 @@ fn written(mut call: impl FnMut(&mut [u8]) -> u64) -> Result<Vec<u8>, Refusal> {
 /// ```
 pub fn report(text: &[u8]) -> Result<Vec<u8>, Refusal> {
     let mut work = Work::new();
-    written(|out| work.write(REPORT, text, out))
+    written(|out| bytes(work.write(REPORT, text, out)))
 }
 
 /// The same sheet in its other form: the same rules and lists, connections to blocks
@@ -152,7 +167,7 @@ pub fn report(text: &[u8]) -> Result<Vec<u8>, Refusal> {
 /// ```
 pub fn convert(text: &[u8]) -> Result<Vec<u8>, Refusal> {
     let mut work = Work::new();
-    written(|out| work.write(CONVERT, text, out))
+    written(|out| bytes(work.write(CONVERT, text, out)))
 }
 
 /// Form, rules and lists of a sheet of either form, as the other functions take
@@ -188,7 +203,7 @@ pub fn read_sheet(text: &[u8]) -> Result<Sheet, Refusal> {
 
 #[cfg(test)]
 mod tests {
-    use super::written;
+    use super::{bytes, written};
     use crate::Refusal;
 
     #[test]
@@ -197,14 +212,17 @@ mod tests {
         let text = written(|out| {
             lengths.push(out.len());
             if out.len() < 1_000_000 {
-                return 2 + 256 * 3;
+                return bytes(2 + 256 * 3);
             }
             out.fill(b'x');
-            65_536 * 1_000_000
+            bytes(65_536 * 1_000_000)
         });
         assert_eq!(text.map(|it| it.len()), Ok(1_000_000));
         assert_eq!(lengths, [1 << 16, 1 << 18, 1 << 20]);
-        assert_eq!(written(|_| 2 + 256 * 3), Err(Refusal::UNREADABLE));
-        assert_eq!(written(|_| 65_536 * 65_537), Err(Refusal::UNREADABLE));
+        assert_eq!(written(|_| bytes(2 + 256 * 3)), Err(Refusal::UNREADABLE));
+        assert_eq!(
+            written(|_| bytes(65_536 * 65_537)),
+            Err(Refusal::UNREADABLE)
+        );
     }
 }

@@ -48,6 +48,21 @@ mod raw {
             out: *mut u8,
             out_len: usize,
         ) -> u64;
+
+        pub fn dustroute_join(
+            first: *const u8,
+            first_len: usize,
+            second: *const u8,
+            second_len: usize,
+            components: *mut i64,
+            components_len: usize,
+            connections: *mut i64,
+            connections_len: usize,
+            frontiers: *mut i64,
+            frontiers_len: usize,
+            out: *mut u8,
+            out_len: usize,
+        ) -> u64;
     }
 }
 
@@ -71,8 +86,8 @@ pub const REPORT: Writer = raw::dustroute_report;
 /// A sheet in its other form.
 pub const CONVERT: Writer = raw::dustroute_convert;
 
-/// The lists of a sheet as numbers. They have room for the longest that are
-/// accepted.
+/// The lists of a sheet, or of two, as numbers. They have room for the longest that
+/// are accepted.
 pub struct Work {
     components: Vec<[i64; 8]>,
     connections: Vec<[i64; 3]>,
@@ -81,10 +96,15 @@ pub struct Work {
 
 impl Work {
     pub fn new() -> Self {
+        Self::for_sheets(1)
+    }
+
+    /// Room for the records of so many sheets.
+    pub fn for_sheets(count: usize) -> Self {
         Self {
-            components: vec![[0; 8]; limits::COMPONENTS],
-            connections: vec![[0; 3]; limits::CONNECTIONS],
-            frontiers: vec![[0; 3]; limits::FRONTIERS],
+            components: vec![[0; 8]; count * limits::COMPONENTS],
+            connections: vec![[0; 3]; count * limits::CONNECTIONS],
+            frontiers: vec![[0; 3]; count * limits::FRONTIERS],
         }
     }
 
@@ -120,6 +140,30 @@ impl Work {
             writer(
                 text.as_ptr(),
                 text.len(),
+                components.as_mut_ptr(),
+                components.len(),
+                connections.as_mut_ptr(),
+                connections.len(),
+                frontiers.as_mut_ptr(),
+                frontiers.len(),
+                out.as_mut_ptr(),
+                out.len(),
+            )
+        }
+    }
+
+    /// Two sheets as one.
+    pub fn join(&mut self, first: &[u8], second: &[u8], out: &mut [u8]) -> u64 {
+        let components = self.components.as_flattened_mut();
+        let connections = self.connections.as_flattened_mut();
+        let frontiers = self.frontiers.as_flattened_mut();
+        // SAFETY: as for `sheet`; the callee only reads the first two.
+        unsafe {
+            raw::dustroute_join(
+                first.as_ptr(),
+                first.len(),
+                second.as_ptr(),
+                second.len(),
                 components.as_mut_ptr(),
                 components.len(),
                 connections.as_mut_ptr(),

@@ -8,6 +8,7 @@
 //! which the Rust does not have.
 
 mod groups;
+pub mod join;
 mod liveness;
 pub mod parse;
 mod ports;

@@ -44,6 +44,21 @@ mod raw {
             out: *mut u8,
             out_len: usize,
         ) -> u64;
+
+        pub fn dustroute_join(
+            first: *const u8,
+            first_len: usize,
+            second: *const u8,
+            second_len: usize,
+            components: *mut i64,
+            components_len: usize,
+            connections: *mut i64,
+            connections_len: usize,
+            frontiers: *mut i64,
+            frontiers_len: usize,
+            out: *mut u8,
+            out_len: usize,
+        ) -> u64;
     }
 }
 
@@ -129,5 +144,50 @@ pub fn convert(
             out.as_mut_ptr(),
             out.len(),
         )
+    })
+}
+
+/// A refusal, and the sheet that it is of: 1, 2, or 0 of both.
+#[derive(Clone, Copy, Debug, Eq, PartialEq)]
+pub struct JoinRefusal {
+    pub sheet: u64,
+    pub refusal: Refusal,
+}
+
+/// Writes two sheets as one at the front of `out`, and counts its bytes.
+///
+/// # Errors
+/// The refusal of sheets or slices that are not as they must be.
+pub fn join(
+    first: &[u8],
+    second: &[u8],
+    work: [&mut [i64]; 3],
+    out: &mut [u8],
+) -> Result<u64, JoinRefusal> {
+    const SHEET: u32 = 56;
+    let [components, connections, frontiers] = work;
+    // SAFETY: as for `sheet`; the callee only reads the first two.
+    let answer = unsafe {
+        raw::dustroute_join(
+            first.as_ptr(),
+            first.len(),
+            second.as_ptr(),
+            second.len(),
+            components.as_mut_ptr(),
+            components.len(),
+            connections.as_mut_ptr(),
+            connections.len(),
+            frontiers.as_mut_ptr(),
+            frontiers.len(),
+            out.as_mut_ptr(),
+            out.len(),
+        )
+    };
+    if answer % 65_536 == 0 {
+        return Ok(answer / 65_536);
+    }
+    unpack(answer % (1 << SHEET)).map_err(|refusal| JoinRefusal {
+        sheet: answer >> SHEET,
+        refusal,
     })
 }

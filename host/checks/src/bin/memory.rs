@@ -9,9 +9,11 @@ use checks::{ByteLists, LivenessLists};
 use dustroute::bytes::{self, Lent};
 use probe::ports::port_connections;
 use probe::query::{Asked, input_refusal};
-use probe::sheets::{convert, report, sheet};
+use probe::sheets::{convert, join, report, sheet};
 use scenes::limits::{COMPONENT, LAST_RULES};
+use scenes::random::Random;
 use scenes::sheets::forms::{Form, write_form};
+use scenes::sheets::parts::parts;
 use scenes::sheets::{Limits, lists};
 use scenes::{Profile, Scene};
 
@@ -106,9 +108,36 @@ fn short_sheet(scene: &Scene) -> bool {
     sheeted(Form::Short, scene)
 }
 
+/// The scene's halves joined, in room that is just enough.
+fn joined(scene: &Scene) -> bool {
+    let halves = parts(scene, 2, &mut Random::new(8));
+    let sheet = |form, half| write_form(form, LAST_RULES, half).into_boxed_slice();
+    let first = sheet(Form::Short, &halves[0]);
+    let second = sheet(Form::Old, &halves[1]);
+    let [one, other] = [&halves[0], &halves[1]].map(lists);
+    let mut work = [0, 1, 2].map(|list| room(one[list].len() + other[list].len(), -1));
+    let whole = write_form(Form::Old, LAST_RULES, scene).into_boxed_slice();
+    let mut out = room(whole.len(), 0xa5);
+    let count = join(
+        &first,
+        &second,
+        work.each_mut().map(|it| &mut **it),
+        &mut out,
+    );
+    count == Ok(whole.len() as u64) && out == whole
+}
+
 /// Every entry on scenes of every profile, and refused with a number missing.
 fn main() -> ExitCode {
-    let entries = [grouped, analyzed, connected, asked, old_sheet, short_sheet];
+    let entries = [
+        grouped,
+        analyzed,
+        connected,
+        asked,
+        old_sheet,
+        short_sheet,
+        joined,
+    ];
     let (mut accepted, mut refused) = (0, 0);
     for profile in Profile::ALL {
         for seed in 0..2 {

@@ -6,6 +6,7 @@ pub mod edits;
 pub mod fields;
 pub mod forms;
 pub mod lengths;
+pub mod parts;
 
 use std::fmt::Write;
 
