@@ -3,9 +3,9 @@
 use std::collections::{BTreeMap, BTreeSet};
 
 use dustroute::{
-    Component, ComponentId, Facing, Groups, KeptConnection, LeftOut, Lighting, Liveness, Port,
-    PortConnection, PortRef, Reason, Refusal, RequiredInputStatus, Rings, Sheet, block_ports,
-    driven, groups, input, left_out, light, liveness, ports, read_sheet, rings, trail,
+    Component, ComponentId, Facing, KeptConnection, LeftOut, Lighting, Mark, MarkedInput, Port,
+    PortConnection, PortRef, Ports, Reason, Refusal, RequiredInputStatus, Rings, Sheet,
+    block_ports, driven, input, light, ports, read_sheet, rings, trail,
 };
 
 use crate::lines::Lines;
@@ -49,10 +49,8 @@ pub struct Input {
 pub struct Marked {
     /// The plot.
     pub plot: Plot,
-    /// Nets and fragments.
-    pub groups: Groups,
-    /// Regions, sources and verdicts.
-    pub liveness: Liveness,
+    /// Nets and fragments, regions, sources and verdicts.
+    pub mark: Mark,
     /// What lights, region by region.
     pub lighting: Lighting,
     /// Which regions have a ring.
@@ -68,17 +66,20 @@ impl Plot {
     /// The refusal of the sheet.
     pub fn read(text: &[u8]) -> Result<Self, Refusal> {
         let sheet = read_sheet(text)?;
-        let kept = ports(sheet.rules, &sheet.components, &sheet.connections)?;
-        let left_out = left_out(sheet.rules, &sheet.components, &sheet.connections)?;
+        let found = ports(sheet.rules, &sheet.components, &sheet.connections)?;
+        Ok(Self::of(text, sheet, found))
+    }
+
+    fn of(text: &[u8], sheet: Sheet, found: Ports) -> Self {
         let ids = sheet.components.iter().map(|it| it.id);
-        Ok(Self {
+        Self {
             lines: Lines::of(text, &sheet),
-            fed: kept.iter().map(|it| it.connection).collect(),
+            fed: found.connections(),
             places: ids.zip(0..).collect(),
+            kept: found.kept,
+            left_out: found.left_out,
             sheet,
-            kept,
-            left_out,
-        })
+        }
     }
 
     /// The block with an id.
@@ -114,35 +115,46 @@ impl Plot {
     /// # Errors
     /// [`Reason::NoVerdict`] where the port is no required input.
     pub fn ask(&self, port: PortRef) -> Result<Input, Refusal> {
-        let Sheet {
-            rules,
-            components,
-            frontiers,
-            ..
-        } = &self.sheet;
-        let found = driven(*rules, components, &self.fed, frontiers, port)?;
-        let sources = input(*rules, components, &self.fed, frontiers, port)?;
-        let face = self.port(port).map(|it| it.face);
-        let status = match (found.driven, sources.immediate.is_empty()) {
+        let (sheet, fed) = (&self.sheet, &self.fed);
+        let is_driven = driven(sheet.rules, &sheet.components, fed, &sheet.frontiers, port)?.driven;
+        let found = input(sheet.rules, &sheet.components, fed, &sheet.frontiers, port)?;
+        let status = match (is_driven, found.immediate.is_empty()) {
             (true, _) => RequiredInputStatus::DrivenByKnownSource,
             (false, true) => RequiredInputStatus::Disconnected,
-            (false, false) if sources.inferred.is_empty() => RequiredInputStatus::NoKnownSource,
+            (false, false) if found.inferred.is_empty() => RequiredInputStatus::NoKnownSource,
             (false, false) => RequiredInputStatus::AwaitingExternalInput,
         };
-        let (trail, upstream) = if found.driven {
-            let way = trail(*rules, components, &self.fed, frontiers, port)?;
-            (way, BTreeSet::new())
-        } else {
-            (Vec::new(), found.met.into_iter().collect())
-        };
+        self.told(MarkedInput {
+            input: port,
+            status,
+            immediate: found.immediate,
+            inferred: found.inferred,
+        })
+    }
+
+    /// With the way to an input, or with what is upstream of it.
+    fn told(&self, marked: MarkedInput) -> Result<Input, Refusal> {
+        let (sheet, fed, port) = (&self.sheet, &self.fed, marked.input);
+        let (mut way, mut upstream) = (Vec::new(), BTreeSet::new());
+        match marked.status {
+            RequiredInputStatus::DrivenByKnownSource => {
+                way = trail(sheet.rules, &sheet.components, fed, &sheet.frontiers, port)?;
+            }
+            RequiredInputStatus::Disconnected => {}
+            _ => {
+                let found = driven(sheet.rules, &sheet.components, fed, &sheet.frontiers, port)?;
+                upstream.extend(found.met);
+            }
+        }
+        let face = self.port(port).map(|it| it.face);
         Ok(Input {
             port,
-            status,
+            status: marked.status,
             face: face.ok_or(OTHER_ARCHIVE)?,
-            immediate: sources.immediate,
-            inferred: sources.inferred,
+            immediate: marked.immediate,
+            inferred: marked.inferred,
             upstream,
-            trail,
+            trail: way,
         })
     }
 
@@ -179,31 +191,17 @@ impl Marked {
     /// # Errors
     /// The refusal of the sheet.
     pub fn read(text: &[u8]) -> Result<Self, Refusal> {
-        Self::of(Plot::read(text)?)
-    }
-
-    fn of(plot: Plot) -> Result<Self, Refusal> {
-        let Sheet {
-            rules,
-            components,
-            connections,
-            frontiers,
-            ..
-        } = &plot.sheet;
-        let found = liveness(*rules, components, &plot.fed, frontiers)?;
-        let each = found.inputs.iter().map(|it| {
-            let status = it.status;
-            Ok(Input {
-                status,
-                ..plot.ask(it.input)?
-            })
-        });
+        let sheet = read_sheet(text)?;
+        let mark = sheet.mark()?;
+        let plot = Plot::of(text, sheet, mark.ports.clone());
+        let (sheet, fed) = (&plot.sheet, &plot.fed);
+        let inputs = mark.inputs.iter();
+        let inputs = inputs.map(|it| plot.told(it.clone()));
         Ok(Self {
-            groups: groups(*rules, components, connections)?,
-            lighting: light(*rules, components, &plot.fed, frontiers)?,
-            rings: rings(*rules, components, &plot.fed, frontiers)?,
-            inputs: each.collect::<Result<_, Refusal>>()?,
-            liveness: found,
+            inputs: inputs.collect::<Result<_, Refusal>>()?,
+            lighting: light(sheet.rules, &sheet.components, fed, &sheet.frontiers)?,
+            rings: rings(sheet.rules, &sheet.components, fed, &sheet.frontiers)?,
+            mark,
             plot,
         })
     }

@@ -2,8 +2,14 @@
 
 use dustroute::Refusal;
 
+use crate::words::capital;
+
 /// Why a sheet is not marked.
 #[must_use]
-pub fn refused(name: &str, _text: &[u8], refusal: Refusal) -> String {
-    format!("{name}: not marked ({refusal}).")
+pub fn refused(name: &str, text: &[u8], refusal: Refusal) -> String {
+    let number = refusal.reason.number();
+    format!(
+        "{name}: not marked (refusal {number}). {}.",
+        capital(&refusal.explain(text))
+    )
 }

@@ -2,6 +2,7 @@
 
 use std::env;
 use std::ffi::{OsStr, OsString};
+use std::path::Path;
 use std::process::ExitCode;
 
 use dustroute::{ComponentId, PortRef, Reason, Refusal};
@@ -38,7 +39,7 @@ fn run(command: Command) -> u8 {
         },
         Command::Check(sheets) => return each(&sheets, |_, text| checked(text)),
         Command::Page(sheet) => of_a_sheet(&sheet, |name, text| {
-            Ok(page::page(name, &Marked::read(text)?).into_bytes())
+            Ok(page::page(base(name), &Marked::read(text)?).into_bytes())
         }),
         Command::Input { id, port, sheet } => one_device(&sheet, id, port),
         Command::Report(sheet) => of_a_sheet(&sheet, |_, text| dustroute::report(text)),
@@ -51,6 +52,12 @@ fn run(command: Command) -> u8 {
         Ok(()) => 0,
         Err(fault) => fault.tell(),
     }
+}
+
+/// A name without its folder, for the title of a page.
+fn base(name: &str) -> &str {
+    let base = Path::new(name).file_name().and_then(OsStr::to_str);
+    base.unwrap_or(name)
 }
 
 fn version() -> String {

@@ -1,29 +1,6 @@
-//! The words for the codes of the core.
+//! Words for sentences, beside those that `dustroute` has for each code.
 
-use dustroute::{
-    BlockKind, Component, ConnectionKind, Facing, RequiredInputStatus, Role, Rules,
-    SignalSourceKind,
-};
-
-/// What a block is called in words.
-#[must_use]
-pub const fn kind(kind: BlockKind) -> &'static str {
-    match kind {
-        BlockKind::RedstoneWire => "wire",
-        BlockKind::Repeater => "repeater",
-        BlockKind::Comparator => "comparator",
-        BlockKind::RedstoneTorch => "torch",
-        BlockKind::Lever => "lever",
-        BlockKind::Button => "button",
-        BlockKind::PressurePlate => "pressure plate",
-        BlockKind::RedstoneBlock => "block of redstone",
-        BlockKind::Piston => "piston",
-        BlockKind::Solid => "solid block",
-        BlockKind::Transparent => "transparent block",
-        BlockKind::RedstoneLamp => "lamp",
-        BlockKind::Air => "air",
-    }
-}
+use dustroute::{BlockKind, Component, Facing, Role, Rules};
 
 /// What several of them are called.
 #[must_use]
@@ -47,30 +24,17 @@ pub const fn kinds(of: BlockKind) -> &'static str {
 
 /// A word that has room in a cell.
 #[must_use]
-pub const fn short_kind(of: BlockKind) -> &'static str {
+pub fn short_kind(of: BlockKind) -> String {
     match of {
-        BlockKind::PressurePlate => "plate",
-        BlockKind::RedstoneBlock => "redstone",
-        BlockKind::Solid => "solid",
-        BlockKind::Transparent => "glass",
-        other => kind(other),
+        BlockKind::PressurePlate => "plate".to_string(),
+        BlockKind::RedstoneBlock => "redstone".to_string(),
+        BlockKind::Solid => "solid".to_string(),
+        BlockKind::Transparent => "glass".to_string(),
+        other => other.to_string(),
     }
 }
 
-/// The side of a block.
-#[must_use]
-pub const fn face(face: Facing) -> &'static str {
-    match face {
-        Facing::North => "North",
-        Facing::East => "East",
-        Facing::South => "South",
-        Facing::West => "West",
-        Facing::Up => "Up",
-        Facing::Down => "Down",
-    }
-}
-
-/// From or to which side, in a sentence.
+/// To which side, in a sentence.
 #[must_use]
 pub const fn toward(face: Facing) -> &'static str {
     match face {
@@ -106,45 +70,6 @@ pub const fn opposite(face: Facing) -> Facing {
         Facing::West => Facing::East,
         Facing::Up => Facing::Down,
         Facing::Down => Facing::Up,
-    }
-}
-
-/// How a connection joins.
-#[must_use]
-pub const fn connection(kind: ConnectionKind) -> &'static str {
-    match kind {
-        ConnectionKind::Dust => "dust",
-        ConnectionKind::DustRise => "dust rising",
-        ConnectionKind::DustFallThroughConductor => "dust falling",
-        ConnectionKind::WeakPower => "weak power",
-        ConnectionKind::StrongPower => "strong power",
-        ConnectionKind::DirectionalInput => "into a device",
-        ConnectionKind::DirectionalOutput => "out of a device",
-        ConnectionKind::DirectSource => "from a source",
-        ConnectionKind::Control => "control",
-        ConnectionKind::Support => "support",
-    }
-}
-
-/// The verdict of an input, behind its name.
-#[must_use]
-pub const fn status(status: RequiredInputStatus) -> &'static str {
-    match status {
-        RequiredInputStatus::DrivenByKnownSource => "is driven",
-        RequiredInputStatus::AwaitingExternalInput => "waits for an input from outside",
-        RequiredInputStatus::Disconnected => "has nothing connected",
-        RequiredInputStatus::NoKnownSource => "is connected, but nothing drives what feeds it",
-    }
-}
-
-/// Why a block is a source.
-#[must_use]
-pub const fn source(kind: SignalSourceKind) -> &'static str {
-    match kind {
-        SignalSourceKind::ControllableInput => "a source that a player works",
-        SignalSourceKind::IntrinsicSource => "a source by itself",
-        SignalSourceKind::ObservationBoundary => "a source at the edge of what was seen",
-        SignalSourceKind::InferredPrimaryInput => "a place where an input could be put",
     }
 }
 

@@ -75,7 +75,7 @@ fn verdict(rest: &str) -> (usize, u64) {
             .iter()
             .any(|it| rest.ends_with(&format!("{it} {status}.")))
     };
-    let status = STATUS.iter().position(|it| is(&it));
+    let status = STATUS.iter().position(is);
     (1, status.unwrap_or_else(|| panic!("{rest}")) as u64)
 }
 

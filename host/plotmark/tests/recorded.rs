@@ -6,9 +6,10 @@ mod common;
 use std::error::Error;
 use std::fs;
 
-use common::{hold, marked_sheets, name, own, sheets};
+use common::{examples, hold, marked_sheets, name, own, sheets};
 use plotmark::page::page;
 use plotmark::plot::Marked;
+use plotmark::refused::refused;
 use plotmark::text::{Colours, write};
 use plotmark::words::{Driven, told};
 
@@ -45,6 +46,20 @@ fn pages_are_as_recorded() -> Done {
     }
     println!("{count} pages, as recorded");
     assert!(count >= 7);
+    Ok(())
+}
+
+/// Why each of the examples that are refused is.
+#[test]
+fn refusals_are_as_recorded() -> Done {
+    let mut words = String::new();
+    for path in sheets(&examples().join("refused"), &["sheet"])? {
+        let text = fs::read(&path)?;
+        let refusal = Marked::read(&text).err().ok_or("marked")?;
+        words.extend([refused(&name(&path), &text, refusal), "\n".to_string()]);
+    }
+    println!("{} refusals, as recorded", words.lines().count());
+    hold("words", "refused.words", &words)?;
     Ok(())
 }
 

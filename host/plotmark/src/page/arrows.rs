@@ -39,14 +39,19 @@ pub fn draw(html: &mut Html, marked: &Marked, links: &Links, layer: &Layer) {
         }
     }
     for ((id, face, is_above), link) in &links.stubs {
-        if let Some(spot) = layer.spots.get(id) {
-            let class = if *is_above {
-                "stub above"
-            } else {
-                "stub below"
+        let block = marked.plot.block(*id);
+        if let (Some(spot), Some(block)) = (layer.spots.get(id), block) {
+            let stub = Stub {
+                link,
+                spot: *spot,
+                face: *face,
+                is_above: *is_above,
             };
-            titled(html, class, &link.said, |html| {
-                stub(html, link, *spot, *face, *is_above)
+            titled(html, "stub", &link.said, |html| {
+                match layer.has_room(block.position, *face) {
+                    true => stub.long(html),
+                    false => stub.short(html),
+                }
             });
         }
     }
@@ -59,9 +64,62 @@ pub fn draw(html: &mut Html, marked: &Marked, links: &Links, layer: &Layer) {
     }
     for (place, cross) in &links.crosses {
         if let Some(spot) = layer.spots.get(&place.0) {
-            let along = if is_free(links, *place) { 0 } else { ASIDE };
-            left_out(html, cross, *place, *spot, along);
+            let class = if cross.matters {
+                "left-out"
+            } else {
+                "left-out support"
+            };
+            let line = format!("#line{}", cross.line);
+            html.within("a", &[("href", &line), ("class", &class)], |html| {
+                let said = format!("block {}: {}", place.0.0, cross.said.join("\n"));
+                html.saying("title", &[], &said);
+                let lost = Lost {
+                    cross,
+                    place: *place,
+                    spot: *spot,
+                };
+                lost.draw(html, marked, links, layer);
+            });
+            html.line();
         }
+    }
+}
+
+/// Connections that were left out: a red cross, or a grey one where only support is; it
+/// leads to the line of words.
+struct Lost<'a> {
+    cross: &'a Cross,
+    place: Place,
+    spot: Spot,
+}
+
+impl Lost<'_> {
+    fn draw(&self, html: &mut Html, marked: &Marked, links: &Links, layer: &Layer) {
+        let (id, side) = self.place;
+        let Some(face) = side else {
+            let corner = (self.spot.x + WIDTH, self.spot.y + HEIGHT);
+            return shapes::cross(html, self.cross.gone, corner);
+        };
+        if !is_free(links, self.place) {
+            return shapes::cross(html, false, off(self.spot, face, ASIDE, BETWEEN / 2));
+        }
+        let free = |id, face| {
+            if has_sign(&marked.inputs, id, face) {
+                SIGN
+            } else {
+                FREE
+            }
+        };
+        let (mut from, mut to) = (free(id, face), BETWEEN - FREE);
+        let other = self.cross.other.filter(|id| layer.spots.contains_key(id));
+        if let Some(other) = other {
+            to = BETWEEN - free(other, opposite(face));
+            let [from, to] = [from, to].map(|out| off(self.spot, face, 0, out));
+            shapes::line(html, "lost", from, to);
+        } else {
+            from = FREE;
+        }
+        shapes::cross(html, false, off(self.spot, face, 0, (from + to) / 2));
     }
 }
 
@@ -104,19 +162,72 @@ fn arrow(html: &mut Html, link: &Link, a: Point, b: Point, face: Facing) {
     }
 }
 
-/// To or from the layer above or below: a head at the block, and which layer behind it.
-fn stub(html: &mut Html, link: &Link, spot: Spot, face: Facing, is_above: bool) {
-    let along = if is_above { ABOVE } else { BELOW };
-    let way = direction(face);
-    if link.out {
-        shapes::head(html, "head", off(spot, face, along, 7), way);
+/// To or from the layer above or below.
+struct Stub<'a> {
+    link: &'a Link,
+    spot: Spot,
+    face: Facing,
+    is_above: bool,
+}
+
+impl Stub<'_> {
+    fn off(&self, out: i32) -> Point {
+        off(
+            self.spot,
+            self.face,
+            if self.is_above { ABOVE } else { BELOW },
+            out,
+        )
     }
-    if link.back {
-        shapes::head(html, "head", off(spot, face, along, 1), turned(way));
+
+    /// The sign of the layer, in the middle between two points.
+    fn layer(&self, html: &mut Html, out: i32) {
+        let (x, y) = self.off(out);
+        let up = if self.is_above { -1 } else { 1 };
+        shapes::head(html, "to", (x, y + 3 * up), (0, up));
     }
-    let (x, y) = off(spot, face, along, 10);
-    let up = if is_above { -1 } else { 1 };
-    shapes::head(html, "to", (x, y + 3 * up), (0, up));
+
+    /// Where another block stands beside it: a head at the block, and the layer.
+    fn short(&self, html: &mut Html) {
+        let way = direction(self.face);
+        if self.link.out {
+            shapes::head(html, "head", self.off(7), way);
+        }
+        if self.link.back {
+            shapes::head(html, "head", self.off(1), turned(way));
+        }
+        self.layer(html, 10);
+    }
+
+    /// Where there is room: an arrow, the layer, and the block there.
+    fn long(&self, html: &mut Html) {
+        arrow(
+            html,
+            self.link,
+            self.off(FREE),
+            self.off(BETWEEN - 6),
+            self.face,
+        );
+        self.layer(html, BETWEEN - 1);
+        let mut others = self.link.others.iter();
+        let (Some(other), None) = (others.next(), others.next()) else {
+            return;
+        };
+        let (place, (x, y)) = match self.face {
+            Facing::East => ("start", self.off(BETWEEN + 5)),
+            Facing::West => ("end", self.off(BETWEEN + 5)),
+            _ => ("middle", self.off(BETWEEN + 8)),
+        };
+        if other.0 < 1_000 {
+            let attributes: &[(&str, &dyn std::fmt::Display)] = &[
+                ("class", &"to"),
+                ("text-anchor", &place),
+                ("x", &x),
+                ("y", &(y + 3)),
+            ];
+            html.saying("text", attributes, &other.0.to_string());
+        }
+    }
 }
 
 /// Straight up or down: at the block's upper or lower edge.
@@ -135,24 +246,4 @@ fn upright(html: &mut Html, link: &Link, spot: Spot, face: Facing) {
         let x = if link.out { x + 9 } else { x };
         shapes::head(html, "to", (x, edge + 2 * up), (0, -up));
     }
-}
-
-/// A red cross, or a grey one where only support is left out; it leads to its line.
-fn left_out(html: &mut Html, cross: &Cross, (id, side): Place, spot: Spot, along: i32) {
-    let class = if cross.matters {
-        "left-out"
-    } else {
-        "left-out support"
-    };
-    let at = match side {
-        Some(face) => off(spot, face, along, BETWEEN / 2),
-        None => (spot.x + WIDTH, spot.y + HEIGHT),
-    };
-    let line = format!("#line{}", cross.line);
-    let said = format!("block {}: {}", id.0, cross.said.join("\n"));
-    html.within("a", &[("href", &line), ("class", &class)], |html| {
-        html.saying("title", &[], &said);
-        shapes::cross(html, cross.gone, at);
-    });
-    html.line();
 }

@@ -83,6 +83,13 @@ impl Axis {
         &self.tracks
     }
 
+    /// Whether nothing is cut out.
+    #[must_use]
+    pub fn is_whole(&self) -> bool {
+        let mut of = self.tracks.iter().map(|it| it.of);
+        of.all(|it| matches!(it, Of::Cells(_)))
+    }
+
     /// Where the cells with a coordinate begin.
     #[must_use]
     pub fn start(&self, at: i32) -> Option<i32> {

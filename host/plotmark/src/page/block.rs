@@ -26,14 +26,14 @@ impl<'a> Found<'a> {
     /// Of the block at a place of the list.
     pub fn at(marked: &'a Marked, place: usize) -> Option<Self> {
         let block = marked.plot.sheet.components.get(place)?;
-        let alive = marked.liveness.components.get(place)?;
-        let groups = marked.groups.components.get(place)?;
+        let alive = marked.mark.liveness.components.get(place)?;
+        let groups = marked.mark.groups.components.get(place)?;
         let state = match (alive.drive, alive.potential) {
             (true, _) => State::Driven,
             (false, true) => State::Would,
             (false, false) => State::Not,
         };
-        let sources = marked.liveness.sources.iter();
+        let sources = marked.mark.liveness.sources.iter();
         let inputs = marked.inputs.iter();
         Some(Self {
             block,
@@ -59,7 +59,7 @@ impl<'a> Found<'a> {
         let (_, name) = words::named(&marked.plot, id);
         let mut said = format!("{name} at {}", words::at(&marked.plot, id));
         if let (true, Some(face)) = (terms::turns(block.kind), block.facing) {
-            said += &format!(", faces {}", terms::face(face));
+            said += &format!(", faces {}", face);
         }
         if let Some(blank) = terms::blank(marked.plot.sheet.rules, block) {
             said += &format!(", {blank}");
@@ -67,11 +67,11 @@ impl<'a> Found<'a> {
         said += &format!("; {}; region {}", self.state.said(), self.region);
         said += &format!(", net {}, fragment {}", self.net, self.fragment);
         for source in &self.sources {
-            said += &format!("; {}", terms::source(source.kind));
+            said += &format!("; {}", source.kind);
         }
         for input in &self.inputs {
             let side = words::side(&marked.plot, input);
-            said += &format!("; its input {side} {}", terms::status(input.status));
+            said += &format!("; its input {side} {}", input.status);
         }
         said
     }
@@ -116,7 +116,7 @@ pub fn draw(html: &mut Html, marked: &Marked, found: &Found<'_>, spot: Spot) {
             html,
             "kind",
             (x + WIDTH / 2, y + 21),
-            terms::short_kind(found.block.kind),
+            &terms::short_kind(found.block.kind),
         );
         let digits = id.0.to_string();
         label(

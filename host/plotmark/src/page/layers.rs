@@ -1,8 +1,8 @@
 //! Where each block is drawn: a grid per layer, North up.
 
-use std::collections::BTreeMap;
+use std::collections::{BTreeMap, BTreeSet};
 
-use dustroute::{Component, ComponentId, Facing};
+use dustroute::{Component, ComponentId, Facing, Position};
 
 use super::axes::Axis;
 
@@ -17,7 +17,8 @@ const SHARED: i32 = 20;
 pub const LEFT: i32 = 74;
 pub const TOP: i32 = 30;
 
-/// Layers share their axes where the whole plot has no more columns and rows than this.
+/// Layers share their axes where the whole plot has no gap, and no more columns and rows
+/// than this.
 const FEW: usize = 24;
 
 /// Where a block is drawn.
@@ -36,8 +37,21 @@ pub struct Layer {
     pub columns: Axis,
     /// Its rows, by z.
     pub rows: Axis,
-    /// Its blocks, in list order.
+    /// Its blocks.
     pub spots: BTreeMap<ComponentId, Spot>,
+    /// The cells that they are in, by x and z.
+    used: BTreeSet<(i32, i32)>,
+}
+
+impl Layer {
+    /// Whether the cell beside a block is drawn and no block is in it.
+    #[must_use]
+    pub fn has_room(&self, at: Position, face: Facing) -> bool {
+        let (dx, dz) = direction(face);
+        let (x, z) = (at.x.saturating_add(dx), at.z.saturating_add(dz));
+        let is_drawn = self.columns.start(x).is_some() && self.rows.start(z).is_some();
+        is_drawn && !self.used.contains(&(x, z))
+    }
 }
 
 impl Spot {
@@ -101,7 +115,7 @@ pub fn layers(components: &[Component]) -> Vec<Layer> {
     let whole = axes(&components.iter().collect::<Vec<_>>());
     let is_small = [&whole.0, &whole.1]
         .iter()
-        .all(|it| it.tracks().len() <= FEW);
+        .all(|it| it.is_whole() && it.tracks().len() <= FEW);
     let each = by_height.into_iter().map(|(height, blocks)| {
         let axes = if is_small {
             whole.clone()
@@ -134,5 +148,6 @@ fn layer(height: i32, blocks: &[&Component], (columns, rows): (Axis, Axis)) -> L
         columns,
         rows,
         spots,
+        used: used.into_keys().collect(),
     }
 }

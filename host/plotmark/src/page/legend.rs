@@ -34,8 +34,7 @@ fn sign(html: &mut Html, said: &str, class: &str, draw: impl FnOnce(&mut Html)) 
     html.line();
     html.within("li", &[], |html| {
         html.within("svg", attributes, draw);
-        html.text(" ");
-        html.text(said);
+        html.saying("span", &[], said);
     });
 }
 

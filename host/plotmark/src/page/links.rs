@@ -1,9 +1,9 @@
 //! What is drawn of connections: arrows within a layer, stubs to another, marks straight
 //! up and down, and crosses of those that were left out.
 
-use std::collections::BTreeMap;
+use std::collections::{BTreeMap, BTreeSet};
 
-use dustroute::{ComponentId, Facing, KeptConnection, LeftOut, TransferKind, Why};
+use dustroute::{ComponentId, Facing, KeptConnection, LeftOut, Why};
 
 use crate::plot::Plot;
 use crate::steps::Step;
@@ -17,6 +17,8 @@ pub struct Link {
     pub out: bool,
     /// To it.
     pub back: bool,
+    /// The blocks at the other end.
+    pub others: BTreeSet<ComponentId>,
     /// What it says.
     pub said: Vec<String>,
 }
@@ -31,6 +33,8 @@ pub struct Cross {
     pub gone: bool,
     /// Whether one is no support: support is left out of every plot.
     pub matters: bool,
+    /// The block at the other end of the first one.
+    pub other: Option<ComponentId>,
     /// The line of the first one in the sheet.
     pub line: usize,
     /// What it says.
@@ -51,24 +55,13 @@ pub struct Links {
 }
 
 impl Link {
-    fn add(&mut self, is_out: bool, said: &str) {
+    fn add(&mut self, is_out: bool, other: ComponentId, said: &str) {
         self.out |= is_out;
         self.back |= !is_out;
+        self.others.insert(other);
         if self.said.iter().all(|it| it != said) {
             self.said.push(said.to_string());
         }
-    }
-}
-
-const fn transfer(kind: TransferKind) -> &'static str {
-    match kind {
-        TransferKind::DustPropagation => "dust",
-        TransferKind::DirectSignal => "from a source",
-        TransferKind::WeakPower => "weak power",
-        TransferKind::StrongPower => "strong power",
-        TransferKind::DirectionalDevice => "into or out of a device",
-        TransferKind::SideControl => "control",
-        TransferKind::StructuralSupport => "support",
     }
 }
 
@@ -88,43 +81,45 @@ pub fn links(plot: &Plot) -> Links {
 impl Links {
     fn keep(&mut self, plot: &Plot, it: &KeptConnection) {
         let [source, sink] = [it.connection.source, it.connection.sink].map(|end| end.component);
-        let step = step(plot, source, sink);
-        let Some(step) = step else {
+        let Some(step) = step(plot, source, sink) else {
             return;
         };
-        let names = [source, sink].map(|id| words::named(plot, id).1);
-        let said = format!(
-            "{} to {}: {}",
-            names[0],
-            names[1],
-            transfer(it.connection.transfer)
-        );
+        let given = plot.sheet.connections.get(it.item);
+        let kind = given.map_or_else(String::new, |it| format!(": {}", it.kind));
+        let [from, to] = [source, sink].map(|id| words::named(plot, id).1);
+        let said = format!("{from} to {to}{kind}");
         let back = terms::opposite(step.face);
+        let forth = step.face;
         if step.is_upright() {
-            self.uprights
-                .entry((source, step.face))
+            let uprights = &mut self.uprights;
+            uprights
+                .entry((source, forth))
                 .or_default()
-                .add(true, &said);
-            self.uprights
+                .add(true, sink, &said);
+            uprights
                 .entry((sink, back))
                 .or_default()
-                .add(false, &said);
+                .add(false, source, &said);
         } else if step.climb != 0 {
             let rises = step.climb > 0;
-            self.stubs
-                .entry((source, step.face, rises))
+            let stubs = &mut self.stubs;
+            stubs
+                .entry((source, forth, rises))
                 .or_default()
-                .add(true, &said);
-            self.stubs
+                .add(true, sink, &said);
+            stubs
                 .entry((sink, back, !rises))
                 .or_default()
-                .add(false, &said);
-        } else if matches!(step.face, Facing::East | Facing::South) {
-            let key = (source, sink, step.face);
-            self.arrows.entry(key).or_default().add(true, &said);
+                .add(false, source, &said);
+        } else if matches!(forth, Facing::East | Facing::South) {
+            let key = (source, sink, forth);
+            self.arrows.entry(key).or_default().add(true, sink, &said);
         } else {
             let key = (sink, source, back);
-            self.arrows.entry(key).or_default().add(false, &said);
+            self.arrows
+                .entry(key)
+                .or_default()
+                .add(false, source, &said);
         }
     }
 
@@ -137,6 +132,8 @@ impl Links {
             cross.matters |= it.why != Why::Support;
             if cross.said.is_empty() {
                 cross.line = line;
+                let ends = [it.connection.source, it.connection.sink];
+                cross.other = ends.into_iter().find(|id| *id != place.0);
             }
             cross.said.push(said.clone());
         }

@@ -62,12 +62,12 @@ fn body(html: &mut Html, name: &str, marked: &Marked) {
         for layer in layers::layers(&marked.plot.sheet.components) {
             grid::draw(html, marked, &links, &layer);
         }
-        legend::draw(html);
         // The strip has the regions.
         let sections = told.sections.iter();
         for section in sections.filter(|it| it.title != words::title(marked)) {
             telling::section(html, section);
         }
+        legend::draw(html);
     });
     html.line();
     html.within("footer", &[], |html| {

@@ -71,12 +71,12 @@ pub fn star(html: &mut Html, (x, y): Point) {
 
 /// A cross, with a ring where a block is gone.
 pub fn cross(html: &mut Html, gone: bool, (x, y): Point) {
-    path(html, "hit", &format!("M{x},{y}m-5,-5h10v10h-10z"));
-    path(html, "x", &format!("M{x},{y}m-3,-3l6,6m0,-6l-6,6"));
+    path(html, "hit", &format!("M{x},{y}m-6,-6h12v12h-12z"));
+    path(html, "x", &format!("M{x},{y}m-4,-4l8,8m0,-8l-8,8"));
     if gone {
         html.empty(
             "circle",
-            &[("class", &"ring"), ("cx", &x), ("cy", &y), ("r", &6)],
+            &[("class", &"ring"), ("cx", &x), ("cy", &y), ("r", &7)],
         );
     }
 }

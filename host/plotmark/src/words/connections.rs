@@ -20,7 +20,7 @@ pub fn left_out(plot: &Plot, it: &LeftOut, before: &str) -> Line {
 fn joined(line: Line, plot: &Plot, it: &LeftOut) -> Line {
     let line = names::id(line, plot, it.connection.source).and(" to ");
     let line = names::id(line, plot, it.connection.sink);
-    line.and(format!(" ({})", terms::connection(it.connection.kind)))
+    line.and(format!(" ({})", it.connection.kind))
 }
 
 /// Why a connection was left out: the core's reason, in words with names.

@@ -39,7 +39,7 @@ pub const fn briefly(status: RequiredInputStatus) -> &'static str {
 /// Where an input is, as in "at its back (West)".
 #[must_use]
 pub fn side(plot: &Plot, input: &Input) -> String {
-    let face = terms::face(input.face);
+    let face = input.face;
     match plot.block(input.port.component).map(|it| it.kind) {
         Some(BlockKind::Repeater | BlockKind::Comparator) => format!("at its back ({face})"),
         Some(BlockKind::RedstoneTorch) => format!("from the block that holds it ({face})"),
@@ -84,11 +84,11 @@ fn told(plot: &Plot, group: &[&Input], is_first: bool) -> Option<Line> {
     let (what, verdict) = match group.len() {
         1 => (
             format!("its input {} ", side(plot, input)),
-            terms::status(input.status),
+            input.status.to_string(),
         ),
         _ => (
             format!("its inputs on its {} sides ", sides(group)),
-            "have nothing connected",
+            "have nothing connected".to_string(),
         ),
     };
     let line = line.and(what).verdict(tone(input.status), verdict).and(".");
@@ -97,8 +97,8 @@ fn told(plot: &Plot, group: &[&Input], is_first: bool) -> Option<Line> {
 
 /// As in "North, East and West".
 fn sides(group: &[&Input]) -> String {
-    let faces = group.iter().map(|it| terms::face(it.face));
-    let faces: Vec<&str> = faces.collect();
+    let faces = group.iter().map(|it| it.face.to_string());
+    let faces: Vec<String> = faces.collect();
     match faces.as_slice() {
         [before @ .., last] if !before.is_empty() => format!("{} and {last}", before.join(", ")),
         all => all.join(", "),
@@ -161,7 +161,7 @@ fn beside(plot: &Plot, input: &Input) -> Vec<Line> {
     each.dedup();
     let sides = each.chunk_by(|a, b| a.0 == b.0);
     let sides = sides.filter_map(|side| {
-        let text = format!("reached at its side ({}) by ", terms::face(side.first()?.0));
+        let text = format!("reached at its side ({}) by ", side.first()?.0);
         let blocks = side.iter().map(|(_, id)| placed(plot, *id));
         let line = Line::plain(text).blocks(blocks, ", ");
         Some(line.and(", not at its back"))

@@ -67,18 +67,18 @@ fn left(plot: &Plot) -> String {
 /// is told.
 #[must_use]
 pub fn summary(name: &str, marked: &Marked) -> Line {
-    let line = head(name, marked).and(" ");
-    verdicts(line, marked).and(".")
+    let inputs = count(marked.inputs.len(), "input", "inputs");
+    let line = head(name, marked).and(format!(" {inputs}"));
+    verdicts(line, marked, ": ").and(".")
 }
 
-/// Goes on with how many inputs there are, and of each verdict.
-fn verdicts(line: Line, marked: &Marked) -> Line {
+/// Goes on with how many inputs there are of each verdict.
+fn verdicts(line: Line, marked: &Marked, before: &str) -> Line {
     let of = |status| {
         let each = marked.inputs.iter();
         each.filter(|it| it.status == status).count()
     };
-    let mut line = line.and(count(marked.inputs.len(), "input", "inputs"));
-    let mut between = ": ";
+    let (mut line, mut between) = (line, before);
     for status in RequiredInputStatus::ALL {
         if of(status) > 0 {
             let text = format!("{} {}", of(status), inputs::briefly(status));
@@ -114,14 +114,11 @@ fn inputs_section(marked: &Marked, driven: Driven) -> Section {
     } else {
         lines.push(inputs::counted(good.len(), bad.is_empty()));
     }
-    if marked.inputs.is_empty() {
-        lines.push(Line::plain("Nothing here must be driven."));
-    }
-    let counts = verdicts(Line::default(), marked);
-    Section {
-        title: format!("Inputs: {}", counts.text()),
-        lines,
-    }
+    let title = match marked.inputs.len() {
+        0 => "Inputs: none, nothing here must be driven".to_string(),
+        _ => verdicts(Line::plain("Inputs"), marked, ": ").text(),
+    };
+    Section { title, lines }
 }
 
 /// The devices whose facing nobody saw; nothing where there are none.

@@ -3,14 +3,16 @@
 use dustroute::ComponentId;
 
 use crate::plot::Plot;
-use crate::terms;
 use crate::told::Line;
 
 /// A block by kind and id, as in "wire 6".
 #[must_use]
 pub fn named(plot: &Plot, id: ComponentId) -> (ComponentId, String) {
-    let kind = plot.block(id).map_or("block", |it| terms::kind(it.kind));
-    (id, format!("{kind} {}", id.0))
+    let name = plot.block(id).map_or_else(
+        || format!("block {}", id.0),
+        |it| format!("{} {}", it.kind, id.0),
+    );
+    (id, name)
 }
 
 /// Where a block is, as in "5,0,0".

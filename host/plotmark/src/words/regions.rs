@@ -28,7 +28,7 @@ fn members(plot: &Plot, blocks: &[ComponentId]) -> Line {
 pub fn lights(marked: &Marked, step: &Step) -> (Tone, &'static str) {
     let first = step.blocks.first();
     let place = first.and_then(|id| marked.plot.place(*id));
-    let found = place.and_then(|place| marked.liveness.components.get(place));
+    let found = place.and_then(|place| marked.mark.liveness.components.get(place));
     if step.lights {
         (Tone::Good, "driven")
     } else if found.is_some_and(|it| it.potential) {
@@ -44,7 +44,7 @@ pub fn region(marked: &Marked, step: &Step) -> Line {
     let (tone, text) = lights(marked, step);
     let line = members(&marked.plot, &step.blocks);
     let line = line.and(": ").verdict(tone, text);
-    let found = marked.liveness.regions.get(step.region);
+    let found = marked.mark.liveness.regions.get(step.region);
     let line = match found {
         Some(it) if it.has_drive => line.and(", a source is in it"),
         _ => line,
