@@ -33,6 +33,7 @@ ENTRIES = {
     "records/lib": ["analyze_records"],
     "sheet/lib": ["read_sheet"],
     "convert/lib": ["convert_sheet"],
+    "join/lib": ["join_sheets"],
     "report/lib": ["report"],
     "plotreport/program": ["answer"],
     "capi/lib": ["dustroute_groups", "dustroute_liveness"],
@@ -47,6 +48,7 @@ ENTRIES = {
     "capi/block": ["dustroute_block_ports"],
     "capi/input": ["dustroute_input"],
     "capi/texts": ["dustroute_sheet", "dustroute_report", "dustroute_convert"],
+    "capi/joined": ["dustroute_join"],
 }
 STATEMENTS = [
     ("lists", "Places", "PlacesLaws"),
@@ -74,6 +76,7 @@ STATEMENTS = [
     ("report", "Same", "SameReport"),
     ("report", "Rules", "LampsAlone"),
     ("convert", "Laws", "Converts"),
+    ("join", "Laws", "Joins"),
     ("plotreport", "Fits", "ShortFits"),
     ("assessment", "RulesLaws", "RulesAgree"),
     ("assessment", "RulesLaws", "SameButInferred"),
