@@ -1,4 +1,3 @@
 pub mod Places
-pub mod Inputs
-pub mod Ports
+pub mod Numbers
 pub mod Sheets

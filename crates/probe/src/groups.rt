@@ -1,7 +1,7 @@
 // A fragment's nets for the tests from Rust.
 ghost use Rattle.std.specs.Prelude.{◌≡◌, ◌&&◌, ltb};
 ghost use Rattle.circuit.specs.Topology.{shares_member};
-ghost use Rattle.probe.specs.Ports.{as_number};
+ghost use Rattle.probe.specs.Numbers.{as_number};
 ghost use Rattle.lists.specs.Limits.{component_limit};
 
 // 1 where the net shares a member with the fragment; a set has none from its limit on.

@@ -5,10 +5,12 @@
 use std::fmt::{self, Display};
 
 use oracle::Input;
+use probe::blocks::input;
 use probe::capi::{self, RowCounts, WORDS};
-use probe::query::{Asked, immediate_word, inferred_word, input_refusal};
+use probe::entries::{Lists, Port};
 use scenes::bytes::{self, LivenessLent, NUMBER, SET_WORDS};
 use scenes::limits::{COMPONENT, RULES_OF_THE_RUST};
+use scenes::refusals::NO_LIST;
 use scenes::{Lent, Scene};
 
 use crate::{Counted, Guarded, UNKNOWN_RULES};
@@ -73,7 +75,6 @@ pub struct Alive {
     by_source: [u64; 4],
     by_status: [u64; 4],
     rows_asked: u64,
-    words_asked: u64,
 }
 
 /// Up to this many components every row is asked for.
@@ -83,14 +84,7 @@ const FEW: usize = 8;
 const ASKED: usize = 4;
 
 /// 8: the port asked for has no verdict row.
-const NO_ROW: probe::Refusal = probe::Refusal {
-    number: 8,
-    list: 3,
-    item: 0,
-};
-
-/// Asks for a word of a set.
-type Word = fn(&Asked<'_>, usize, &mut [usize]) -> u64;
+const NO_ROW: u64 = 8 + 256 * NO_LIST;
 
 /// The slices that are lent to one call.
 struct Slices {
@@ -211,49 +205,18 @@ impl Alive {
         } else {
             1 + report.inputs.len() / ASKED
         };
-        for input in report.inputs.iter().step_by(step) {
-            let [id, port] = [input.device, input.port].map(i64::unsigned_abs);
-            let mut asked = Asked {
-                rules,
-                components: &scene.components,
-                ports: &scene.ports,
-                frontiers: &scene.frontiers,
-                id,
-                port,
-            };
-            self.query(&asked, input, scene, case);
-            asked.port += 5;
-            let mut stack = Guarded::new(Lent::enough(scene).stack, 0);
-            let given = input_refusal(&asked, stack.lent());
-            assert_eq!(given, Some(NO_ROW), "no row, {case}{scene}");
-            assert!(stack.holds(&[]), "a refusal wrote, {case}{scene}");
+        let lists = Lists {
+            rules,
+            components: &scene.components,
+            ports: &scene.ports,
+            frontiers: &scene.frontiers,
+        };
+        for row in report.inputs.iter().step_by(step) {
+            self.rows_asked += 1;
+            let [id, port] = [row.device, row.port].map(i64::unsigned_abs);
+            hold_query(lists, [id, port], Some(row), scene, case);
+            hold_query(lists, [id, port + 5], None, scene, case);
         }
-    }
-
-    /// Every word is a query of its own, so not all are asked for: those that
-    /// have members and one more in turn, and after sixteen rows every word of one.
-    fn query(&mut self, asked: &Asked<'_>, row: &Input, scene: &Scene, case: &dyn Display) {
-        let turn = usize::try_from(self.rows_asked).unwrap_or(0);
-        self.rows_asked += 1;
-        let length = Lent::enough(scene).stack;
-        let mut stack = Guarded::new(length, 0);
-        let refusal = input_refusal(asked, stack.lent());
-        assert_eq!(refusal, None, "{asked:?}, {case}");
-        let sets: [(Word, &[i64]); 2] = [
-            (immediate_word, &row.immediate),
-            (inferred_word, &row.inferred),
-        ];
-        for (given, ids) in sets {
-            let wanted = members(ids, scene).into_iter().enumerate();
-            let in_turn = turn % (WORDS + 1);
-            let all = in_turn == WORDS;
-            for (k, word) in wanted.filter(|(k, word)| all || *word != 0 || in_turn == *k) {
-                self.words_asked += 1;
-                let given = given(asked, k, stack.lent());
-                assert_eq!(given, word, "word {k} of {asked:?}, {case}");
-            }
-        }
-        assert!(stack.holds(&vec![0; length]), "stack, {case}{scene}");
     }
 
     /// How often each status came up.
@@ -279,6 +242,33 @@ impl Counted for Alive {
     fn print(&self, title: &str) {
         println!("{title}: {self:?}");
     }
+}
+
+/// The query of a port: both sets of a verdict row and a stack of zeros, or 8 and
+/// every slice as it was.
+fn hold_query(
+    lists: Lists<'_>,
+    port: Port,
+    row: Option<&Input>,
+    scene: &Scene,
+    case: &dyn Display,
+) {
+    let length = Lent::enough(scene).stack;
+    let [mut immediate, mut inferred] = [0, 1].map(|shift| Guarded::new(WORDS, shift));
+    let mut stack = Guarded::new(length, 0);
+    let sets = [immediate.lent(), inferred.lent()];
+    let given = input(lists, port, sets, stack.lent());
+    let (wanted, sets, zeros) = match row {
+        Some(row) => {
+            let sets = [&row.immediate, &row.inferred].map(|ids| members(ids, scene));
+            (0, sets, vec![0; length])
+        }
+        None => (NO_ROW, [Vec::new(), Vec::new()], Vec::new()),
+    };
+    assert_eq!(given, wanted, "answer of {port:?}, {case}{scene}");
+    let held = immediate.holds(&sets[0]) && inferred.holds(&sets[1]);
+    assert!(held, "sets of {port:?}, {case}{scene}");
+    assert!(stack.holds(&zeros), "stack of {port:?}, {case}{scene}");
 }
 
 /// The fewest bytes that are enough.

@@ -2,6 +2,11 @@
 
 use std::fmt::Display;
 
+use probe::blocks::input;
+use probe::capi::WORDS;
+use probe::entries::Lists;
+use probe::ports::port_connections;
+use scenes::bytes::{self, NUMBER, SET_WORDS};
 use scenes::damage::List;
 use scenes::limits::COMPONENT;
 use scenes::{Lent, Scene, members, refusals};
@@ -151,28 +156,63 @@ fn entries(rules: i64, scene: &Scene, lent: &Lent) -> ([Plain; 4], [Plain; 4]) {
         ports: p,
         frontiers: f,
     } = scene;
-    let Lent {
-        nets,
-        fragments,
-        ports,
-        regions,
-        sources,
-        inputs,
-        stack,
-    } = *lent;
+    let lent = &lent.within(&Lent::enough(scene));
     let wanted = [
-        refusals::grouping(rules, c, e, nets, fragments),
-        refusals::ports(rules, c, e, ports),
+        refusals::grouping(rules, c, e, lent.nets, lent.fragments),
+        refusals::ports(rules, c, e, lent.ports),
         refusals::liveness(rules, c, p, f, lent),
-        refusals::query(rules, c, p, f, stack),
+        refusals::query(rules, c, p, f, lent.stack),
     ];
     let given = [
-        probe::grouping(rules, c, e, nets, fragments),
-        probe::ports(rules, c, e, ports),
-        probe::liveness(rules, c, p, f, [regions, sources, inputs, stack]),
-        probe::query(rules, c, p, f, stack),
+        grouped(rules, scene, lent),
+        connected(rules, scene, lent),
+        analyzed(rules, scene, lent),
+        asked(rules, scene, lent),
     ];
     (wanted.map(restated), given.map(probed))
+}
+
+fn room(numbers: usize) -> Vec<u8> {
+    vec![0; numbers * NUMBER]
+}
+
+fn grouped(rules: i64, scene: &Scene, lent: &Lent) -> Option<probe::Refusal> {
+    let [components, connections] = [&scene.components, &scene.connections].map(|it| bytes::of(it));
+    let (mut nets, mut fragments) = (room(lent.nets), room(lent.fragments));
+    probe::capi::groups(rules, &components, &connections, &mut nets, &mut fragments).err()
+}
+
+fn connected(rules: i64, scene: &Scene, lent: &Lent) -> Option<probe::Refusal> {
+    let mut rows = vec![0; lent.ports];
+    port_connections(rules, &scene.components, &scene.connections, &mut rows).err()
+}
+
+fn analyzed(rules: i64, scene: &Scene, lent: &Lent) -> Option<probe::Refusal> {
+    let lists = [&scene.components, &scene.ports, &scene.frontiers].map(|it| bytes::of(it));
+    let [components, ports, frontiers] = &lists;
+    let slices = probe::capi::Lent {
+        regions: &mut room(lent.regions),
+        sources: &mut room(lent.sources),
+        inputs: &mut room(lent.inputs),
+        sets: &mut room(SET_WORDS),
+        stack: &mut room(lent.stack),
+    };
+    probe::capi::liveness_bytes(rules, components, ports, frontiers, slices).err()
+}
+
+/// At a port that is nobody's, so that 8 stands for acceptance.
+fn asked(rules: i64, scene: &Scene, lent: &Lent) -> Option<probe::Refusal> {
+    let lists = Lists {
+        rules,
+        components: &scene.components,
+        ports: &scene.ports,
+        frontiers: &scene.frontiers,
+    };
+    let (mut immediate, mut inferred) = ([0; WORDS], [0; WORDS]);
+    let mut stack = vec![0; lent.stack];
+    let sets = [&mut immediate[..], &mut inferred[..]];
+    let answer = input(lists, [u64::MAX, 0], sets, &mut stack);
+    probe::refusal_of(answer).filter(|refusal| refusal.number != 8)
 }
 
 /// Some ids of the list with their neighbours, and the ends of the types.

@@ -1,110 +1,121 @@
-//! The proved ports of single blocks and faces of single steps against the
-//! unchanged Rust, by rules 3 against the restatement, and what they give outside
-//! the ranges of their codes; the slopes of steps against the words of the request.
+//! The ports of single blocks and faces of single steps against the unchanged Rust, by
+//! rules 3 against the restatement; codes out of their range are refused, and every
+//! length of the slice; the slopes of steps against the words of the request.
 
-use probe::ports::{Block, port, port_count, step_between};
+use checks::{Guarded, UNKNOWN_RULES};
+use probe::blocks::{Block, block_ports};
+use probe::ports::step_between;
 use scenes::limits::{FAR, LAST_FACE, LAST_KIND, LAST_RULES, UNREAD_BLANKS};
 
 type Cell = [i64; 3];
 
-/// Numbers of rules. By those that are not known, what does not depend on an entry
-/// is as by the nearest that are.
+/// Numbers of rules, known and not.
 const RULES: [i64; 8] = [1, 2, LAST_RULES, i64::MIN, -1, 0, LAST_RULES + 1, i64::MAX];
 
-/// The Rust's ports of a block, by rules 3 the restatement's, packed as role, face
-/// and channel.
-fn wanted_ports(rules: i64, codes: [i64; 4]) -> Vec<u64> {
+/// Numbers that the slice of a block's ports must have.
+const PLACES: usize = 7 * 3;
+
+/// 11, 2 and 3 as they are packed: 3 at the first item of the components.
+const UNKNOWN: u64 = UNKNOWN_RULES as u64 + 256 * 3;
+const SHORT: u64 = 2 + 256 * 3;
+const OUT_OF_RANGE: u64 = 3;
+
+/// The Rust's ports of a block, by rules 3 the restatement's.
+fn wanted_ports(rules: i64, codes: Block) -> Vec<[i64; 3]> {
     let [kind, facing, support, conducts] = codes;
     let component = [0, 0, 0, 0, kind, facing, support, conducts];
-    let ports = if rules < UNREAD_BLANKS {
+    if rules < UNREAD_BLANKS {
         oracle::ports_of(&component).concat()
     } else {
         paper::ports_of(rules, &component).concat()
-    };
-    let pack = |[role, face, channel]: [i64; 3]| role + 256 * face + 65_536 * channel;
-    ports
-        .into_iter()
-        .map(|port| pack(port).unsigned_abs())
-        .collect()
+    }
 }
 
-fn hold_ports(rules: i64, block: Block, wanted: &[u64]) {
-    let count = port_count(rules, block);
-    assert_eq!(count, wanted.len() as u64, "count of {block:?} by {rules}");
-    let beyond = [7, 8, 255, 256, 1 << 32, u64::MAX];
-    for place in (0..7).chain(beyond) {
-        let at = usize::try_from(place).ok();
-        let there = at.and_then(|place| wanted.get(place));
-        let wanted = there.copied().unwrap_or(0);
-        let given = port(rules, block, place);
-        assert_eq!(given, wanted, "port {place} of {block:?} by {rules}");
+/// The answer and the places behind the slice's front: the ports, and zeros past the
+/// last; a refusal leaves all as it was.
+fn wanted(rules: i64, block: Block, length: usize) -> (u64, Vec<u64>) {
+    let lasts = [LAST_KIND, LAST_FACE, LAST_FACE, 1];
+    let mut each = block.iter().zip(lasts);
+    if !(1..=LAST_RULES).contains(&rules) {
+        (UNKNOWN, Vec::new())
+    } else if length < PLACES {
+        (SHORT, Vec::new())
+    } else if each.any(|(code, last)| !(0..=last).contains(code)) {
+        (OUT_OF_RANGE, Vec::new())
+    } else {
+        let ports = wanted_ports(rules, block);
+        let count = ports.len() as u64;
+        let numbers = ports.into_iter().flatten().map(i64::unsigned_abs);
+        let mut numbers: Vec<u64> = numbers.collect();
+        numbers.resize(PLACES, 0);
+        (65_536 * count, numbers)
     }
+}
+
+fn hold_ports(rules: i64, block: Block, length: usize) -> u64 {
+    let mut slice = Guarded::new(length, length);
+    let given = block_ports(rules, block, slice.lent());
+    let (answer, numbers) = wanted(rules, block, length);
+    assert_eq!(given, answer, "{block:?} by {rules}, {length} places");
+    assert!(
+        slice.holds(&numbers),
+        "{block:?} by {rules}, {length} places"
+    );
+    answer
 }
 
 #[test]
 fn every_block_has_the_ports_of_the_rust() {
-    let mut count = 0;
+    let (mut count, mut accepted) = (0, 0);
     for kind in 0..=LAST_KIND {
         for facing in 0..=LAST_FACE {
             for support in 0..=LAST_FACE {
                 for conducts in 0..=1 {
                     let codes = [kind, facing, support, conducts];
                     for rules in RULES {
-                        let wanted = wanted_ports(rules, codes);
-                        hold_ports(rules, codes.map(i64::unsigned_abs), &wanted);
-                        count += 1;
+                        for length in [PLACES, PLACES + 1, PLACES - 1, 0] {
+                            let answer = hold_ports(rules, codes, length);
+                            accepted += u64::from(answer.is_multiple_of(65_536));
+                            count += 1;
+                        }
                     }
                 }
             }
         }
     }
-    println!("{count} blocks by rules of eight numbers");
-    assert_eq!(count, 1_274 * RULES.len());
+    println!("{count} calls for the ports of a block, {accepted} accepted");
+    assert_eq!(count, 4 * 1_274 * RULES.len());
+    assert_eq!(accepted, 2 * 1_274 * 3);
 }
 
-/// Codes with those beyond their range, also such as a narrower number would
-/// take for one inside.
-fn codes(last: u64) -> Vec<u64> {
+/// Codes with those beyond their range, also such as a narrower number, or one
+/// without a sign, would take for one inside.
+fn codes(last: i64) -> Vec<i64> {
     let beyond = [last + 1, last + 2, 255, 256, 257, 258, 259, 265, 65_537];
-    let far = [1 << 32, (1 << 32) + 1, 1 << 63, u64::MAX - 1, u64::MAX];
-    (0..=last).chain(beyond).chain(far).collect()
+    let far = [1 << 32, (1 << 32) + 1, i64::MAX - 1, i64::MAX];
+    let below = [-1, -2, -256, i64::MIN, i64::MIN + 1];
+    let inside = 0..=last;
+    inside.chain(beyond).chain(far).chain(below).collect()
 }
 
-/// No port for an unknown kind; an unknown face counts as none, but by rules 3 as
-/// North, since only 0 is a blank; and only 1 conducts.
 #[test]
-fn unknown_codes_have_the_ports_of_the_nearest_meaning() {
-    let none = |face: i64| {
-        if (1..=LAST_FACE).contains(&face) {
-            face
-        } else {
-            0
-        }
-    };
-    let known = |code: u64| i64::try_from(code).unwrap_or(i64::MAX);
-    let mut count = 0;
-    for kind in codes(12) {
-        for facing in codes(6) {
-            for support in codes(6) {
+fn codes_out_of_their_range_are_refused() {
+    let (mut count, mut refused) = (0_u64, 0_u64);
+    for kind in codes(LAST_KIND) {
+        for facing in codes(LAST_FACE) {
+            for support in codes(LAST_FACE) {
                 for conducts in codes(1) {
-                    let block = [kind, facing, support, conducts];
-                    let [kind, facing, support, conducts] = block.map(known);
                     for rules in [1, LAST_RULES] {
-                        let facing = if facing == 0 { 0 } else { none(facing).max(1) };
-                        let meant = [kind, facing, none(support), i64::from(conducts == 1)];
-                        let wanted = if kind <= LAST_KIND {
-                            wanted_ports(rules, meant)
-                        } else {
-                            Vec::new()
-                        };
-                        hold_ports(rules, block, &wanted);
+                        let block = [kind, facing, support, conducts];
+                        refused += u64::from(hold_ports(rules, block, PLACES) == OUT_OF_RANGE);
                         count += 1;
                     }
                 }
             }
         }
     }
-    println!("{count} blocks with unknown codes");
+    println!("{count} blocks of any codes, {refused} refused");
+    assert_eq!(count - refused, 2 * 1_274);
 }
 
 /// The Rust's face of a step, read off the port that a wire takes: the six

@@ -154,12 +154,10 @@ fn full_plots() -> Option<Vec<Lists>> {
 }
 
 fn mark(plot: &Lists) -> Result<[usize; 2], Refusal> {
-    let groups = groups(RULES, &plot.components, &plot.connections)?;
     let found = liveness(RULES, &plot.components, &plot.ports, &plot.frontiers)?;
     light(RULES, &plot.components, &plot.ports, &plot.frontiers)?;
     let looped = rings(RULES, &plot.components, &plot.ports, &plot.frontiers)?;
     assert_eq!(looped.rings.len(), found.regions.len());
-    ports(RULES, &plot.components, &plot.connections)?;
     for row in found.inputs.iter().take(20) {
         driven(
             RULES,
@@ -171,6 +169,9 @@ fn mark(plot: &Lists) -> Result<[usize; 2], Refusal> {
     }
     let cleared = clear(RULES, &plot.components, &plot.ports, &plot.frontiers)?;
     assert_eq!(cleared.kept, plot.ports);
+    let whole = dustroute::mark(RULES, &plot.components, &plot.connections, &plot.frontiers)?;
+    let groups = groups(RULES, &plot.components, &plot.connections)?;
+    assert_eq!(whole.groups, groups);
     Ok([groups.net_count, found.regions.len()])
 }
 

@@ -16,7 +16,7 @@ use scenes::random::Random;
 use scenes::sheets::drawn;
 use scenes::sheets::forms::{Form, write_form};
 use scenes::sized::Shape;
-use scenes::{Profile, blanks};
+use scenes::{Profile, blanks, exhaustive};
 use typed::Lists;
 
 /// Lines of keys and values. Writing to a string cannot fail.
@@ -144,6 +144,20 @@ fn it_is_the_report_of_drawn_sheets() -> Result<(), Refusal> {
     }
     println!("marked: verdicts {statuses:?}, left out {left_out}");
     assert!(statuses.iter().all(|count| *count > 500) && left_out > 10_000);
+    Ok(())
+}
+
+#[test]
+fn it_is_the_report_of_every_small_scene() -> Result<(), Refusal> {
+    let mut count = 0_u64;
+    let rules = Rules::ALL.into_iter().cycle();
+    for ((place, scene), rules) in exhaustive::scenes().enumerate().zip(rules) {
+        let text = write_form(Form::Short, rules.number(), &scene);
+        hold(&text, &format!("small scene {place}, {rules}"))?;
+        count += 1;
+    }
+    println!("marked: {count} small scenes");
+    assert!(count > 90_000);
     Ok(())
 }
 

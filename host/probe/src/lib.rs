@@ -1,5 +1,5 @@
-//! The proved library called through the C convention: refusals and the id
-//! table here, ports and the product's own entries in modules.
+//! The proved library called through the C convention: the list checks of a sheet
+//! and the id table here, steps and the product's own entries in modules.
 //!
 //! The raw declarations stay in private modules; the functions here take
 //! slices, which are never null, and give typed answers. Nothing checks the
@@ -8,10 +8,10 @@
 //! `rules` is the number of the rules, of any value: those that are not known are
 //! refused.
 
+pub mod blocks;
 pub mod capi;
 pub mod entries;
 pub mod ports;
-pub mod query;
 pub mod report;
 pub mod sheets;
 
@@ -19,50 +19,6 @@ mod raw {
     //! A slice passes as a pointer and then a length in numbers.
 
     unsafe extern "C" {
-        pub fn probe_grouping_refusal(
-            rules: i64,
-            components: *const i64,
-            components_len: usize,
-            connections: *const i64,
-            connections_len: usize,
-            nets: usize,
-            fragments: usize,
-        ) -> u64;
-
-        pub fn probe_ports_refusal(
-            rules: i64,
-            components: *const i64,
-            components_len: usize,
-            connections: *const i64,
-            connections_len: usize,
-            ports: usize,
-        ) -> u64;
-
-        pub fn probe_liveness_refusal(
-            rules: i64,
-            components: *const i64,
-            components_len: usize,
-            ports: *const i64,
-            ports_len: usize,
-            frontiers: *const i64,
-            frontiers_len: usize,
-            regions: usize,
-            sources: usize,
-            inputs: usize,
-            stack: usize,
-        ) -> u64;
-
-        pub fn probe_query_refusal(
-            rules: i64,
-            components: *const i64,
-            components_len: usize,
-            ports: *const i64,
-            ports_len: usize,
-            frontiers: *const i64,
-            frontiers_len: usize,
-            stack: usize,
-        ) -> u64;
-
         pub fn probe_sheet_refusal(
             rules: i64,
             components: *const i64,
@@ -101,6 +57,12 @@ fn refused(answer: u64) -> Option<Refusal> {
     (answer != 0).then(|| refusal(answer))
 }
 
+/// The refusal of an entry's answer; none where it accepted.
+#[must_use]
+pub fn refusal_of(answer: u64) -> Option<Refusal> {
+    unpack(answer).err()
+}
+
 /// An answer: what stands above the lowest sixteen bits where those are 0,
 /// else a refusal.
 const fn unpack(answer: u64) -> Result<u64, Refusal> {
@@ -116,98 +78,6 @@ const fn place(answer: u64) -> Option<u64> {
     answer.checked_sub(1)
 }
 
-/// The grouping entry's refusal, slices given by their lengths in numbers.
-#[must_use]
-pub fn grouping(
-    rules: i64,
-    components: &[i64],
-    connections: &[i64],
-    nets: usize,
-    fragments: usize,
-) -> Option<Refusal> {
-    // SAFETY: both pointers are to whole slices of the lengths beside them,
-    // which the callee only reads.
-    refused(unsafe {
-        raw::probe_grouping_refusal(
-            rules,
-            components.as_ptr(),
-            components.len(),
-            connections.as_ptr(),
-            connections.len(),
-            nets,
-            fragments,
-        )
-    })
-}
-
-/// The ports entry's refusal.
-#[must_use]
-pub fn ports(rules: i64, components: &[i64], connections: &[i64], ports: usize) -> Option<Refusal> {
-    // SAFETY: as for `grouping`.
-    refused(unsafe {
-        raw::probe_ports_refusal(
-            rules,
-            components.as_ptr(),
-            components.len(),
-            connections.as_ptr(),
-            connections.len(),
-            ports,
-        )
-    })
-}
-
-/// The liveness entry's refusal, with slices of these lengths for regions,
-/// sources and inputs, and for the stack.
-#[must_use]
-pub fn liveness(
-    rules: i64,
-    components: &[i64],
-    ports: &[i64],
-    frontiers: &[i64],
-    [regions, sources, inputs, stack]: [usize; 4],
-) -> Option<Refusal> {
-    // SAFETY: as for `grouping`, with three slices.
-    refused(unsafe {
-        raw::probe_liveness_refusal(
-            rules,
-            components.as_ptr(),
-            components.len(),
-            ports.as_ptr(),
-            ports.len(),
-            frontiers.as_ptr(),
-            frontiers.len(),
-            regions,
-            sources,
-            inputs,
-            stack,
-        )
-    })
-}
-
-/// The input query's refusal without its own number 8.
-#[must_use]
-pub fn query(
-    rules: i64,
-    components: &[i64],
-    ports: &[i64],
-    frontiers: &[i64],
-    stack: usize,
-) -> Option<Refusal> {
-    // SAFETY: as for `grouping`, with three slices.
-    refused(unsafe {
-        raw::probe_query_refusal(
-            rules,
-            components.as_ptr(),
-            components.len(),
-            ports.as_ptr(),
-            ports.len(),
-            frontiers.as_ptr(),
-            frontiers.len(),
-            stack,
-        )
-    })
-}
-
 /// The list checks of a sheet, 11 and 3 to 6, on whole lists within their limits.
 #[must_use]
 pub fn sheet_lists(
@@ -216,7 +86,8 @@ pub fn sheet_lists(
     connections: &[i64],
     frontiers: &[i64],
 ) -> Option<Refusal> {
-    // SAFETY: as for `grouping`, with three slices.
+    // SAFETY: the pointers are to whole slices of the lengths beside them,
+    // which the callee only reads.
     refused(unsafe {
         raw::probe_sheet_refusal(
             rules,

@@ -1,26 +1,9 @@
-//! The proved ports, steps and kept connections, and a fragment's nets.
+//! Steps, kept connections, and a fragment's nets.
 
 use crate::{Refusal, unpack};
 
 mod raw {
     unsafe extern "C" {
-        pub safe fn probe_port_count(
-            rules: i64,
-            kind: u64,
-            facing: u64,
-            support: u64,
-            conducts: u64,
-        ) -> u64;
-
-        pub safe fn probe_port(
-            rules: i64,
-            kind: u64,
-            facing: u64,
-            support: u64,
-            conducts: u64,
-            place: u64,
-        ) -> u64;
-
         pub safe fn probe_step_between(
             x: i64,
             y: i64,
@@ -50,22 +33,6 @@ mod raw {
             ports_len: usize,
         ) -> u64;
     }
-}
-
-/// A component's codes for kind, facing, support and conducts; any numbers.
-pub type Block = [u64; 4];
-
-/// How many ports a block has, under rules of any number.
-#[must_use]
-pub fn port_count(rules: i64, [kind, facing, support, conducts]: Block) -> u64 {
-    raw::probe_port_count(rules, kind, facing, support, conducts)
-}
-
-/// Role, face and channel of a block's port, as role + 256 × face + 65,536 ×
-/// channel; 0 where there is no such port.
-#[must_use]
-pub fn port(rules: i64, [kind, facing, support, conducts]: Block, place: u64) -> u64 {
-    raw::probe_port(rules, kind, facing, support, conducts, place)
 }
 
 /// Face and slope of the step from one cell to another; face 0 for none.

@@ -47,6 +47,17 @@ impl Lent {
         }
     }
 
+    /// The same, or where a length is far beyond what is enough, somewhat beyond it.
+    #[must_use]
+    pub fn within(&self, enough: &Self) -> Self {
+        const BEYOND: usize = 100;
+        let (mut lent, mut enough) = (*self, *enough);
+        for (length, enough) in lent.each().into_iter().zip(enough.each()) {
+            *length = (*length).min(*enough + BEYOND);
+        }
+        lent
+    }
+
     fn each(&mut self) -> [&mut usize; 7] {
         [
             &mut self.nets,

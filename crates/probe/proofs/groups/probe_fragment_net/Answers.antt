@@ -13,7 +13,7 @@ use mir.Val.{bool_byte}
 use Rattle.sets.specs.Members.{word_count, member_of}
 use Rattle.sets.proofs.Words.{member_past}
 use Rattle.lists.specs.Limits.{component_limit}
-use Rattle.probe.specs.Ports.{as_number}
+use Rattle.probe.specs.Numbers.{as_number}
 use Rattle.probe.proofs.groups.probe_fragment_net.Goals as goal
 
 held : (words : List ℕ) (shares : ℕ → Bool) (net : ℕ) → length words ≡ word_count
