@@ -4,7 +4,7 @@
 use std::io;
 use std::path::PathBuf;
 
-use dustroute::{Clash, JoinRefusal, List, Place, Refusal, WhichSheet, join, read_sheet};
+use dustroute::{Clash, JoinRefusal, List, Place, Refusal, WhichSheet, join, read_sheet, report};
 use paper::join::Join;
 use scenes::random::Random;
 use scenes::sheets::drawn::{self, Drawn};
@@ -197,6 +197,8 @@ fn the_halves_of_the_lesson_make_the_recorded_sheet() -> io::Result<()> {
             assert_eq!(joined.as_deref(), Ok(&whole[..]), "{left}, {right}");
         }
     }
+    let told = report(&whole);
+    assert_eq!(told.as_deref(), Ok(&example("halves-joined.report")?[..]));
     let typo = join(
         &example("left-half.sheet")?,
         b"sheet=2\nrules=1\ncomponents=x\n",
