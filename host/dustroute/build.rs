@@ -1,5 +1,7 @@
 //! Links the archive of the product's entries.
 
 fn main() {
-    let _ = archive::link("capi");
+    let archive = archive::link("capi");
+    // To the build script of a program that says by which archive it marks.
+    println!("cargo::metadata=archive={}", archive.display());
 }

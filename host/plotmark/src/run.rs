@@ -11,7 +11,7 @@ use crate::args::{self, Command};
 use crate::files::{Fault, Progress, called, colours, put, read};
 use crate::page;
 use crate::plot::{Input, Marked, Plot};
-use crate::refused::refused;
+use crate::refused::{not_joined, refused};
 use crate::terms;
 use crate::text::{line, write};
 use crate::words::{self, Driven};
@@ -62,10 +62,8 @@ fn base(name: &str) -> &str {
 
 fn version() -> String {
     let own = env!("CARGO_PKG_VERSION");
-    format!(
-        "plotmark {own}, core of interface {}\n",
-        dustroute::interface()
-    )
+    let (interface, core) = (dustroute::interface(), env!("PLOTMARK_CORE"));
+    format!("plotmark {own}\ncore: interface {interface}, {core}\n")
 }
 
 /// Writes what is made of one sheet.
@@ -153,6 +151,11 @@ fn no_input(plot: &Plot, id: ComponentId, port: Option<u8>) -> String {
     format!("{name} has no input{which} that must be driven{blank}.")
 }
 
-fn join(_: &[OsString; 2]) -> Result<(), Fault> {
-    Err(Fault::Failed("plotmark: join is not there yet".to_string()))
+fn join(sheets: &[OsString; 2]) -> Result<(), Fault> {
+    let [first, second] = sheets;
+    let texts = [read(first)?, read(second)?];
+    let names = [called(first), called(second)];
+    let joined = dustroute::join(&texts[0], &texts[1]);
+    let joined = joined.map_err(|it| Fault::Refused(not_joined(&names, &texts, &it)));
+    put(&joined?)
 }

@@ -11,6 +11,8 @@ use std::process::Command;
 use common::{Report, examples, name, own};
 use plotmark::page::page;
 use plotmark::plot::Marked;
+use scenes::sheets::forms::{Form, write_form};
+use scenes::sized::Shape;
 
 type Done = Result<(), Box<dyn Error>>;
 
@@ -72,12 +74,14 @@ fn sorted(ids: &str) -> String {
     ids.join(" ")
 }
 
-fn hold(browser: &Path, sheet: &Path) -> Done {
-    let name = name(sheet);
-    let text = fs::read(sheet)?;
-    let report = String::from_utf8(dustroute::report(&text)?)?;
+fn hold_file(browser: &Path, sheet: &Path) -> Done {
+    hold(browser, &fs::read(sheet)?, &name(sheet))
+}
+
+fn hold(browser: &Path, text: &[u8], name: &str) -> Done {
+    let report = String::from_utf8(dustroute::report(text)?)?;
     let report = Report::of(&report).ok_or("no report")?;
-    let said = opened(browser, &page(&name, &Marked::read(&text)?), &name)?;
+    let said = opened(browser, &page(name, &Marked::read(text)?), name)?;
     let after = |word: &str| {
         let each = said.iter().filter_map(|it| it.strip_prefix(word));
         each.map(|it| it.trim().to_string())
@@ -109,10 +113,15 @@ fn pages_light_in_order_and_nothing_overlaps() -> Done {
         "fog-rules-3",
         "full-plot",
     ] {
-        hold(&browser, &examples().join(format!("{name}.sheet")))?;
+        hold_file(&browser, &examples().join(format!("{name}.sheet")))?;
     }
     for name in ["turned", "cleared", "ring", "everything-2", "everything-3"] {
-        hold(&browser, &own().join(format!("{name}.sheet")))?;
+        hold_file(&browser, &own().join(format!("{name}.sheet")))?;
+    }
+    // Blocks and connections of every kind, close together.
+    for shape in [Shape::Lattice, Shape::Circuits, Shape::Packed] {
+        let text = write_form(Form::Short, 2, &shape.scene(60, 2));
+        hold(&browser, &text, shape.name())?;
     }
     Ok(())
 }

@@ -173,6 +173,74 @@ fn reports_and_other_forms() -> Done {
 }
 
 #[test]
+fn two_halves_of_a_lesson() -> Done {
+    let example = |name: &str| examples().join(name).to_string_lossy().into_owned();
+    let (left, right) = (example("left-half.sheet"), example("right-half.short"));
+    let output = run(&["join", &left, &right], b"")?;
+    assert!(output.status.success() && output.stderr.is_empty());
+    assert_eq!(output.stdout, fs::read(example("halves-joined.sheet"))?);
+    let text = fs::read(&right)?;
+    let (code, joined, _) = said(&["join", &left, "-"], &text)?;
+    assert_eq!((code, joined.as_bytes()), (0, output.stdout.as_slice()));
+    Ok(())
+}
+
+/// Which sheet it is, or what they disagree in, with lines as an editor counts them.
+#[test]
+fn two_sheets_that_do_not_go_together() -> Done {
+    let row = path("row.sheet");
+    let (lever, rules) = (path("row.sheet"), path("everything-3.sheet"));
+    let turned = path("turned.sheet");
+    for (sheets, input, wanted) in [
+        (
+            [row.as_str(), "-"],
+            "x",
+            "standard input: not joined (refusal 9). Line 1 (`x`)".to_string(),
+        ),
+        (
+            ["-", &row],
+            "",
+            "standard input: not joined (refusal 9). The sheet is empty.".to_string(),
+        ),
+        (
+            [&lever, &rules],
+            "",
+            format!(
+                "{lever} and {rules}: not joined (refusal 13). {lever} is marked by rules 1, and {rules} by rules 3.\n"
+            ),
+        ),
+        (
+            [&row, &turned],
+            "",
+            format!(
+                "{row} and {turned}: not joined (refusal 14). Block 7 is not the same on both \
+                 (line 50 of {row}, line 50 of {turned}): facing=2 and facing=4.\n"
+            ),
+        ),
+    ] {
+        let (code, given, errors) = said(&["join", sheets[0], sheets[1]], input.as_bytes())?;
+        assert_eq!((code, given.as_str()), (1, ""), "{sheets:?}");
+        assert!(errors.starts_with(&wanted), "{errors}");
+    }
+    let row_of = |from: u32| {
+        let blocks = (from..from + 600).map(|id| format!("c={id},{id},0,0,0,0,0,0\n"));
+        let blocks: String = blocks.collect();
+        format!("sheet=2\nrules=3\ncomponents=600\n{blocks}connections=0\nfrontiers=0\n")
+    };
+    let folder = std::path::Path::new(env!("CARGO_TARGET_TMPDIR")).join("first.short");
+    fs::write(&folder, row_of(0))?;
+    let (code, _, errors) = said(
+        &["join", &folder.to_string_lossy(), "-"],
+        row_of(600).as_bytes(),
+    )?;
+    assert!(
+        code == 1 && errors.ends_with("Together they have more than 1024 components.\n"),
+        "{errors}"
+    );
+    Ok(())
+}
+
+#[test]
 fn pages() -> Done {
     let (code, page, errors) = said(&["--page", &path("turned.sheet")], b"")?;
     assert_eq!((code, errors.as_str()), (0, ""));
@@ -209,7 +277,8 @@ fn wrong_usage() -> Done {
     let (code, help, _) = said(&["--help"], b"")?;
     assert!(code == 0 && help.contains("plotmark --input ID[/PORT] SHEET"));
     let (code, version, _) = said(&["--version"], b"")?;
-    assert!(code == 0 && version.contains(&format!("interface {}", dustroute::INTERFACE)));
+    let interface = format!("\ncore: interface {}, sources ", dustroute::INTERFACE);
+    assert!(code == 0 && version.contains(&interface), "{version}");
     Ok(())
 }
 

@@ -6,8 +6,12 @@ use std::collections::{BTreeMap, BTreeSet};
 use std::error::Error;
 
 use common::{Report, Verdict};
-use dustroute::{ComponentId, read_sheet};
+use dustroute::{
+    ComponentId, ConnectionKind, KeptConnection, LeftOut, Role, Slope, Why, read_sheet,
+};
 use plotmark::plot::{Marked, Plot};
+use plotmark::steps::Step;
+use plotmark::terms::opposite;
 use plotmark::text::{Colours, write};
 use plotmark::words::{Driven, told};
 use scenes::sheets::drawn;
@@ -261,5 +265,77 @@ fn one_device_is_told_as_in_the_whole() -> Done {
     }
     println!("{count} inputs asked one by one");
     assert!(count > 5_000);
+    Ok(())
+}
+
+fn step(plot: &Plot, source: ComponentId, sink: ComponentId) -> Option<Step> {
+    let (source, sink) = (plot.block(source)?, plot.block(sink)?);
+    Step::between(source.position, sink.position)
+}
+
+/// A connection that was kept, beside its ports and its slope.
+fn hold_kept(plot: &Plot, it: &KeptConnection, case: &str) -> Done {
+    let [from, to] = [it.connection.source, it.connection.sink];
+    let step = step(plot, from.component, to.component).ok_or("kept without a step")?;
+    let faces = [from, to].map(|port| plot.port(port).map(|it| it.face));
+    let wanted = [step.face, opposite(step.face)].map(Some);
+    assert_eq!(faces, wanted, "{case}");
+    let climbs = [Slope::Level, Slope::Rising, Slope::Falling];
+    assert_eq!(
+        it.slope,
+        climbs[usize::try_from(step.climb.rem_euclid(3))?],
+        "{case}"
+    );
+    Ok(())
+}
+
+/// A connection that was left out, beside the ports that are not there.
+fn hold_side(plot: &Plot, it: &LeftOut, case: &str) -> Done {
+    let [source, sink] = [it.connection.source, it.connection.sink];
+    let step = step(plot, source, sink);
+    let (id, face, fits) = match (it.why, step) {
+        (Why::NoOutput, Some(step)) => {
+            (source, step.face, &[Role::Output, Role::Bidirectional][..])
+        }
+        (Why::NoInput, Some(step)) if it.connection.kind == ConnectionKind::Control => {
+            (sink, opposite(step.face), &[Role::Control][..])
+        }
+        (Why::NoInput, Some(step)) => {
+            let roles = &[Role::Input, Role::Bidirectional, Role::Control][..];
+            (sink, opposite(step.face), roles)
+        }
+        (Why::NoOutput | Why::NoInput, None) => return Err("no step".into()),
+        (Why::NoStep, step) => {
+            assert_eq!(step, None, "{case}");
+            return Ok(());
+        }
+        _ => return Ok(()),
+    };
+    let ports = plot.ports(plot.block(id).ok_or("no block")?)?;
+    let mut there = ports.iter().filter(|port| port.face == face);
+    assert!(!there.any(|port| fits.contains(&port.role)), "{case}: {it}");
+    Ok(())
+}
+
+/// The sides that words and picture name are those of the core: of the ports that a kept
+/// connection uses, and of those that a block has not where one was left out.
+#[test]
+fn sides_are_those_of_the_core() -> Done {
+    let mut counts = [0_u64; 8];
+    for seed in 0..SHEETS {
+        let plot = Plot::read(&drawn::sheet(seed).text)?;
+        let case = format!("sheet {seed}");
+        for it in &plot.kept {
+            hold_kept(&plot, it, &case)?;
+            counts[0] += 1;
+        }
+        for it in &plot.left_out {
+            hold_side(&plot, it, &case)?;
+            let why = Why::ALL.iter().position(|why| *why == it.why);
+            counts[1 + why.ok_or("a reason")?] += 1;
+        }
+    }
+    println!("kept, and left out by reason: {counts:?}");
+    assert!(counts.iter().all(|count| *count > 100));
     Ok(())
 }

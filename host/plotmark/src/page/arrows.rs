@@ -1,5 +1,8 @@
 //! Connections as they are drawn.
 
+use std::collections::BTreeMap;
+use std::fmt::Display;
+
 use dustroute::Facing;
 
 use super::block::has_sign;
@@ -62,27 +65,40 @@ pub fn draw(html: &mut Html, marked: &Marked, links: &Links, layer: &Layer) {
             });
         }
     }
+    for lost in lost(links, layer).values() {
+        let line = format!("#line{}", lost.cross.line);
+        let attributes: &[(&str, &dyn Display)] = &[("href", &line), ("class", &lost.class())];
+        html.within("a", attributes, |html| {
+            html.saying("title", &[], &lost.said());
+            lost.draw(html, marked, links, layer);
+        });
+        html.line();
+    }
+}
+
+/// What was left out in a layer, by where it is crossed: between two cells there is one
+/// cross, whichever of their blocks it was told of.
+fn lost<'a>(links: &'a Links, layer: &Layer) -> BTreeMap<Point, Lost<'a>> {
+    let mut found: BTreeMap<Point, Lost<'a>> = BTreeMap::new();
     for (place, cross) in &links.crosses {
-        if let Some(spot) = layer.spots.get(&place.0) {
-            let class = if cross.matters {
-                "left-out"
-            } else {
-                "left-out support"
-            };
-            let line = format!("#line{}", cross.line);
-            html.within("a", &[("href", &line), ("class", &class)], |html| {
-                let said = format!("block {}: {}", place.0.0, cross.said.join("\n"));
-                html.saying("title", &[], &said);
-                let lost = Lost {
-                    cross,
-                    place: *place,
-                    spot: *spot,
-                };
-                lost.draw(html, marked, links, layer);
-            });
-            html.line();
+        let Some(spot) = layer.spots.get(&place.0) else {
+            continue;
+        };
+        let at = match place.1 {
+            Some(face) => off(*spot, face, 0, BETWEEN / 2),
+            None => (spot.x + WIDTH, spot.y + HEIGHT),
+        };
+        let lost = found.entry(at).or_insert_with(|| Lost {
+            cross,
+            place: *place,
+            spot: *spot,
+            more: Vec::new(),
+        });
+        if lost.place != *place {
+            lost.more.push(cross);
         }
     }
+    found
 }
 
 /// Connections that were left out: a red cross, or a grey one where only support is; it
@@ -91,9 +107,26 @@ struct Lost<'a> {
     cross: &'a Cross,
     place: Place,
     spot: Spot,
+    /// Others at the same place.
+    more: Vec<&'a Cross>,
 }
 
 impl Lost<'_> {
+    fn class(&self) -> &'static str {
+        if self.cross.matters || self.more.iter().any(|it| it.matters) {
+            "left-out"
+        } else {
+            "left-out support"
+        }
+    }
+
+    fn said(&self) -> String {
+        let all = [self.cross].into_iter().chain(self.more.iter().copied());
+        let said = all.flat_map(|it| &it.said);
+        let said: Vec<&str> = said.map(String::as_str).collect();
+        format!("block {}: {}", self.place.0.0, said.join("\n"))
+    }
+
     fn draw(&self, html: &mut Html, marked: &Marked, links: &Links, layer: &Layer) {
         let (id, side) = self.place;
         let Some(face) = side else {
@@ -125,9 +158,11 @@ impl Lost<'_> {
 
 /// Whether no arrow is drawn on the side on which a cross stands.
 fn is_free(links: &Links, (id, side): Place) -> bool {
-    let arrows = links.arrows.keys();
-    let mut here = arrows.filter(|it| it.0 == id && Some(it.2) == side);
-    here.next().is_none()
+    let mut arrows = links.arrows.keys();
+    !arrows.any(|(first, second, face)| {
+        let ends = [(*first, *face), (*second, opposite(*face))];
+        ends.iter().any(|it| (it.0, Some(it.1)) == (id, side))
+    })
 }
 
 fn titled(html: &mut Html, class: &str, said: &[String], inside: impl FnOnce(&mut Html)) {
@@ -219,7 +254,7 @@ impl Stub<'_> {
             _ => ("middle", self.off(BETWEEN + 8)),
         };
         if other.0 < 1_000 {
-            let attributes: &[(&str, &dyn std::fmt::Display)] = &[
+            let attributes: &[(&str, &dyn Display)] = &[
                 ("class", &"to"),
                 ("text-anchor", &place),
                 ("x", &x),
@@ -232,18 +267,20 @@ impl Stub<'_> {
 
 /// Straight up or down: at the block's upper or lower edge.
 fn upright(html: &mut Html, link: &Link, spot: Spot, face: Facing) {
-    let up = if face == Facing::Up { -1 } else { 1 };
-    let edge = if face == Facing::Up {
-        spot.y
-    } else {
-        spot.y + HEIGHT
+    let (up, edge) = match face {
+        Facing::Up => (-1, spot.y),
+        _ => (1, spot.y + HEIGHT),
     };
-    let x = spot.x + 13;
+    let x = spot.x + 12;
+    let (far, near) = if link.out && link.back {
+        (13, 1)
+    } else {
+        (8, 2)
+    };
     if link.out {
-        shapes::head(html, "to", (x, edge + 8 * up), (0, up));
+        shapes::head(html, "to", (x, edge + far * up), (0, up));
     }
     if link.back {
-        let x = if link.out { x + 9 } else { x };
-        shapes::head(html, "to", (x, edge + 2 * up), (0, -up));
+        shapes::head(html, "to", (x, edge + near * up), (0, -up));
     }
 }

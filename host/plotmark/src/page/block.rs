@@ -166,7 +166,7 @@ fn facing(html: &mut Html, found: &Found<'_>, unread: bool, spot: Spot) {
         Facing::South => shapes::head(html, class, (x + 12, y + HEIGHT - 3), (0, 1)),
         Facing::West => shapes::head(html, class, (x + 3, y + 49), (-1, 0)),
         Facing::Up => label(html, "faces", (x + 11, y + 9), "up"),
-        Facing::Down => label(html, "faces", (x + 15, y + 9), "down"),
+        Facing::Down => label(html, "faces", (x + 14, y + HEIGHT - 3), "down"),
     }
 }
 

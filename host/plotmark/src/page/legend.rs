@@ -40,8 +40,8 @@ fn sign(html: &mut Html, said: &str, class: &str, draw: impl FnOnce(&mut Html)) 
 
 fn states(html: &mut Html) {
     for state in [State::Driven, State::Would, State::Not] {
-        let said = format!("{}; beside it the number of its region", state.said());
-        sign(html, &said, &format!("block {}", state.class()), |html| {
+        let class = format!("block {}", state.class());
+        sign(html, state.said(), &class, |html| {
             html.empty(
                 "rect",
                 &[
@@ -67,6 +67,15 @@ fn verdicts(html: &mut Html) {
 }
 
 fn others(html: &mut Html) {
+    sign(
+        html,
+        "beside it the number of the block's region",
+        "block",
+        |html| {
+            shapes::lamp(html, State::Driven, (9, 11));
+            html.saying("text", &[("class", &"region"), ("x", &17), ("y", &14)], "3");
+        },
+    );
     sign(html, "a source", "block", |html| {
         shapes::star(html, (15, 11))
     });

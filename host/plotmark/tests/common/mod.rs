@@ -46,22 +46,27 @@ pub fn name(path: &Path) -> String {
         .into_owned()
 }
 
-/// Holds a text to the file beside this test that was looked at, or writes it where
-/// `PLOTMARK_RECORD` is set.
-pub fn hold(folder: &str, file: &str, text: &str) -> io::Result<()> {
-    let path = Path::new(env!("CARGO_MANIFEST_DIR"))
+/// Holds a text to the file beside this test that was looked at; false where there is
+/// none yet. Where `PLOTMARK_RECORD` is set the file is written.
+pub fn hold(folder: &str, file: &str, text: &str) -> io::Result<bool> {
+    let folder = Path::new(env!("CARGO_MANIFEST_DIR"))
         .join("tests")
-        .join(folder)
-        .join(file);
+        .join(folder);
+    let path = folder.join(file);
     if std::env::var_os("PLOTMARK_RECORD").is_some() {
-        return fs::write(path, text);
+        fs::create_dir_all(folder)?;
+        fs::write(&path, text)?;
+        return Ok(true);
     }
-    let wanted = fs::read_to_string(&path)?;
+    let Ok(wanted) = fs::read_to_string(&path) else {
+        println!("{file} is not recorded: look at it, and set PLOTMARK_RECORD=1");
+        return Ok(false);
+    };
     for (place, (given, wanted)) in (1..).zip(text.lines().zip(wanted.lines())) {
         assert_eq!(given, wanted, "{}, line {place}", path.display());
     }
     assert!(text == wanted, "{}: not as long", path.display());
-    Ok(())
+    Ok(true)
 }
 
 /// A report, by its numbers.

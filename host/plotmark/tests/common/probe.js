@@ -16,21 +16,28 @@
   // What lies over what.
   function box(it) { var b = it.getBBox(); return { l: b.x, t: b.y, r: b.x + b.width, b: b.y + b.height, it: it }; }
   function meet(a, b, by) { return a.r - by > b.l ? b.r - by > a.l ? a.b - by > b.t ? b.b - by > a.t : false : false : false; }
-  function name(it) { return it.tagName + "." + it.getAttribute("class") + "[" + it.textContent.slice(0, 60) + "]"; }
+  // What belongs to one link, or to one block, may lie together.
+  function apart(a, b) { return a.it.parentNode !== b.it.parentNode ? true : a.it.parentNode.classList.contains("block"); }
+  function name(it) {
+    var b = it.getBBox();
+    var of = it.parentNode.querySelector("title");
+    return it.tagName + "." + it.getAttribute("class") + " at " + Math.round(b.x) + "," + Math.round(b.y) + " [" + (of ? of.textContent.slice(0, 60) : "") + "]";
+  }
   var found = [], measured = 0;
   document.querySelectorAll(".layer svg").forEach(function (svg) {
     var rects = Array.from(svg.querySelectorAll(".block rect")).map(box);
-    var links = Array.from(svg.querySelectorAll(".arrow, .stub, .upright, .left-out")).map(box);
+    var links = Array.from(svg.querySelectorAll(".arrow > *, .stub > *, .upright > *, .left-out > *"));
+    links = links.filter(function (it) { return it.tagName !== "title"; }).map(box);
     var inside = Array.from(svg.querySelectorAll(".block text:not(.place), .block path.faces, .block .lamp")).map(box);
     var edges = Array.from(svg.querySelectorAll(".block circle:not(.lamp), .block .star")).map(box);
     var axes = Array.from(svg.querySelectorAll(".axis, .compass")).map(box);
     var all = links.concat(inside, edges, axes);
     measured += all.length;
     all.forEach(function (a, i) {
-      all.slice(i + 1).forEach(function (b) { if (meet(a, b, 0.6)) { found.push(name(a.it) + " over " + name(b.it)); } });
+      all.slice(i + 1).forEach(function (b) { if (apart(a, b) ? meet(a, b, 0.6) : false) { found.push(name(a.it) + " over " + name(b.it)); } });
     });
     links.concat(axes).forEach(function (a) {
-      var by = a.it.classList.contains("left-out") ? 7 : 1;
+      var by = a.it.parentNode.classList.contains("left-out") ? 8 : 1;
       rects.forEach(function (r) { if (meet(a, r, by)) { found.push(name(a.it) + " over " + name(r.it.parentNode)); } });
     });
     inside.forEach(function (a) {
