@@ -11,11 +11,8 @@ use Rattle.lists.specs.Ids.{smaller_ids, has_component, first_repeated, IdTable}
 use Rattle.lists.specs.First.{tabulate, is_found, all_from}
 use Rattle.held.specs.Tests.{every, distinct, same_numbers}
 use Rattle.held.specs.Plot.{Place, free, taken, blocks, present}
+pub use Rattle.held.specs.Lent.{lent_of}
 use Rattle.held.specs.Lent.{Lent, flat, counts_width, record_at, used_in, freed_count_in, held_in, frontier_count_in, freed_places_in, zeros_from, is_blank, has_room, counts_fit, counter, plot_in, lent_valid}
-
--- the four slices
-abbrev pub lent_of : List ℕ → List ℤ → List ℤ → List ℤ → Lent
-lent_of state frontiers places connections = record { state = state; frontiers = frontiers; places = places; connections = connections }
 
 -- no count is over its limit
 pub record Counts (state : List ℕ) : Type 0 where

@@ -7,8 +7,8 @@ ghost use Rattle.lists.specs.Ids.{IdTable};
 ghost use Rattle.lists.specs.First.{all_from, tabulate};
 ghost use Rattle.held.specs.Tests.{any, every, distinct, same_numbers};
 ghost use Rattle.held.specs.Lent.{record_at, is_zero, is_blank, freed_count_in, freed_places_in, counts_width};
-ghost use Rattle.held.specs.Lent.{Roomy, has_room, counts_fit, lent_valid};
-ghost use Rattle.held.specs.Inspected.{lent_of, FreedMarked, GatheredOne, Gathered, Counts, zero_behind, opens_with};
+ghost use Rattle.held.specs.Lent.{Roomy, lent_of, has_room, counts_fit, lent_valid};
+ghost use Rattle.held.specs.Inspected.{FreedMarked, GatheredOne, Gathered, Counts, zero_behind, opens_with};
 ghost use Rattle.held.specs.Inspected.{BlocksChecked, both_ends, connections_pass, FrameFits, stand_pass, Standing};
 
 use super::connections::connections_pass;
