@@ -11,21 +11,16 @@ use mathlib.Core.List.{List}
 use Prim.Native.Nat.{ℕ}
 use lib.ListN.{length, replicate}
 use lib.IntN.{ℤ}
-use Rattle.lists.specs.Limits.{component_limit}
 use Rattle.lists.specs.Records.{component_count}
 use Rattle.lists.specs.First.{is_found}
 use Rattle.checks.specs.Refusals.{refuse, too_short}
 use Rattle.regions.specs.Graph.{Edges, marked, flip}
-use Rattle.regions.specs.Keys.{edges}
 use Rattle.regions.proofs.Fill.{zeros_cleared}
 use Rattle.signals.specs.Signals.{signals}
-use Rattle.signals.specs.Keys.{KeysOf}
-use Rattle.signals.proofs.Ends.{ends_within}
-use Rattle.signals.proofs.Graph.{edges_back}
-use Rattle.signals.proofs.Tabulated.{tabulated_length}
-use Rattle.liveness.specs.Scene.{Accepted}
 use Rattle.liveness.proofs.Answers.{set_same}
-use Rattle.inputs.specs.Query.{is_immediate, row_place}
+use Rattle.graph.specs.Rows.{edges_of, Rows}
+use Rattle.graph.proofs.Rows.{edges_are}
+use Rattle.inputs.specs.Query.{row_place}
 use Rattle.driven.specs.Seek.{Search, sought}
 use Rattle.inputs.specs.Port.{drive_sources, immediate_sources}
 use Rattle.driven.specs.Driven.{upstream_from, AskedBy}
@@ -34,29 +29,22 @@ use Rattle.driven.specs.declared.DrivenInput.{DrivenInput}
 
 -- ---- the arrays of a search
 
-module _ {cs ps : List ℤ} (fs : List ℤ) {keys sources sinks backward : List ℕ} (a : Accepted cs ps keys sources sinks)
-    (table : KeysOf ps sinks sources component_limit backward) where
-  graph : edges (component_count cs) backward ≡ flip (signals cs ps)
-  graph = λ i x y. edges_back a.scene.components.few a.ends.source_members a.ends.sink_members (ends_within cs ps a.scene.ends) table x y i
-
+module _ (cs ps fs : List ℤ) {ends back : List ℕ} (r : Rows (component_count cs) (flip (signals cs ps)) ends back) where
   module _ (p port : ℕ) {goals starts : List Bool} (goals_are : goals ≡ drive_sources cs fs) (starts_are : starts ≡ immediate_sources cs ps p port) where
-    nodes : length starts ≡ component_count cs
-    nodes = ap length starts_are ∙ tabulated_length (is_immediate cs ps p port) (component_count cs)
-
-    search_is : sought (length starts) (edges (length starts) backward) goals starts ≡ upstream_from cs ps fs p port
+    search_is : sought (length ends) (edges_of ends back) goals starts ≡ upstream_from cs ps fs p port
     unfolding upstream_from
     search_is =
-        ap (λ (k : ℕ). sought k (edges k backward) goals starts) nodes
-        ∙ ap (λ (g : Edges). sought (component_count cs) g goals starts) graph
+        ap (λ (k : ℕ). sought k (edges_of ends back) goals starts) r.rows.nodes
+        ∙ ap (λ (g : Edges). sought (component_count cs) g goals starts) (edges_are r.rows)
         ∙ ap₂ (sought (component_count cs) (flip (signals cs ps))) goals_are starts_are
 
-    pub asked_searched : {stack stack' : List ℕ} {r : DrivenInput} → length stack' ≡ length stack
-        → Upstream (length starts) (edges (length starts) backward) goals starts stack' r → AskedBy (Ok tt) cs ps fs (Some p) port stack stack' (Ok r)
+    pub asked_searched : {stack stack' : List ℕ} {s : DrivenInput} → length stack' ≡ length stack
+        → Upstream (length ends) (edges_of ends back) goals starts stack' s → AskedBy (Ok tt) cs ps fs (Some p) port stack stack' (Ok s)
     asked_searched {stack' = stack'} long u = record {
       answer = refl;
       found = record {
         driven_is = u.driven_is ∙ ap (λ (t : Search). t.stopped) search_is;
-        met_set = set_same nodes (λ k. ap (λ (t : Search). marked t.met k) search_is) u.met_set;
+        met_set = set_same r.rows.nodes (λ k. ap (λ (t : Search). marked t.met k) search_is) u.met_set;
       };
       stack_left = zeros_cleared stack' u.stack_zeros ∙ ap (λ (k : ℕ). replicate k 0) long;
     }

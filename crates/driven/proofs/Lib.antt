@@ -6,7 +6,7 @@
 --     Frames       the open calls of `seek` as a stack of frames
 --     Stack        seek_from
 --     Starts       seek_all
---     Asking       driven_in, driven_plot
+--     Asking       driven_port, driven_plot
 pub mod Passing
 pub mod Sought
 pub mod Examples

@@ -1,15 +1,14 @@
 -- The loop of `seek_all`: searches from the starts, one after the other. Its invariant is `Going`.
 -- Assumes nothing.
-use mathlib.Core.Path.{◌≡◌, refl, sym, ap, ap₂, subst, ◌∙◌}
+use mathlib.Core.Path.{◌≡◌, refl, sym, ap, ap₂, ◌∙◌}
 use mathlib.Core.Bool.{Bool, true, false, cond}
 use mathlib.Core.List.{List, [], ◌∷◌, ◌++◌}
 use Prim.Native.Nat.{ℕ, zero, suc, ◌+◌, ◌-◌, ◌≤◌, ◌<◌}
 use native.Mathlib.Nat.{zero-add}
 use native.Mathlib.Omega.{arith}
 use lib.ListN.{length, replicate}
-use Rattle.regions.specs.Graph.{marked, range, filter, each}
+use Rattle.regions.specs.Graph.{Edges, marked, range, filter, each}
 use Rattle.regions.specs.Kosaraju.{starts_of}
-use Rattle.regions.specs.Keys.{edges}
 use Rattle.regions.proofs.Laws.Loops.{each_append}
 use Rattle.driven.specs.Seek.{Search, seek, seeking, sought}
 use Rattle.driven.specs.Search.{search_of, SeekRoom, SeeksFrom, Seeks}
@@ -56,18 +55,16 @@ module _ {S : Type 0} (f : ℕ → S → S) (marks : List Bool) (s : S) where
 
 -- ---- the invariant: the search from the starts before `start` has met these, and goes on
 
-pub record Going (n : ℕ) (keys : List ℕ) (goals starts met : List Bool) (stack : List ℕ) (start : ℕ) : Type 0 where
-  pub goes : seeking met ≡ each (seek n (edges n keys) goals n) (starts_of start starts) (seeking (replicate n false))
-  pub room : SeekRoom n keys goals met stack
+pub record Going (n : ℕ) (edge : Edges) (goals starts met : List Bool) (stack : List ℕ) (start : ℕ) : Type 0 where
+  pub goes : seeking met ≡ each (seek n edge goals n) (starts_of start starts) (seeking (replicate n false))
+  pub room : SeekRoom n goals met stack
 
-pub going_begin : {n : ℕ} {keys : List ℕ} {goals met₀ met : List Bool} {stack : List ℕ} (starts : List Bool) → SeekRoom n keys goals met₀ stack
-    → met ≡ replicate (length met₀) false → length met ≡ length met₀ → Going n keys goals starts met stack 0
+pub going_begin : {n : ℕ} {edge : Edges} {goals met₀ met : List Bool} {stack : List ℕ} (starts : List Bool) → SeekRoom n goals met₀ stack
+    → met ≡ replicate (length met₀) false → length met ≡ length met₀ → Going n edge goals starts met stack 0
 unfolding range filter each
-going_begin {n} {keys} {goals} {met₀} {met} {stack} starts r e same = record {
+going_begin {n} {edge} {goals} {met₀} {met} {stack} starts r e same = record {
   goes = ap seeking (e ∙ ap (λ (k : ℕ). replicate k false) r.met_length);
   room = record {
-    nodes = r.nodes;
-    keys_rise = r.keys_rise;
     goals_length = r.goals_length;
     met_length = same ∙ r.met_length;
     stack_room = r.stack_room;
@@ -75,9 +72,9 @@ going_begin {n} {keys} {goals} {met₀} {met} {stack} starts r e same = record {
   };
 }
 
-module _ {n : ℕ} {keys : List ℕ} {goals starts met : List Bool} {stack : List ℕ} {start : ℕ} (g : Going n keys goals starts met stack start) where
+module _ {n : ℕ} {edge : Edges} {goals starts met : List Bool} {stack : List ℕ} {start : ℕ} (g : Going n edge goals starts met stack start) where
   -- a node that is no start
-  pub going_skip : marked starts start ≡ false → Going n keys goals starts met stack (start + 1)
+  pub going_skip : marked starts start ≡ false → Going n edge goals starts met stack (start + 1)
   going_skip e = record {
     goes =
         g.goes
@@ -87,34 +84,29 @@ module _ {n : ℕ} {keys : List ℕ} {goals starts met : List Bool} {stack : Lis
   }
     where
       f : ℕ → Search → Search
-      f = seek n (edges n keys) goals n
+      f = seek n edge goals n
 
       so_far : Search
       so_far = each f (starts_of start starts) (seeking (replicate n false))
 
-module _ {n : ℕ} {keys : List ℕ} {goals starts met : List Bool} {stack : List ℕ} {start : ℕ} (g : Going n keys goals starts met stack start)
+module _ {n : ℕ} {edge : Edges} {goals starts met : List Bool} {stack : List ℕ} {start : ℕ} (g : Going n edge goals starts met stack start)
     (marks : marked starts start ≡ true) {met' : List Bool} {stopped : Bool} {stack' : List ℕ}
-    (s : SeeksFrom (length met) (edges (length met) keys) goals start met met' stopped stack') where
-  here : SeeksFrom n (edges n keys) goals start met met' stopped stack'
-  here = subst (λ (m : ℕ). SeeksFrom m (edges m keys) goals start met met' stopped stack') g.room.met_length s
-
+    (s : SeeksFrom n edge goals start met met' stopped stack') where
   -- after one start more
-  after : search_of met' stopped ≡ each (seek n (edges n keys) goals n) (starts_of (start + 1) starts) (seeking (replicate n false))
+  after : search_of met' stopped ≡ each (seek n edge goals n) (starts_of (start + 1) starts) (seeking (replicate n false))
   after =
-      here.seeks
-      ∙ ap (seek n (edges n keys) goals n start) g.goes
-      ∙ ap (λ (b : Bool). cond b (seek n (edges n keys) goals n start so_far) so_far) (sym marks)
-      ∙ sym (each_one (seek n (edges n keys) goals n) starts (seeking (replicate n false)) start)
+      s.seeks
+      ∙ ap (seek n edge goals n start) g.goes
+      ∙ ap (λ (b : Bool). cond b (seek n edge goals n start so_far) so_far) (sym marks)
+      ∙ sym (each_one (seek n edge goals n) starts (seeking (replicate n false)) start)
     where
       so_far : Search
-      so_far = each (seek n (edges n keys) goals n) (starts_of start starts) (seeking (replicate n false))
+      so_far = each (seek n edge goals n) (starts_of start starts) (seeking (replicate n false))
 
-  pub going_on : stopped ≡ false → length met' ≡ length met → length stack' ≡ length stack → Going n keys goals starts met' stack' (start + 1)
+  pub going_on : stopped ≡ false → length met' ≡ length met → length stack' ≡ length stack → Going n edge goals starts met' stack' (start + 1)
   going_on e lm ls = record {
     goes = ap (search_of met') (sym e) ∙ after;
     room = record {
-      nodes = g.room.nodes;
-      keys_rise = g.room.keys_rise;
       goals_length = g.room.goals_length;
       met_length = lm ∙ g.room.met_length;
       stack_room = omega (arith, g.room.stack_room, ls);
@@ -123,16 +115,16 @@ module _ {n : ℕ} {keys : List ℕ} {goals starts met : List Bool} {stack : Lis
   }
 
   -- the search stops: nothing is done at the starts that are left
-  pub going_stops : stopped ≡ true → start < n → Seeks n (edges n keys) goals starts met' true stack'
+  pub going_stops : stopped ≡ true → start < n → Seeks n edge goals starts met' true stack'
   unfolding sought
   going_stops e lt =
       let k = n - (start + 1) in
       let all : start + 1 + k ≡ n = omega arith in
-      let f = seek n (edges n keys) goals n in
+      let f = seek n edge goals n in
       let now : search_of met' true ≡ each f (starts_of (start + 1) starts) (seeking (replicate n false)) = ap (search_of met') (sym e) ∙ after in
       record {
         seeks =
-            sym (each_stopped n (edges n keys) goals n (filter (marked starts) (range (start + 1) k)) (search_of met' true) refl)
+            sym (each_stopped n edge goals n (filter (marked starts) (range (start + 1) k)) (search_of met' true) refl)
             ∙ ap (each f (filter (marked starts) (range (start + 1) k))) now
             ∙ sym (each_split f starts (seeking (replicate n false)) (start + 1) k)
             ∙ ap (λ (j : ℕ). each f (starts_of j starts) (seeking (replicate n false))) all;
@@ -140,12 +132,12 @@ module _ {n : ℕ} {keys : List ℕ} {goals starts met : List Bool} {stack : Lis
       }
 
 -- no start is left
-pub going_end : {n : ℕ} {keys : List ℕ} {goals starts met : List Bool} {stack : List ℕ} {start : ℕ} → Going n keys goals starts met stack start → start ≤ n → n ≤ start
-    → Seeks n (edges n keys) goals starts met false stack
+pub going_end : {n : ℕ} {edge : Edges} {goals starts met : List Bool} {stack : List ℕ} {start : ℕ} → Going n edge goals starts met stack start → start ≤ n → n ≤ start
+    → Seeks n edge goals starts met false stack
 unfolding sought
-going_end {n} {keys} {goals} {starts} {start = start} g le ge =
+going_end {n} {edge} {goals} {starts} {start = start} g le ge =
     let e : start ≡ n = omega arith in
     record {
-      seeks = g.goes ∙ ap (λ (j : ℕ). each (seek n (edges n keys) goals n) (starts_of j starts) (seeking (replicate n false))) e;
+      seeks = g.goes ∙ ap (λ (j : ℕ). each (seek n edge goals n) (starts_of j starts) (seeking (replicate n false))) e;
       stack_zeros = g.room.stack_zeros;
     }

@@ -1,9 +1,7 @@
 -- What the contracts say of a search: what it asks of the arrays that it is lent, and how they hold the states of `Seek`. The stack is the one
--- that the caller lends, n pairs of a node and the place of its next key; it is zero before and after.
+-- that the caller lends, n pairs of a node and a place of its row; it is zero before and after.
 -- Assumes nothing: these are definitions.
 use Rattle.std.specs.Prelude.{◌≡◌, Bool, List, ℕ, ◌*◌, ◌≤◌, length}
-use Rattle.tables.specs.Order.{Ascending}
-use Rattle.tables.specs.Pairs.{span}
 use Rattle.regions.specs.Graph.{Edges}
 use Rattle.regions.specs.Search.{Zeros}
 use Rattle.driven.specs.Seek as Seek
@@ -13,10 +11,8 @@ use Rattle.driven.specs.Seek.{seek, sought, seeking}
 abbrev pub search_of : List Bool → Bool → Seek.Search
 search_of met stopped = record { met = met; stopped = stopped }
 
--- what a search asks: the keys rise, the arrays that it is lent are large enough, and the stack is zero
-pub record SeekRoom (n : ℕ) (keys : List ℕ) (goals met : List Bool) (stack : List ℕ) : Type 0 where
-  pub nodes : n ≤ span
-  pub keys_rise : Ascending keys
+-- what a search asks: the arrays that it is lent are large enough, and the stack is zero
+pub record SeekRoom (n : ℕ) (goals met : List Bool) (stack : List ℕ) : Type 0 where
   pub goals_length : length goals ≡ n
   pub met_length : length met ≡ n
   pub stack_room : 2 * n ≤ length stack

@@ -1,13 +1,14 @@
 // A search along the edges of a graph from some nodes, which stops at the first goal. The calls of the recursive definition are a stack that the
 // caller lends.
-ghost use Rattle.std.specs.Prelude.{◌<◌, length};
-ghost use Rattle.regions.specs.Keys.{edges};
+ghost use Rattle.std.specs.Prelude.{◌≡◌, ◌<◌, length};
+ghost use Rattle.graph.specs.Rows.{edges_of};
 ghost use Rattle.driven.specs.Search.{SeekRoom, SeeksFrom, Seeks};
 
-use regions::Graph;
+use graph::{Graph, begin_of};
 
 // Meets the nodes that `start` leads to over nodes that are not met, each one's own neighbours before the next, up to the first goal; answers
-// whether it met one. The stack holds, for each open call, its node and the place of the key to look at next.
+// whether it met one. The open call is at a place of the row of `node`; the stack holds the same of each call below it.
+// The loop is by hand, as in `visit_from` of crate `graph`: the stack grows and shrinks as the search goes.
 fn seek_from(
     graph: Graph,
     start: usize,
@@ -15,42 +16,48 @@ fn seek_from(
     met: &mut [bool],
     stack: &mut [usize],
 ) -> bool
-    requires { let n = length met.old in (start < n) × SeekRoom n graph.keys.now goals.now met.old stack.old }
-    ensures { let n = length met.old in
-        SeeksFrom n (edges n graph.entry.keys.now) goals.now start met.old met.new result stack.new }
+    requires { let n = length graph.ends.now in (start < n) × SeekRoom n goals.now met.old stack.old }
+    ensures { let n = length graph.entry.ends.now in
+        SeeksFrom n (edges_of graph.entry.ends.now graph.entry.next.now) goals.now start met.old met.new result stack.new }
 {
     if met[start] {
         return false;
     }
+    met[start] = true;
     if goals[start] {
-        met[start] = true;
         return true;
     }
-    graph.enter(start, met, stack, 0);
-    let mut depth = 1;
-    // By hand, as in `visit_from`: the stack grows and shrinks as the search goes.
-    while 0 < depth {
-        let at = 2 * (depth - 1);
-        let node = stack[at];
-        match graph.next_unvisited(node, stack[at + 1], met) {
-            None => {
-                stack[at] = 0;
-                stack[at + 1] = 0;
-                depth -= 1;
-            }
-            Some(next) => {
-                if goals[next.node] {
-                    met[next.node] = true;
+    let Graph { ends, next } = graph;
+    let mut node = start;
+    let mut place = begin_of(ends, start);
+    let mut depth: usize = 0;
+    loop {
+        if place < usize::from(ends[node]) {
+            let k = usize::from(next[place]);
+            place += 1;
+            if !met[k] {
+                met[k] = true;
+                if goals[k] {
                     stack.fill(0);
                     return true;
                 }
-                stack[at + 1] = next.place + 1;
-                graph.enter(next.node, met, stack, at + 2);
+                stack[2 * depth] = node;
+                stack[2 * depth + 1] = place;
                 depth += 1;
+                node = k;
+                place = begin_of(ends, k);
             }
+        } else {
+            if depth == 0 {
+                return false;
+            }
+            depth -= 1;
+            node = stack[2 * depth];
+            place = stack[2 * depth + 1];
+            stack[2 * depth] = 0;
+            stack[2 * depth + 1] = 0;
         }
     }
-    false
 }
 
 // Meets what the marked starts lead to, by rising start, up to the first goal; answers whether it met one.
@@ -61,9 +68,9 @@ pub fn seek_all(
     met: &mut [bool],
     stack: &mut [usize],
 ) -> bool
-    requires { SeekRoom (length starts.now) graph.keys.now goals.now met.old stack.old }
-    ensures { let n = length starts.now in
-        Seeks n (edges n graph.entry.keys.now) goals.now starts.now met.new result stack.new }
+    requires { let n = length graph.ends.now in (length starts.now ≡ n) × SeekRoom n goals.now met.old stack.old }
+    ensures { let n = length graph.entry.ends.now in
+        Seeks n (edges_of graph.entry.ends.now graph.entry.next.now) goals.now starts.now met.new result stack.new }
 {
     met.fill(false);
     for (start, is_start) in starts.iter().enumerate() {

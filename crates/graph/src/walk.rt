@@ -67,7 +67,7 @@ impl Graph<'_> {
     }
 
     // The walk forward: the nodes, in the order in which they finish.
-    fn finish_order(self, visited: &mut [bool], order: &mut [u16], stack: &mut [usize])
+    pub fn finish_order(self, visited: &mut [bool], order: &mut [u16], stack: &mut [usize])
         requires { Room (length self.ends.now) visited.old order.old stack.old }
         ensures { let n = length self.entry.ends.now in
             Ordered n (edges_of self.entry.ends.now self.entry.next.now) order.old order.new stack.new }

@@ -82,7 +82,10 @@ count_none {n} square {order} numbered₀ regions₀ p a b e f =
     }
 
 module _ {n : ℕ} {square order : List ℕ} {numbered : List Bool} {regions : List ℕ} {count : ℕ} {rest : List ℕ} (front : List ℕ) (a : ℕ)
-    (p : Counting n square order numbered regions count rest) (last : rest ≡ front ++ (a ∷ [])) where
+    (p : Counting n square order numbered regions count rest) {b : ℕ} (is : a ≡ b) (taken : rest ≡ front ++ (b ∷ [])) where
+  last : rest ≡ front ++ (a ∷ [])
+  last = taken ∙ ap (λ (x : ℕ). front ++ (x ∷ [])) (sym is)
+
   order_next : front ++ (a ∷ p.done) ≡ order
   order_next = sym (append_assoc front (a ∷ []) p.done) ∙ ap (λ m. m ++ p.done) (sym last) ∙ p.order_is
 

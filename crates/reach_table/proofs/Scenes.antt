@@ -3,33 +3,24 @@
 --     listed_within, listed_at       the graph on list places
 --     listed_reach                   who reaches whom in it
 --     scene_laws                     what specs/Scene.antt states
---     forward_rows, listed_edges     the table of edges of an accepted plot
 -- Assumes nothing.
-use mathlib.Core.Path.{◌≡◌, refl, sym, ap, ap₂, ◌∙◌}
+use mathlib.Core.Path.{◌≡◌, refl, sym, ap₂, ◌∙◌}
 use mathlib.Core.Bool.{true, ◌&&◌}
 use mathlib.Core.List.{List}
 use mathlib.Core.Logic.{◌↔◌}
 use Prim.Native.Nat.{ℕ, ◌<◌}
-use native.Mathlib.Omega.{arith}
 use lib.Dec.{ltb}
 use lib.IntN.{ℤ}
 use borrow.Author.Tests.{ltb-true, lt-ltb}
 use Rattle.lists.specs.Ids.{member_of}
-use Rattle.lists.specs.Limits.{component_limit}
 use Rattle.lists.specs.Records.{component_count}
 use Rattle.lists.proofs.Members.{member_below, member_inj}
 use Rattle.lists.proofs.Search.{both}
-use Rattle.regions.specs.Graph.{Edges, Within, Reach, here, step, Both}
-use Rattle.regions.specs.Keys.{edges}
+use Rattle.regions.specs.Graph.{Within, Reach, here, step, Both}
 use Rattle.regions.proofs.Laws.Walks.{Reach·same}
-use Rattle.signals.specs.Keys.{KeysOf}
 use Rattle.signals.specs.Signals.{signals}
-use Rattle.signals.specs.Seen.{Rows}
-use Rattle.signals.proofs.Ends.{ends_within}
-use Rattle.signals.proofs.Graph.{sink_at, edges_signals}
 use Rattle.signals.proofs.Within.{scene_regions}
-use Rattle.liveness.specs.Scene.{Scene, Accepted}
-use Rattle.liveness.proofs.Inferring.{rows_of}
+use Rattle.liveness.specs.Scene.{Scene}
 use Rattle.liveness.proofs.Demands.{member_stands, signals_within, chain_reach, reach_chain}
 use Rattle.reach_table.specs.Table.{is_same_row}
 use Rattle.reach_table.specs.Scene.{listed, reaches, SceneLaws}
@@ -84,19 +75,3 @@ module _ (cs ps : List ℤ) (scene : Scene cs ps) where
             let s = (scene_regions cs ps scene.ends).same (member_of cs v) (member_of cs w) (member_below cs v hv) (member_below cs w hw) in
             (λ e. s.1 (r.0 e), λ e. r.1 (s.0 e));
       }
-
--- ---- the edges of a plot
-
-module _ {cs ps : List ℤ} {keys sources sinks forward : List ℕ} (a : Accepted cs ps keys sources sinks) (table : KeysOf ps sources sinks component_limit forward) where
-  pub forward_rows : Rows (component_count cs) forward
-  forward_rows =
-      let few = a.scene.components.few in
-      rows_of table (component_count cs) few (omega (arith, few)) (λ k h e.
-      rw (sink_at few a.ends.source_members a.ends.sink_members k h) (ends_within cs ps a.scene.ends k h e).1)
-
-  pub graph_is : edges (component_count cs) forward ≡ signals cs ps
-  graph_is = edges_signals a.scene.components.few a.ends.source_members a.ends.sink_members (ends_within cs ps a.scene.ends) table
-
-  pub listed_edges : (x y : ℕ) → x < component_count cs → y < component_count cs
-      → listed cs ps x y ≡ edges (component_count cs) forward (member_of cs x) (member_of cs y)
-  listed_edges x y hx hy = listed_at cs ps a.scene x y hx hy ∙ ap (λ (g : Edges). g (member_of cs x) (member_of cs y)) (sym graph_is)

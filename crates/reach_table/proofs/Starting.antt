@@ -1,39 +1,37 @@
 -- The square before any middle is admitted.
 --     diagonal_to    the diagonal of the rows before a
---     put_to         the places of the first i edges hold 1
+--     row_to         the places of the first i neighbours of a row hold 1
+--     edges_to       the places of the edges from the first m members hold 1
 --     started        what `start_square` leaves
 -- Assumes nothing.
 use Rattle.std.specs.Prelude.{None}
-use mathlib.Core.Path.{◌≡◌, refl, sym, ap, ◌∙◌}
+use mathlib.Core.Path.{◌≡◌, refl, sym, ap, ap₂, ◌∙◌}
 use mathlib.Core.Bool.{Bool, true, false, ◌&&◌, ◌||◌}
 use mathlib.Core.List.{List, [], ◌∷◌}
 use mathlib.Core.Logic.{⊎_elim}
-use Prim.Native.Nat.{ℕ, zero, ◌+◌, ◌*◌, ◌/◌, ◌%◌, ◌≤◌, ◌<◌}
+use Prim.Native.Nat.{ℕ, zero, ◌+◌, ◌*◌, ◌≤◌, ◌<◌}
 use native.Mathlib.Numerals.{add-one}
 use native.Mathlib.Omega.{arith}
 use lib.Dec.{eqb, ltb}
 use lib.IntN.{ℤ}
-use lib.ListN.{length, get_or, set, take, replicate, length-take, length-replicate}
-use lib.Seq.{get_or-take, take-suc}
-use borrow.Author.Tests.{eq-eqb, ne_eqb, lt-ltb}
+use lib.ListN.{length, get_or, set, take, replicate, length-replicate}
+use lib.Seq.{take-suc}
+use borrow.Author.Tests.{eq-eqb, ne_eqb, lt-ltb, le-ltb}
+use Rattle.std.proofs.lemmas.List.{take_all}
 use Rattle.tables.specs.Order.{member}
-use Rattle.tables.specs.Laws.{same?, order?, at_member, member_at}
-use Rattle.tables.specs.Pairs.{span, pair}
+use Rattle.tables.specs.Laws.{same?}
 use Rattle.lists.specs.Records.{component_count}
 use Rattle.lists.specs.Ids.{member_of, first_repeated, MemberPlace}
 use Rattle.lists.proofs.Members.{member_below, member_inj}
 use Rattle.lists.proofs.Search.{or_true}
 use Rattle.regions.specs.Graph.{Edges}
-use Rattle.regions.specs.Keys.{edges}
 use Rattle.regions.proofs.Fill.{cleared_zeros}
-use Rattle.regions.proofs.Laws.Keys.{edges_pair}
-use Rattle.signals.specs.Seen.{EdgeKeys}
+use Rattle.graph.specs.Rows.{row_of, Rows}
 use Rattle.reach_table.specs.Table.{bit, start}
-use Rattle.reach_table.specs.Square.{Holds, Makes, EdgesPut}
+use Rattle.reach_table.specs.Square.{Holds, Makes}
 use Rattle.reach_table.proofs.Cells.{holds_set, holds_same, makes_same}
-use Rattle.reach_table.proofs.Filling.{or_none, ltb_past}
+use Rattle.reach_table.proofs.Filling.{or_none, and_none, ltb_past}
 use Rattle.reach_table.proofs.Numbering.{member_append}
-use Rattle.reach_table.proofs.Rows.{equal_tests}
 
 -- ---- zeros
 
@@ -69,25 +67,24 @@ diagonal_more {n} {a} {s₀} {s} ha p = record {
         (λ (d : ¬ (x ≡ a)). rw (ltb_past x a d) refl)
         (same? x a)
 
--- ---- edges
+-- ---- the row of one component
 
-abbrev pub put_to : List ℤ → List ℕ → ℕ → Edges → Edges
-put_to cs front i t x y = t x y || member (pair (member_of cs x) (member_of cs y)) (take i front)
+-- the first i neighbours of the row have a 1
+abbrev pub row_to : List ℤ → ℕ → List ℕ → ℕ → Edges → Edges
+row_to cs row front i t x y = t x y || (eqb x row && member (member_of cs y) (take i front))
 
-pub record Putting (cs : List ℤ) (front square₀ : List ℕ) (i : ℕ) (square : List ℕ) : Type 0 where
-  pub table : (t : Edges) → Holds (component_count cs) t square₀ → Holds (component_count cs) (put_to cs front i t) square
-
-pub put_none : (cs : List ℤ) (front square : List ℕ) → Putting cs front square zero square
+pub row_none : (cs : List ℤ) (row : ℕ) (front square : List ℕ) → Makes (component_count cs) (row_to cs row front zero) square square
 unfolding member
-put_none cs front square = record { table = λ t h. holds_same (λ x y hx hy. sym (or_none (t x y))) h }
+row_none cs row front square = record { table = λ t h. holds_same (λ x y hx hy. sym (ap (λ d. t x y || d) (and_none (eqb x row)) ∙ or_none (t x y))) h }
 
--- the edge at i leads between the components at places a and b
-module _ {cs : List ℤ} (once : first_repeated cs ≡ None) {front square₀ square : List ℕ} {i a b : ℕ} (few : component_count cs ≤ span)
-    (p : Putting cs front square₀ i square) (h : i < length front)
-    (from : MemberPlace cs (get_or front i 0 / span) a) (to : MemberPlace cs (get_or front i 0 % span) b) where
-  key : ℕ
-  key = get_or front i 0
+pub row_all : (cs : List ℤ) (row : ℕ) (front : List ℕ) {i : ℕ} {s₀ s : List ℕ} → length front ≤ i → Makes (component_count cs) (row_to cs row front i) s₀ s
+    → Makes (component_count cs) (λ t x y. t x y || (eqb x row && member (member_of cs y) front)) s₀ s
+row_all cs row front {i} h p =
+    makes_same (λ t x y hx hy. ap (λ l. t x y || (eqb x row && member (member_of cs y) l)) (take_all i front h)) p
 
+-- the neighbour at i is the component at place b
+module _ {cs : List ℤ} (once : first_repeated cs ≡ None) (row : ℕ) (front : List ℕ) {s₀ s : List ℕ} {i b : ℕ} (inside : row < component_count cs)
+    (p : Makes (component_count cs) (row_to cs row front i) s₀ s) (h : i < length front) (to : MemberPlace cs (get_or front i 0) b) where
   more : (v : ℕ) → member v (take (i + 1) front) ≡ (member v (take i front) || (eqb v (get_or front i 0) || false))
   unfolding member
   more v =
@@ -95,66 +92,69 @@ module _ {cs : List ℤ} (once : first_repeated cs ≡ None) {front square₀ sq
       ∙ ap (member v) (take-suc front i 0 h)
       ∙ sym (member_append v (take i front) (get_or front i 0 ∷ []))
 
-  pub put_more : Putting cs front square₀ (i + 1) (set square (a * component_count cs + b) 1)
-  unfolding key
-  put_more = record {
-    table = λ t held.
-        holds_set (put_to cs front (i + 1) t) a b 1 from.below to.below (p.table t held) (ap bit (sym (new t))) (other t);
+  pub row_more : Makes (component_count cs) (row_to cs row front (i + 1)) s₀ (set s (row * component_count cs + b) 1)
+  row_more = record {
+    table = λ t held. holds_set (row_to cs row front (i + 1) t) row b 1 inside to.below (p.table t held) (ap bit (sym (new t))) (other t);
   }
     where
-      new : (t : Edges) → put_to cs front (i + 1) t a b ≡ true
+      new : (t : Edges) → row_to cs row front (i + 1) t row b ≡ true
       new t =
-          let e : pair (member_of cs a) (member_of cs b) ≡ key = omega (arith, from.member once, to.member once) in
-          ap (λ d. t a b || d) (more (pair (member_of cs a) (member_of cs b))
-          ∙ ap (λ d. member (pair (member_of cs a) (member_of cs b)) (take i front) || (d || false)) (eq-eqb (pair (member_of cs a) (member_of cs b)) key e)
-          ∙ sym (or_true (member (pair (member_of cs a) (member_of cs b)) (take i front))))
-          ∙ sym (or_true (t a b))
+          rw (eq-eqb row row refl)
+          (ap (λ d. t row b || d) (more (member_of cs b)
+          ∙ ap (λ d. member (member_of cs b) (take i front) || (d || false)) (eq-eqb (member_of cs b) (get_or front i 0) (to.member once))
+          ∙ sym (or_true (member (member_of cs b) (take i front))))
+          ∙ sym (or_true (t row b)))
 
-      other : (t : Edges) (x y : ℕ) → x < component_count cs → y < component_count cs → ¬ ((x ≡ a) × (y ≡ b))
-          → put_to cs front (i + 1) t x y ≡ put_to cs front i t x y
-      other t x y hx hy ne =
-          let v = pair (member_of cs x) (member_of cs y) in
-          let differ : v ≡ key → ⊥ = λ e.
-          let mx = member_below cs x hx in
-          let my = member_below cs y hy in
-          let p : member_of cs x ≡ key / span = omega (arith, few, mx, my, e) in
-          let q : member_of cs y ≡ key % span = omega (arith, few, mx, my, e) in
-          ne (
-            member_inj cs once x a hx from.below (p ∙ sym (from.member once)),
-            member_inj cs once y b hy to.below (q ∙ sym (to.member once)),
-          ) in
-          ap (λ d. t x y || d) (more v ∙ ap (λ d. member v (take i front) || (d || false)) (ne_eqb v key differ) ∙ or_none (member v (take i front)))
+      other : (t : Edges) (x y : ℕ) → x < component_count cs → y < component_count cs → ¬ ((x ≡ row) × (y ≡ b))
+          → row_to cs row front (i + 1) t x y ≡ row_to cs row front i t x y
+      other t x y hx hy ne = ⊎_elim
+          (λ (e : x ≡ row).
+          let differ : member_of cs y ≡ get_or front i 0 → ⊥ = λ q. ne (e, member_inj cs once y b hy to.below (q ∙ sym (to.member once))) in
+          ap (λ d. t x y || (eqb x row && d)) (more (member_of cs y)
+          ∙ ap (λ d. member (member_of cs y) (take i front) || (d || false)) (ne_eqb (member_of cs y) (get_or front i 0) differ)
+          ∙ or_none (member (member_of cs y) (take i front))))
+          (λ (d : ¬ (x ≡ row)). rw (ne_eqb x row d) refl)
+          (same? x row)
 
-pub put_done : {cs : List ℤ} {forward front square₀ square : List ℕ} {i : ℕ} → component_count cs ≤ span → EdgeKeys (component_count cs) forward front
-    → length front ≤ i → Putting cs front square₀ i square → EdgesPut cs forward square₀ square
-put_done {cs} {forward} {front} {i = i} few keys all p = record {
-  table = λ t h. holds_same (λ x y hx hy. ap (λ d. t x y || d) (same (member_of cs x) (member_of cs y) (member_below cs x hx) (member_below cs y hy))) (p.table t h);
+-- ---- all rows
+
+-- the edges from the members below m have a 1
+abbrev pub edges_to : List ℤ → Edges → ℕ → Edges → Edges
+edges_to cs edge m t x y = t x y || (ltb (member_of cs x) m && edge (member_of cs x) (member_of cs y))
+
+pub edges_none : (cs : List ℤ) (edge : Edges) (square : List ℕ) → Makes (component_count cs) (edges_to cs edge zero) square square
+edges_none cs edge square = record { table = λ t h. holds_same (λ x y hx hy. rw (le-ltb (member_of cs x) 0 (omega arith)) (sym (or_none (t x y)))) h }
+
+pub edges_all : (cs : List ℤ) (edge : Edges) {m : ℕ} {s₀ s : List ℕ} → component_count cs ≤ m → Makes (component_count cs) (edges_to cs edge m) s₀ s
+    → Makes (component_count cs) (λ t x y. t x y || edge (member_of cs x) (member_of cs y)) s₀ s
+edges_all cs edge {m} h p =
+    makes_same (λ t x y hx hy. let low = member_below cs x hx in rw (lt-ltb (member_of cs x) m (omega arith)) refl) p
+
+-- the row of member m is that of the component at place a
+pub edges_more : {cs : List ℤ} {edge : Edges} {ends next s₀ s s' : List ℕ} {m a : ℕ} → first_repeated cs ≡ None → Rows (component_count cs) edge ends next
+    → m < component_count cs → MemberPlace cs m a → Makes (component_count cs) (edges_to cs edge m) s₀ s
+    → Makes (component_count cs) (λ t x y. t x y || (eqb x a && member (member_of cs y) (row_of ends next m))) s s'
+    → Makes (component_count cs) (edges_to cs edge (m + 1)) s₀ s'
+edges_more {cs} {edge} {ends} {next} {m = m} {a = a} once r lt place p q = record {
+  table = λ t held. holds_same (λ x y hx hy. same t x y hx) (q.table (edges_to cs edge m t) (p.table t held));
 }
   where
-    same : (x y : ℕ) → x < component_count cs → y < component_count cs → member (pair x y) (take i front) ≡ edges (component_count cs) forward x y
-    same x y hx hy = equal_tests _ _ to from ∙ sym (edges_pair (component_count cs) forward x y hx hy)
-      where
-        to : member (pair x y) (take i front) ≡ true → member (pair x y) forward ≡ true
-        to q =
-            let m = member_at (pair x y) (take i front) q in
-            let f = keys.few in
-            let l : (m.0 < i) × (m.0 < length front) = (omega (arith, m.1, length-take i front), omega (arith, m.1, length-take i front)) in
-            at_member (pair x y) forward m.0 (omega arith) (sym (keys.same m.0 l.1) ∙ sym (get_or-take i front m.0 0 l.0) ∙ m.2)
-
-        from : member (pair x y) forward ≡ true → member (pair x y) (take i front) ≡ true
-        from q =
-            let m = member_at (pair x y) forward q in
-            let l : m.0 < length front = ⊎_elim
-            (λ (past : length front ≤ m.0). absurd (omega (arith, keys.past m.0 past m.1, m.2)))
-            (λ less. less)
-            (order? (length front) m.0) in
-            at_member (pair x y) (take i front) m.0 (omega (arith, length-take i front))
-            (get_or-take i front m.0 0 (omega arith) ∙ keys.same m.0 l ∙ m.2)
+    same : (t : Edges) (x y : ℕ) → x < component_count cs
+        → (edges_to cs edge m t x y || (eqb x a && member (member_of cs y) (row_of ends next m))) ≡ edges_to cs edge (m + 1) t x y
+    same t x y hx = ⊎_elim
+        (λ (e : x ≡ a).
+        let is : member_of cs x ≡ m = ap (member_of cs) e ∙ place.member once in
+        rw (is, eq-eqb x a e, lt-ltb m (m + 1) (omega arith), le-ltb m m (omega arith))
+        (ap₂ ◌||◌ (or_none (t x y)) (r.rows.holds m lt (member_of cs y))))
+        (λ (d : ¬ (x ≡ a)).
+        let ne : ¬ (member_of cs x ≡ m) = λ e. d (member_inj cs once x a hx place.below (e ∙ sym (place.member once))) in
+        rw (ne_eqb x a d, ltb_past (member_of cs x) m ne) (or_none (edges_to cs edge m t x y)))
+        (same? x a)
 
 -- ---- all together
 
-pub started : {cs : List ℤ} {edge : Edges} {forward s₁ s₂ s₃ : List ℕ} → Holds (component_count cs) (λ a b. false) s₁
-    → Makes (component_count cs) (λ t x y. t x y || eqb x y) s₁ s₂ → EdgesPut cs forward s₂ s₃
-    → ((x y : ℕ) → x < component_count cs → y < component_count cs → edge x y ≡ edges (component_count cs) forward (member_of cs x) (member_of cs y))
+pub started : (cs : List ℤ) {edge : Edges} (to : Edges) {s₁ s₂ s₃ : List ℕ} → Holds (component_count cs) (λ a b. false) s₁
+    → Makes (component_count cs) (λ t x y. t x y || eqb x y) s₁ s₂ → Makes (component_count cs) (λ t x y. t x y || to (member_of cs x) (member_of cs y)) s₂ s₃
+    → ((x y : ℕ) → x < component_count cs → y < component_count cs → edge x y ≡ to (member_of cs x) (member_of cs y))
     → Holds (component_count cs) (start edge) s₃
-started h p q on = holds_same (λ x y hx hy. ap (λ d. eqb x y || d) (sym (on x y hx hy))) (q.table (λ x y. eqb x y) (p.table (λ x y. false) h))
+started cs to h p q on = holds_same (λ x y hx hy. ap (λ d. eqb x y || d) (sym (on x y hx hy))) (q.table (λ x y. eqb x y) (p.table (λ x y. false) h))

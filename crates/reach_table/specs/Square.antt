@@ -1,16 +1,13 @@
 -- The square as the stages leave it, row after row: the place of row a and column b is a * n + b.
 -- Assumes nothing: these are definitions.
 use Rattle.std.specs.Prelude.{◌≡◌, Bool, ◌&&◌, ◌||◌, List, ℕ, suc, ◌+◌, ◌*◌, ◌≤◌, ◌<◌, eqb, length, get_or, bit_or, ℤ}
-use Rattle.tables.specs.Order.{Ascending}
 use Rattle.lists.specs.Limits.{component_limit}
 use Rattle.lists.specs.Ids.{member_of}
-use Rattle.lists.specs.Records.{component_count, port_count}
+use Rattle.lists.specs.Records.{component_count}
 use Rattle.regions.specs.Graph.{Edges, at}
-use Rattle.regions.specs.Keys.{edges}
 use Rattle.regions.specs.Kosaraju.{order}
 use Rattle.regions.specs.Search.{Zeros, labels_of}
 use Rattle.signals.specs.Regions.{region_count, regions_of}
-use Rattle.signals.specs.Seen.{Rows}
 use Rattle.reach_table.specs.Table.{bit, is_same_row}
 use Rattle.reach_table.specs.Numbers.{number_class, numbers}
 use Rattle.reach_table.specs.Scene.{reach_table}
@@ -41,18 +38,6 @@ pub record Joined (middle row₀ row : List ℕ) : Type 0 where
 pub record Compared (n : ℕ) (square : List ℕ) (a b : ℕ) (r : Bool) : Type 0 where
   pub same : (t : Edges) → Holds n t square → r ≡ is_same_row n t a b
 
--- ---- the start of the table
-
--- each edge's place has a 1
-pub record EdgesPut (cs : List ℤ) (forward square₀ square : List ℕ) : Type 0 where
-  pub table : (t : Edges) → Holds (component_count cs) t square₀
-      → Holds (component_count cs) (λ a b. t a b || edges (component_count cs) forward (member_of cs a) (member_of cs b)) square
-
--- the table of the edges of an accepted scene, and the square for its pairs
-pub record EdgesRoom (cs : List ℤ) (forward square : List ℕ) : Type 0 where
-  pub rows : Rows (component_count cs) forward
-  pub square_room : length square ≡ component_count cs * component_count cs
-
 -- ---- numbers
 
 -- the class of row a got a number
@@ -70,8 +55,8 @@ pub record AllNumbered (n : ℕ) (square order : List ℕ) (numbered : List Bool
   pub is : (t : Edges) → Holds n t square → labels_of numbered regions count ≡ numbers n (is_same_row n t) order
 
 -- room for that order, and for the walk
-pub record FinishRoom (cs : List ℤ) (forward places stack : List ℕ) : Type 0 where
-  pub keys_rise : Ascending forward
+pub record FinishRoom (cs : List ℤ) (ends places stack : List ℕ) : Type 0 where
+  pub nodes : length ends ≡ component_count cs
   pub places_room : length places ≡ component_count cs
   pub stack_room : 2 * component_count cs ≤ length stack
   pub stack_zeros : Zeros stack
@@ -89,12 +74,6 @@ pub record LentRoom (cs : List ℤ) (square regions stack : List ℕ) : Type 0 w
   pub square_room : length square ≡ component_count cs * component_count cs
   pub regions_room : length regions ≡ component_count cs
   pub stack_room : 2 * component_count cs ≤ length stack
-
--- and in arrays for the edges, the order, and which rows are numbered
-pub record TableRoom (cs ps : List ℤ) (forward places : List ℕ) (numbered : List Bool) : Type 0 where
-  pub forward_room : length forward ≡ port_count ps
-  pub places_room : length places ≡ component_count cs
-  pub numbered_room : length numbered ≡ component_count cs
 
 -- the finished table, the quick walk's regions and their count, and a stack of zeros
 pub record Tables (cs ps : List ℤ) (square regions stack : List ℕ) (r : ℕ) : Type 0 where

@@ -24,7 +24,7 @@ fn number_class(square: &[u8], a: usize, count: usize, numbered: &mut [bool], re
 // Numbers the classes of the rows of an order, from the last to the first; answers how many there are.
 pub(crate) fn number_all(
     square: &[u8],
-    order: &[usize],
+    order: &[u16],
     numbered: &mut [bool],
     regions: &mut [u64],
 ) -> usize
@@ -37,8 +37,9 @@ pub(crate) fn number_all(
     regions.fill(0);
     let mut count = 0;
     for a in order.iter().rev() {
-        if !numbered[*a] {
-            number_class(square, *a, count, numbered, regions);
+        let row = usize::from(*a);
+        if !numbered[row] {
+            number_class(square, row, count, numbered, regions);
             count += 1;
         }
     }

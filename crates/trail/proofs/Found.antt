@@ -1,16 +1,17 @@
 -- The search as a whole, by the graph forward.
 -- Assumes nothing.
 use Prim.Native.Nat.{ℕ}
-use mathlib.Core.Path.{◌≡◌, subst}
+use mathlib.Core.Path.{subst}
 use mathlib.Core.Bool.{Bool}
 use mathlib.Core.List.{List}
+use lib.ListN.{length}
 use Rattle.regions.specs.Graph.{Edges, flip}
-use Rattle.regions.specs.Keys.{edges, Reversed}
-use Rattle.regions.proofs.Laws.Keys.{same_edges}
+use Rattle.graph.specs.Rows.{edges_of, Rows}
+use Rattle.graph.proofs.Rows.{edges_are}
 use Rattle.trail.specs.Levels.{Levels}
 
 -- the levels against the edges turned around are those along the edges
-pub forward_levels : {n m : ℕ} {forward backward levels : List ℕ} {feeds : ℕ → Bool} → Reversed n forward backward → m ≡ n
-    → Levels m (flip (edges m backward)) feeds levels → Levels n (edges n forward) feeds levels
-forward_levels {n} {m} {forward} {backward} {levels} {feeds} r e v =
-    subst (λ (g : Edges). Levels n g feeds levels) (same_edges r) (subst (λ (k : ℕ). Levels k (flip (edges k backward)) feeds levels) e v)
+pub forward_levels : {n : ℕ} {edge : Edges} {ends back levels : List ℕ} {feeds : ℕ → Bool} → Rows n (flip edge) ends back
+    → Levels (length ends) (flip (edges_of ends back)) feeds levels → Levels n edge feeds levels
+forward_levels {n} {edge} {ends} {back} {levels} {feeds} r v =
+    subst (λ (g : Edges). Levels n (flip g) feeds levels) (edges_are r.rows) (subst (λ (k : ℕ). Levels k (flip (edges_of ends back)) feeds levels) r.rows.nodes v)

@@ -2,14 +2,14 @@
 --     Best         levels give the best trail
 --     Shortest     what specs/Theorems.antt states of any tests
 --     Renamed      trails under other names
---     Row          row_keys
+--     Row          the neighbours of a node
 --     Queued, Spread, Spreading      the search for levels
 --     Starting     start_of
 --     Walking      step_down, walk_down
 --     Found        find_way
 --     Named        the trails of a port by members and by ids
 --     Status       a port has a trail exactly if its status is 0
---     Written      write_ids, way_in, trail_port
+--     Written      write_ids, member_way, trail_port
 --     Checked      goes_on, is_trail
 --     Answered     trail_plot
 --     Theorems     what specs/Theorems.antt states of the entries

@@ -1,4 +1,4 @@
--- The walk from the start down: the keys passed over, and the way as a list.
+-- The walk from the start down: the neighbours passed over, and the way as a list.
 -- Assumes nothing.
 use Prim.Native.Nat.{ℕ, zero, suc, ◌+◌, ◌-◌, ◌≤◌, ◌<◌}
 use mathlib.Core.Path.{◌≡◌, sym, ap, ◌∙◌, subst}
@@ -8,14 +8,35 @@ use mathlib.Core.Logic.{⊎_elim}
 use native.Mathlib.Omega.{arith}
 use lib.ListN.{length, take, drop, set}
 use lib.Seq.{drop-cons, get_or-set_same, get_or-set_other}
-use Rattle.tables.specs.Laws.{same?}
+use Rattle.tables.specs.Laws.{same?, order?}
 use Rattle.regions.specs.Graph.{Edges, at}
 use Rattle.trail.specs.Levels.{Levels, StepDown, Descends}
-use Rattle.trail.specs.Ways.{led_to, WalkedDown}
+use Rattle.trail.specs.Ways.{WalkedDown}
+use Rattle.trail.proofs.Row.{Neighbours}
 
--- no key before a place leads to the level
+-- no neighbour before a place has the level
 abbrev pub NonePassed : List ℕ → List ℕ → ℕ → ℕ → Type 0
-NonePassed cut levels level place = (i : ℕ) → i < place → at levels (led_to cut i) ≡ level → ⊥
+NonePassed row levels level place = (i : ℕ) → i < place → at levels (at row i) ≡ level → ⊥
+
+module _ {n : ℕ} {edge : Edges} {x : ℕ} {row : List ℕ} (r : Neighbours n edge x row) (levels : List ℕ) {lower : ℕ} (above : at levels x ≡ suc lower) {place : ℕ}
+    (none : NonePassed row levels lower place) where
+  -- the first neighbour that has it is the least
+  pub stepped : place < length row → {k : ℕ} → k ≡ at row place → at levels k ≡ lower → StepDown edge levels x k
+  stepped h {k} is level =
+      record {
+        along = rw is (r.held place h);
+        lower = omega (arith, above, level);
+        least = λ z e up.
+            let (i, inside, here) = r.all z e in
+            ⊎_elim
+            (λ le. let rise = r.rising place i le inside in omega (arith, is, here, rise))
+            (λ lt. absurd (none i lt (ap (at levels) here ∙ omega (arith, above, up))))
+            (order? place i);
+      }
+
+  -- some neighbour has it
+  pub stepped_some : length row ≤ place → (y : ℕ) × (edge x y ≡ true) × (at levels x ≡ suc (at levels y)) → ⊥
+  stepped_some all (y, e, up) = let (i, inside, here) = r.all y e in none i (omega arith) (ap (at levels) here ∙ omega (arith, above, up))
 
 -- ---- the way as a list
 

@@ -26,7 +26,6 @@ use Rattle.lists.proofs.Search.{both}
 use Rattle.lists.proofs.Table.{table_long}
 use Rattle.checks.specs.Refusals.{refuse, too_short}
 use Rattle.regions.specs.Graph.{marked}
-use Rattle.regions.specs.Keys.{edges}
 use Rattle.signals.specs.Signals.{signals}
 use Rattle.signals.specs.Sources.{is_drive}
 use Rattle.signals.proofs.Within.{signals_within}
@@ -35,6 +34,8 @@ use Rattle.liveness.specs.Scene.{Scene}
 use Rattle.inputs.specs.Port.{drive_sources, immediate_sources}
 use Rattle.inputs.proofs.Inputs.{flags_long}
 use Rattle.inputs.proofs.Status.{marked_below}
+use Rattle.graph.specs.Rows.{edges_of, Rows}
+use Rattle.graph.proofs.Rows.{edges_are}
 use Rattle.trail.specs.Trail.{onward, trail, BestTrail, NoTrail}
 use Rattle.trail.specs.Scene.{id_of, FoundWay}
 use Rattle.trail.specs.Entries.{status_refusal, FindingBy}
@@ -64,13 +65,12 @@ laid_more f way old i h room =
 
 -- ---- the search in the terms of the scene
 
-module _ (cs ps fs : List ℤ) (p port : ℕ) (forward : List ℕ) {drives feeds : List Bool} (way : List ℕ) (found : Option ℕ)
-    (long : length drives ≡ component_count cs) (drives_are : drives ≡ drive_sources cs fs) (graph : edges (component_count cs) forward ≡ signals cs ps)
-    (feeds_are : feeds ≡ immediate_sources cs ps p port) where
-  pub way_found : MatchOption found (NoTrail (marked drives) (edges (length drives) forward) (marked feeds))
-      (λ count. (count ≤ length drives) × BestTrail (marked drives) (edges (length drives) forward) (marked feeds) (take count way))
+module _ (cs ps fs : List ℤ) (p port : ℕ) {ends next : List ℕ} {drives feeds : List Bool} (way : List ℕ) (found : Option ℕ)
+    (rows : Rows (component_count cs) (signals cs ps) ends next) (drives_are : drives ≡ drive_sources cs fs) (feeds_are : feeds ≡ immediate_sources cs ps p port) where
+  pub way_found : MatchOption found (NoTrail (marked drives) (edges_of ends next) (marked feeds))
+      (λ count. (count ≤ length ends) × BestTrail (marked drives) (edges_of ends next) (marked feeds) (take count way))
       → FoundWay cs ps fs p port way found
-  way_found f = rw (← drives_are, ← graph, ← feeds_are) (rw long at f)
+  way_found f = rw (← drives_are, ← feeds_are) (rw (edges_are rows.rows, rows.rows.nodes) at f)
 
 -- ---- the numbers of a trail are members
 

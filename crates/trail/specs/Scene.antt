@@ -1,21 +1,12 @@
 -- What the contracts of the finder's stages say.
 -- Assumes nothing: these are definitions.
-use Rattle.std.specs.Prelude.{Option, MatchOption, ℕ, ◌/◌, ◌≤◌, ◌≡◌, Bool, List, length, get_or, take, ℤ}
+use Rattle.std.specs.Prelude.{Option, MatchOption, ℕ, ◌/◌, ◌≤◌, List, get_or, take, ℤ}
 use Rattle.tables.specs.Pairs.{span}
-use Rattle.lists.specs.Records.{component_count, port_count}
+use Rattle.lists.specs.Records.{component_count}
 use Rattle.regions.specs.Graph.{marked}
 use Rattle.signals.specs.Signals.{signals}
 use Rattle.inputs.specs.Port.{drive_sources, immediate_sources}
 use Rattle.trail.specs.Trail.{BestTrail, NoTrail}
-
--- room for a key to a port connection, twice; two flags and two numbers to a member
-pub record WayRoom (cs ps : List ℤ) (forward backward : List ℕ) (drives feeds : List Bool) (levels way : List ℕ) : Type 0 where
-  pub forward_room : length forward ≡ port_count ps
-  pub backward_room : length backward ≡ port_count ps
-  pub drives_room : length drives ≡ component_count cs
-  pub feeds_room : length feeds ≡ component_count cs
-  pub levels_room : length levels ≡ component_count cs
-  pub way_room : component_count cs ≤ length way
 
 -- the best trail of a port of the component at p stands at the front of a list, by members, and has so many; or there is none
 abbrev pub FoundWay : List ℤ → List ℤ → List ℤ → ℕ → ℕ → List ℕ → Option ℕ → Type 0

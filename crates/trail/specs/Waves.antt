@@ -2,16 +2,15 @@
 -- given theirs on.
 -- Assumes nothing: these are definitions.
 use Rattle.std.specs.Prelude.{ℕ, suc, ◌+◌, ◌≤◌, ◌<◌, ◌≡◌, Bool, true, cond, List, [], ◌∷◌, ◌⊎◌, eqb, length, set}
-use Rattle.tables.specs.Order.{Ascending}
-use Rattle.tables.specs.Pairs.{span}
+use Rattle.lists.specs.Limits.{component_limit}
 use Rattle.regions.specs.Graph.{Edges, at, marked}
 
--- what a search asks of its arrays, for as many nodes as there are marks
-pub record LevelRoom (keys : List ℕ) (feeds : List Bool) (levels queue : List ℕ) : Type 0 where
-  pub nodes : length feeds ≤ span
-  pub keys_rise : Ascending keys
-  pub levels_length : length levels ≡ length feeds
-  pub queue_room : length feeds ≤ length queue
+-- what a search asks of its arrays, for n nodes
+pub record LevelRoom (n : ℕ) (feeds : List Bool) (levels queue : List ℕ) : Type 0 where
+  pub nodes : n ≤ component_limit
+  pub feeds_length : length feeds ≡ n
+  pub levels_length : length levels ≡ n
+  pub queue_room : n ≤ length queue
 
 -- how many nodes have no level
 unfoldable pub zeros : List ℕ → ℕ

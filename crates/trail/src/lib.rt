@@ -4,7 +4,6 @@
 mod check;
 mod find;
 mod levels;
-mod neighbours;
 mod plot;
 
 ghost use Rattle.lists.specs.Rules.{rules_of};

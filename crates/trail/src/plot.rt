@@ -3,96 +3,55 @@ ghost use Rattle.std.specs.Prelude.{Some, None, Ok, ℕ, ◌≡◌, ◌≤◌, �
 ghost use Rattle.lists.specs.declared.Fault.{Fault};
 ghost use Rattle.lists.specs.Records.{component, component_count};
 ghost use Rattle.lists.specs.Slices.{laid};
-ghost use Rattle.regions.specs.Graph.{marked};
-ghost use Rattle.signals.specs.Signals.{signals};
 ghost use Rattle.inputs.specs.Query.{row_place};
-ghost use Rattle.inputs.specs.Port.{drive_sources, immediate_sources};
-ghost use Rattle.trail.specs.Scene.{WayRoom, FoundWay, id_of};
+ghost use Rattle.trail.specs.Scene.{FoundWay, id_of};
 ghost use Rattle.trail.specs.Entries.{port_refusal, status_refusal, FindingBy};
 
 use super::find::find_way;
+use graph::Graph;
 use inputs::port::{drive_members, flag_immediate};
 use inputs::row::row_place;
 use lists::{COMPONENTS, CONNECTIONS, Fault, Refusal};
 use liveness::plot::Plot;
-use regions::{Graph, HINTED};
-use signals::stages::build_tables;
 use tables::SPAN;
 
 // Writes the ids of members to the front of the lent list.
-fn write_ids(keys: &[u64], way: &[usize], trail: &mut [u64])
+fn write_ids(keys: &[u64], way: &[u16], trail: &mut [u64])
     requires { ((i : ℕ) → i < length way.now → get_or way.now i 0 < length keys.now) × (length way.now ≤ length trail.old) }
     ensures { trail.new ≡ laid (map (id_of keys.now) way.now) trail.old }
 {
     for (i, member) in way.iter().enumerate() {
-        trail[i] = keys[*member] / SPAN;
+        trail[i] = keys[usize::from(*member)] / SPAN;
     }
 }
 
-// Finds the best trail of the port of the component with the id, by members, in arrays that are lent; answers how many members it has.
-fn way_in(
-    plot: &Plot,
-    id: u64,
-    port: u64,
-    forward: &mut [u64],
-    backward: &mut [u64],
-    drives: &mut [bool],
-    feeds: &mut [bool],
-    levels: &mut [usize],
-    way: &mut [usize],
-) -> Option<usize>
-    requires { let l = plot.now in
-        WayRoom l.components.now l.ports.now forward.old backward.old drives.old feeds.old levels.old way.old }
-    ensures { let cs = plot.now.components.now in let ps = plot.now.ports.now in (p : ℕ) → (component cs p).id ≡ id →
-        FoundWay cs ps plot.now.frontiers.now p port way.new result }
-{
-    let mut rows = [0usize; HINTED];
-    let mut turned = [0usize; HINTED];
-    build_tables(
-        plot.port_list(),
-        plot.ends,
-        forward,
-        backward,
-        &mut rows,
-        &mut turned,
-    );
-    drive_members(plot, drives);
-    flag_immediate(plot, id, port, feeds);
-    let onward = Graph {
-        keys: forward,
-        rows: &rows,
-    };
-    let back = Graph {
-        keys: backward,
-        rows: &turned,
-    };
-    find_way(onward, back, drives, feeds, levels, way)
-}
-
 // Finds the best trail of the port of the component with the id, by members, in the lent list; answers how many members it has.
-fn member_way(plot: &Plot, id: u64, port: u64, way: &mut [usize]) -> Option<usize>
+fn member_way(plot: &Plot, id: u64, port: u64, way: &mut [u16]) -> Option<usize>
     requires { component_count plot.now.components.now ≤ length way.old }
     ensures { let cs = plot.now.components.now in let ps = plot.now.ports.now in (p : ℕ) → (component cs p).id ≡ id →
         FoundWay cs ps plot.now.frontiers.now p port way.new result }
 {
     let n = plot.keys.len();
-    let m = plot.port_list().count();
-    let mut forward = [0u64; CONNECTIONS];
-    let mut backward = [0u64; CONNECTIONS];
-    let mut drives = [false; COMPONENTS];
-    let mut feeds = [false; COMPONENTS];
-    let mut levels = [0usize; COMPONENTS];
-    way_in(
-        plot,
-        id,
-        port,
-        &mut forward[..m],
-        &mut backward[..m],
-        &mut drives[..n],
-        &mut feeds[..n],
-        &mut levels[..n],
-        way,
-    )
+    let mut forward_ends = [0u16; COMPONENTS];
+    let mut next = [0u16; CONNECTIONS];
+    let mut backward_ends = [0u16; COMPONENTS];
+    let mut back = [0u16; CONNECTIONS];
+    let mut drive_flags = [false; COMPONENTS];
+    let mut feed_flags = [false; COMPONENTS];
+    let mut levels = [0u16; COMPONENTS];
+    let ends = &mut forward_ends[..n];
+    let back_ends = &mut backward_ends[..n];
+    let drives = &mut drive_flags[..n];
+    let feeds = &mut feed_flags[..n];
+    plot.rows(ends, &mut next, back_ends, &mut back);
+    drive_members(plot, drives);
+    flag_immediate(plot, id, port, feeds);
+    let forward = Graph { ends, next: &next };
+    let backward = Graph {
+        ends: back_ends,
+        next: &back,
+    };
+    find_way(forward, backward, drives, feeds, &mut levels[..n], way)
 }
 
 // The trail of a port of the component with the id; 10 where there is none.
@@ -103,7 +62,7 @@ fn trail_port(plot: &Plot, id: u64, port: u64, trail: &mut [u64]) -> Result<usiz
         FindingBy (status_refusal l.rules l.components.now l.ports.now l.frontiers.now port (Some p))
         l.components.now l.ports.now l.frontiers.now id port trail.old trail.new result }
 {
-    let mut way = [0usize; COMPONENTS];
+    let mut way = [0u16; COMPONENTS];
     let count = member_way(plot, id, port, &mut way).ok_or(Refusal {
         fault: Fault::NotDriven,
         list: None,

@@ -5,10 +5,10 @@ use Rattle.driven.proofs.seek.seek_all.Goals as goal
 use Rattle.driven.proofs.seek.seek_all.Goals.{else-is_start-via-then-is_start+else-seek_from, else-is_start-via-else-is_start}
 
 pub loop-start-init : goal.loop-start-init
-loop-start-init c = going_begin c.args.starts.now c.requires (c.fill.ensures.after (λ y e. e)) c.fill.auto.self
+loop-start-init c = going_begin c.args.starts.now c.requires.1 (c.fill.ensures.after (λ y e. e)) c.fill.auto.self
 
 pub returns-then-seek_from : goal.returns-then-seek_from
-returns-then-seek_from c = going_stops c.loop-start.invariant c.if-is_start.true c.seek_from.ensures c.if-seek_from.true c.loop-start-test.true
+returns-then-seek_from c = going_stops c.loop-start.invariant c.if-is_start.true c.seek_from.ensures c.if-seek_from.true (omega (arith, c.requires.0, c.loop-start-test.true))
 
 pub loop-start-preserved : goal.loop-start-preserved
 loop-start-preserved c =
@@ -20,4 +20,4 @@ loop-start-preserved c =
     ]
 
 pub returns : goal.returns
-returns c = going_end c.loop-start.invariant (omega arith) c.loop-start-test.false
+returns c = going_end c.loop-start.invariant (omega (arith, c.requires.0)) (omega (arith, c.requires.0, c.loop-start-test.false))

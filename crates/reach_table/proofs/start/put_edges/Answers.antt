@@ -1,56 +1,39 @@
 -- Answers for the goals that the search leaves.
-use mathlib.Core.Path.{sym, subst}
-use Prim.Native.Nat.{ℕ, ◌+◌, ◌*◌, ◌/◌, ◌%◌, ◌<◌}
+use mathlib.Core.Path.{subst}
+use Prim.Native.Nat.{ℕ, ◌<◌}
 use native.Mathlib.Omega.{arith}
-use lib.ListN.{length, get_or}
-use Rattle.tables.specs.Pairs.{span}
-use Rattle.lists.specs.Ids.{MemberPlace}
 use Rattle.lists.specs.Records.{component_count}
 use Rattle.liveness.proofs.Lent.{nodes_are}
-use Rattle.signals.specs.Seen.{Rows, EdgeKeys}
-use Rattle.reach_table.proofs.Cells.{cell_low}
-use Rattle.reach_table.proofs.Starting.{put_none, put_more, put_done}
+use Rattle.graph.specs.Rows.{edges_of, Rows}
+use Rattle.graph.proofs.Rows.{row_low}
+use Rattle.reach_table.proofs.Starting.{edges_none, edges_more, edges_all}
 use Rattle.reach_table.proofs.start.put_edges.Goals as goal
-use Rattle.reach_table.proofs.start.put_edges.Goals.{After-place_at-column}
+use Rattle.reach_table.proofs.start.put_edges.Goals.{After-place_at-row}
 
--- the list places of the edge's ends
-module _ (c : After-place_at-column) where
-  from : MemberPlace c.args.plot.now.components.now (get_or c.edges_of-key-items.result.now c.loop-key.key-index 0 / span) c.place_at-row.result
-  from = c.place_at-row.ensures c.args.plot.now.components.now c.args.plot.now.accepted.table
+-- the rows, of as many nodes as there are components
+rows : (c : After-place_at-row) → let g = c.args.graph in Rows (component_count c.args.plot.now.components.now) (edges_of g.ends.now g.next.now) g.ends.now g.next.now
+rows c = let g = c.args.graph in subst (λ (k : ℕ). Rows k (edges_of g.ends.now g.next.now) g.ends.now g.next.now) c.requires.0 g.rows
 
-  to : MemberPlace c.args.plot.now.components.now (get_or c.edges_of-key-items.result.now c.loop-key.key-index 0 % span) c.place_at-column.result
-  to = c.place_at-column.ensures c.args.plot.now.components.now c.args.plot.now.accepted.table
+inside : (c : After-place_at-row) → c.loop-m.m < component_count c.args.plot.now.components.now
+inside c = omega (arith, c.requires.0, c.loop-m-test.true)
 
-  low : c.place_at-row.result * length c.args.plot.now.keys.now + c.place_at-column.result < length c.loop-key.square
-  low =
-      let n = component_count c.args.plot.now.components.now in
-      let p = cell_low n c.place_at-row.result c.place_at-column.result from.below to.below in
-      rw (nodes_are c.args.plot.now.accepted) (omega (arith, p, c.loop-key.auto.square, c.requires.square_room))
+pub place_at-row-requires : goal.place_at-row-requires
+place_at-row-requires c = omega (arith, c.requires.0, c.loop-m-test.true, nodes_are c.args.plot.now.accepted)
 
-pub edges_of-key-items-requires : goal.edges_of-key-items-requires
-edges_of-key-items-requires c =
-    subst (λ (k : ℕ). Rows k c.args.forward.now) (sym (nodes_are c.args.plot.now.accepted)) c.requires.rows
+pub loop-m-init : goal.loop-m-init
+loop-m-init c = edges_none c.args.plot.now.components.now (edges_of c.args.graph.ends.now c.args.graph.next.now) c.args.square.now
 
-pub loop-key-init : goal.loop-key-init
-loop-key-init c = put_none _ _ _
+pub put_row-requires-clause-members : goal.put_row-requires-clause-members
+put_row-requires-clause-members c =
+    let s = (goal.at.put_row-requires-clause-members c).After-place_at-row in
+    rw c.row.ensures (λ i h. row_low (rows s) c.loop-m.m (inside s) i h)
 
-pub overflow_mul-square : goal.overflow_mul-square
-overflow_mul-square c = let p = low (goal.at.overflow_mul-square c).After-place_at-column in omega arith
-
-pub overflow_add-square : goal.overflow_add-square
-overflow_add-square c = let p = low (goal.at.overflow_add-square c).After-place_at-column in omega arith
-
-pub bounds-square-row : goal.bounds-square-row
-bounds-square-row c = low (goal.at.bounds-square-row c).After-place_at-column
-
-pub loop-key-preserved : goal.loop-key-preserved
-loop-key-preserved c =
-    let s = (goal.at.loop-key-preserved c).After-place_at-column in
+pub loop-m-preserved : goal.loop-m-preserved
+loop-m-preserved c =
+    let s = (goal.at.loop-m-preserved c).After-place_at-row in
     let a = c.args.plot.now.accepted in
-    rw (nodes_are a) (put_more a.scene.distinct c.requires.rows.nodes c.loop-key.invariant c.loop-key-test.true (from s) (to s))
+    edges_more a.scene.distinct (rows s) (inside s) (c.place_at-row.ensures c.args.plot.now.components.now a.table) c.loop-m.invariant (rw c.row.ensures at c.put_row.ensures)
 
 pub returns : goal.returns
 returns c =
-    let a = c.args.plot.now.accepted in
-    put_done c.requires.rows.nodes (subst (λ (k : ℕ). EdgeKeys k c.args.forward.now c.edges_of-key-items.result.now) (nodes_are a) c.edges_of-key-items.ensures)
-    c.loop-key-test.false c.loop-key.invariant
+    edges_all c.args.plot.now.components.now (edges_of c.args.graph.ends.now c.args.graph.next.now) (omega (arith, c.requires.0, c.loop-m-test.false)) c.loop-m.invariant

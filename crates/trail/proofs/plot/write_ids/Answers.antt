@@ -12,5 +12,6 @@ pub loop-i-preserved : goal.loop-i-preserved
 loop-i-preserved c =
     let i = c.loop-i.i in
     let id = id_of c.args.keys.now (get_or c.args.way.now i 0) in
-    ap (λ (t : List ℕ). set t i id) c.loop-i.invariant
-    ∙ laid_more (id_of c.args.keys.now) c.args.way.now c.args.trail.now i c.loop-i-test.true (omega (arith, c.requires.1, c.loop-i-test.true))
+    rw c.from.ensures
+    (ap (λ (t : List ℕ). set t i id) c.loop-i.invariant
+    ∙ laid_more (id_of c.args.keys.now) c.args.way.now c.args.trail.now i c.loop-i-test.true (omega (arith, c.requires.1, c.loop-i-test.true)))
