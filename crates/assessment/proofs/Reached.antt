@@ -1,11 +1,12 @@
--- Marks of regions, carried along the pairs of regions, are what the components of the marked regions reach.
+-- Marks of regions, carried along the edges, are what the components of the marked regions reach.
+--     Exactly                          what is carried
 --     drive_is, potential_is           carried from the drive sources, and from the inferred inputs too
 -- Assumes nothing.
 use Rattle.std.specs.Prelude.{None}
 use mathlib.Core.Path.{◌≡◌, refl, sym, ap, ◌∙◌}
 use mathlib.Core.Bool.{Bool, true, false, ◌&&◌, ◌||◌}
 use mathlib.Core.List.{List}
-use mathlib.Core.Logic.{⊎_elim}
+use mathlib.Core.Logic.{◌↔◌, ⊎_elim}
 use Prim.Native.Nat.{ℕ, ◌≤◌, ◌<◌}
 use native.Mathlib.Omega.{arith}
 use lib.Dec.{eqb}
@@ -19,14 +20,12 @@ use Rattle.lists.specs.First.{is_found, some}
 use Rattle.lists.specs.Ids.{member_of, first_end_missing}
 use Rattle.lists.proofs.Search.{both}
 use Rattle.lists.proofs.Members.{member_below}
-use Rattle.regions.specs.Graph.{Reach, at, marked}
-use Rattle.regions.specs.Kosaraju.{reached}
-use Rattle.regions.specs.Carry.{carry, Crossings, CarryLaws}
+use Rattle.regions.specs.Graph.{Edges, Reach, at, marked}
+use Rattle.regions.specs.Kosaraju.{region_of, reached}
 use Rattle.regions.specs.Theorems.{ReachLaws}
 use Rattle.regions.proofs.Laws.Lists.{or_right}
 use Rattle.regions.proofs.Laws.Walks.{Reach·trans}
 use Rattle.regions.proofs.Theorems.{reach_laws}
-use Rattle.regions.proofs.Carried.{carry_laws}
 use Rattle.signals.specs.Signals.{signals}
 use Rattle.signals.specs.Sources.{is_drive}
 use Rattle.signals.specs.Regions.{labels, region_of_place, holds_drive, is_inferred}
@@ -64,8 +63,12 @@ some_or P Q t n =
     some_at any n p h (and_true (P p || Q p) (t p) (or_right (P p) x) y))
     (either (some one n) (some other n) e))
 
-module _ (cs ps : List ℤ) (few : component_count cs ≤ component_limit) (ends : first_end_missing cs ps ≡ None) {keys : List ℕ}
-    (pairs : Crossings (signals cs ps) (labels cs ps) keys) where
+-- a region has a mark at the end exactly if a node of a region that had one reaches its nodes
+pub record Exactly (n : ℕ) (edge : Edges) (before after : ℕ → Bool) : Type 0 where
+  pub exactly : (b : ℕ) → b < n
+      → (after (at (region_of n edge) b) ≡ true) ↔ ((s : ℕ) × (s < n) × (before (at (region_of n edge) s) ≡ true) × Reach edge s b)
+
+module _ (cs ps : List ℤ) (few : component_count cs ≤ component_limit) (ends : first_end_missing cs ps ≡ None) where
   n : ℕ
   n = component_count cs
 
@@ -73,11 +76,8 @@ module _ (cs ps : List ℤ) (few : component_count cs ≤ component_limit) (ends
   holds : (ℕ → Bool) → ℕ → Bool
   holds P r = some (λ p. P p && eqb (region_of_place cs ps p) r) n
 
-  module _ (P : ℕ → Bool) {marks : List Bool} (flags : Flags component_limit (holds P) marks) where
-    carried : CarryLaws n (signals cs ps) keys (marked marks)
-    unfolding n
-    carried = carry_laws (component_count cs) (signals cs ps) (signals_within cs ps ends) (omega arith) keys pairs (marked marks)
-
+  module _ (P : ℕ → Bool) {marks : List Bool} (flags : Flags component_limit (holds P) marks) {after : ℕ → Bool}
+      (carried : Exactly (component_count cs) (signals cs ps) (marked marks) after) where
     walked : ReachLaws n (signals cs ps) (members_where cs P)
     unfolding n
     walked = reach_laws (component_count cs) (signals cs ps) (signals_within cs ps ends) (members_where cs P)
@@ -114,24 +114,24 @@ module _ (cs ps : List ℤ) (few : component_count cs ≤ component_limit) (ends
         marks_at s h ∙ some_at (λ q. P q && eqb (region_of_place cs ps q) (at (labels cs ps) s)) (component_count cs) p l
         (and_true (P p) (eqb (region_of_place cs ps p) (at (labels cs ps) s)) x (eq-eqb (region_of_place cs ps p) (at (labels cs ps) s) same))
 
-    carried_at : (b : ℕ) → b < n → carry keys (marked marks) (at (labels cs ps) b) ≡ marked (reached n (signals cs ps) (members_where cs P)) b
+    carried_at : (b : ℕ) → b < n → after (at (labels cs ps) b) ≡ marked (reached n (signals cs ps) (members_where cs P)) b
     unfolding n
     carried_at b h =
-        same_truth (carry keys (marked marks) (at (labels cs ps) b)) (marked (reached (component_count cs) (signals cs ps) (members_where cs P)) b)
+        same_truth (after (at (labels cs ps) b)) (marked (reached (component_count cs) (signals cs ps) (members_where cs P)) b)
         (λ e. let (s, l, m, r) = (carried.exactly b h).0 e in from_region b s l m r)
         (λ e. let (s, l, m, r) = (walked.exactly b).0 e in (carried.exactly b h).1 (s, l, of_start s l m, r))
 
-    reached_is : {out : List Bool} → length out ≡ n → Flags n (λ m. carry keys (marked marks) (at (labels cs ps) m)) out
+    reached_is : {out : List Bool} → length out ≡ n → Flags n (λ m. after (at (labels cs ps) m)) out
         → out ≡ reached n (signals cs ps) (members_where cs P)
     reached_is {out} long f =
         ext_get_or false out (reached n (signals cs ps) (members_where cs P)) (long ∙ sym walked.long) (λ b h.
         f.at b (omega arith) ∙ carried_at b (omega arith))
 
-  module _ (fs : List ℤ) {marks out : List Bool} (long : length out ≡ component_count cs)
-      (f : Flags (component_count cs) (λ m. carry keys (marked marks) (at (labels cs ps) m)) out) where
+  module _ (fs : List ℤ) {marks out : List Bool} {after : ℕ → Bool} (carried : Exactly (component_count cs) (signals cs ps) (marked marks) after)
+      (long : length out ≡ component_count cs) (f : Flags (component_count cs) (λ m. after (at (labels cs ps) m)) out) where
     pub drive_is : Flags component_limit (holds_drive cs ps fs) marks → out ≡ drive cs ps fs
     unfolding drive holds_drive n holds
-    drive_is flags = reached_is (is_drive cs fs) flags long f
+    drive_is flags = reached_is (is_drive cs fs) flags carried long f
 
     module _ {driven inferred : List Bool} {regions : List ℕ} (rules : ℕ) (numbers : Numbers (component_count cs) (region_of_place cs ps) regions)
         (regions-driven : Flags component_limit (holds_drive cs ps fs) driven) (inputs : Flags (component_count cs) (is_inferred rules cs ps fs) inferred)
@@ -151,4 +151,4 @@ module _ (cs ps : List ℤ) (few : component_count cs ≤ component_limit) (ends
 
       pub potential_is : out ≡ potential rules cs ps fs
       unfolding potential n holds
-      potential_is = reached_is (λ p. is_drive cs fs p || is_inferred rules cs ps fs p) either_at long f
+      potential_is = reached_is (λ p. is_drive cs fs p || is_inferred rules cs ps fs p) either_at carried long f

@@ -152,7 +152,7 @@ fn put_ports(
 fn put_rows(
     rules: u64,
     components: ComponentList,
-    members: &[usize],
+    members: &[u16],
     slots: &[Slot; SLOTS],
     out: &mut [u64],
 ) -> usize
@@ -169,7 +169,7 @@ fn put_rows(
             components.id(p),
             components.kind(p),
             components.facing(p),
-            members[p],
+            usize::from(members[p]),
             slots,
             out,
             at,
@@ -195,7 +195,7 @@ fn any_required(rules: u64, components: ComponentList) -> bool
 pub fn write_verdicts(
     rules: u64,
     components: ComponentList,
-    members: &[usize],
+    members: &[u16],
     ports: PortList,
     ends: &[Ends],
     drive: &[bool],

@@ -11,7 +11,7 @@ use sets::ComponentSet;
 use tables::SPAN;
 
 // Puts each flagged member into the row of its region; the rows are empty before.
-fn seed_rows(labels: &[usize], flags: &[bool], rows: &mut [ComponentSet; COMPONENTS])
+fn seed_rows(labels: &[u16], flags: &[bool], rows: &mut [ComponentSet; COMPONENTS])
     requires indices { Indices (length labels.now) component_limit labels.now
         × ((length labels.now ≤ member_limit) × (length labels.now ≤ length flags.now)) }
     requires rows_empty { RowsEmpty rows.old }
@@ -19,7 +19,8 @@ fn seed_rows(labels: &[usize], flags: &[bool], rows: &mut [ComponentSet; COMPONE
 {
     for (k, label) in labels.iter().enumerate() {
         if flags[k] {
-            rows[*label] = rows[*label].insert(k);
+            let region = usize::from(*label);
+            rows[region] = rows[region].insert(k);
         }
     }
 }
@@ -39,7 +40,7 @@ fn carry_rows(keys: &[u64], rows: &mut [ComponentSet; COMPONENTS])
 // Fills the rows, which are empty before, with the flagged members upstream of each region.
 pub fn upstream_rows(
     keys: &[u64],
-    labels: &[usize],
+    labels: &[u16],
     flags: &[bool],
     rows: &mut [ComponentSet; COMPONENTS],
 )

@@ -6,31 +6,30 @@
 use Rattle.std.specs.Prelude.{Option, Some, None}
 use mathlib.Core.Path.{◌≡◌, refl, sym, ap, ◌∙◌}
 use mathlib.Core.Bool.{Bool, true, false, not, ◌&&◌}
-use mathlib.Core.List.{List, ◌++◌}
+use mathlib.Core.List.{List}
 use Prim.Native.Nat.{ℕ, ◌≤◌, ◌<◌}
 use native.Mathlib.Omega.{arith}
 use lib.Dec.{eqb}
-use lib.ListN.{length, get_or, get_or-append}
+use lib.ListN.{length, get_or}
 use lib.IntN.{ℤ}
 use borrow.Author.Tests.{eqb-true, eq-eqb}
 use Rattle.lists.specs.Limits.{component_limit}
 use Rattle.lists.specs.Records.{component, port_connection, component_count, port_count}
 use Rattle.lists.specs.First.{first_from, is_found, some}
 use Rattle.lists.specs.Ids.{place_below, place_of, has_component, smaller_ids, member_of, first_repeated}
-use Rattle.lists.proofs.Search.{never, found_at, none_found, first_nothing}
+use Rattle.lists.proofs.Search.{never, both, found_at, none_found, first_nothing}
+use Rattle.lists.proofs.Some.{and_true}
 use Rattle.lists.proofs.Members.{member_below, member_inj}
 use Rattle.regions.specs.Graph.{marked, at}
-use Rattle.signals.specs.Signals.{is_signal, source_member, sink_member}
+use Rattle.signals.specs.Signals.{is_signal, source_member, sink_member, signals}
 use Rattle.signals.specs.Regions.{labels, is_passive, kind_at, fed_from_outside}
-use Rattle.lists.specs.Ends.{Settled}
 use Rattle.signals.specs.Flags.{Flags, Numbers, Gathered}
-use Rattle.signals.specs.Keys.{KeysOf}
-use Rattle.signals.specs.Seen.{of_edge, outside_key}
+use Rattle.signals.specs.Seen.{Led}
 use Rattle.liveness.specs.Scene.{Scene}
 use Rattle.signals.proofs.Tabulated.{first_cong}
-use Rattle.signals.proofs.Ends.{ends_below, ends_within}
-use Rattle.signals.proofs.Tested.{signal_tests}
-use Rattle.signals.proofs.Within.{labels_count}
+use Rattle.signals.proofs.Ends.{ends_below}
+use Rattle.signals.proofs.Tested.{same_truth}
+use Rattle.signals.proofs.Within.{edge_tests}
 
 -- ---- tests
 
@@ -85,49 +84,55 @@ module _ (rules : ℕ) (cs : List ℤ) (once : first_repeated cs ≡ None) {memb
 -- ---- fed from outside
 
 -- the tests of a connection in another order, equal where it is a signal
-tests_same : (s x y y' z : Bool) → (s ≡ true → y ≡ y') → (s && ((x && not y) && z)) ≡ (s && (x && (z && not y')))
+tests_same : (s x y y' z : Bool) → (s ≡ true → y ≡ y') → (s && ((not y && x) && z)) ≡ (s && (x && (z && not y')))
 tests_same false x y y' z e = refl
-tests_same true false y y' z e = refl
-tests_same true true y y' z e = turned y z ∙ rw (e refl)
+tests_same true x y y' z e = turned x y z ∙ rw (e refl) refl
   where
-    turned : (a b : Bool) → (not a && b) ≡ (b && not a)
-    turned true true = refl
-    turned true false = refl
-    turned false true = refl
-    turned false false = refl
+    turned : (a b c : Bool) → ((not b && a) && c) ≡ (a && (c && not b))
+    turned true true true = refl
+    turned true true false = refl
+    turned true false true = refl
+    turned true false false = refl
+    turned false true c = refl
+    turned false false c = refl
 
-module _ {cs ps : List ℤ} (scene : Scene cs ps) {sources sinks forward labelled members : List ℕ} (s : Settled cs ps 0 sources) (t : Settled cs ps 2 sinks)
-    (table : KeysOf ps sources sinks component_limit forward) (is : labelled ≡ labels cs ps) (numbers : Numbers (component_count cs) (member_of cs) members) where
-  pub fed_is : (rules : ℕ) (rest : List Bool) {flags marks fed : List Bool} {n : ℕ} → Flags (component_count cs) (λ p. is_passive rules (component cs p).kind) flags
+-- an edge from another region's node that is not passive
+abbrev pub from_outside : List ℕ → List Bool → ℕ → ℕ → Bool
+from_outside labelled marks a b = not (marked marks a) && not (eqb (get_or labelled a 0) (get_or labelled b 0))
+
+module _ {cs ps : List ℤ} (scene : Scene cs ps) {labelled members : List ℕ} (is : labelled ≡ labels cs ps)
+    (numbers : Numbers (component_count cs) (member_of cs) members) where
+  pub fed_is : (rules : ℕ) {flags marks fed : List Bool} → Flags (component_count cs) (λ p. is_passive rules (component cs p).kind) flags
       → length marks ≡ component_count cs → Gathered (component_count cs) members flags marks
-      → n ≡ component_limit → Flags n (λ r. some (λ i. outside_key labelled (marks ++ rest) r (get_or forward i 0)) (length forward)) fed
+      → length fed ≡ component_limit → Led (signals cs ps) (from_outside labelled marks) labelled fed
       → Flags component_limit (fed_from_outside rules cs ps) fed
   unfolding fed_from_outside
-  fed_is rules rest {flags} {marks} {fed} f long g room o = record {
-    long = omega (arith, o.long);
+  fed_is rules {flags} {marks} {fed} f long g room o = record {
+    long = omega arith;
     at = λ r h.
-        o.at r (omega arith)
-        ∙ ap (λ (n : ℕ). some (λ i. of_edge n (test r) (get_or forward i 0)) (length forward)) (ap length is ∙ labels_count cs ps scene.ends)
-        ∙ signal_tests few s t (ends_within cs ps scene.ends) table (test r)
+        same_truth (marked fed r) (some (λ k. is_signal ps k && test r (source_member cs ps k) (sink_member cs ps k)) (port_count ps))
+        (λ e.
+        let (a, b, s, t, i) = (o.exactly r (omega arith)).0 e in
+        (edge_tests cs ps (test r)).0 (a, b, s, and_true (from_outside labelled marks a b) (eqb (get_or labelled b 0) r) t (eq-eqb (get_or labelled b 0) r i)))
+        (λ e.
+        let (a, b, s, w) = (edge_tests cs ps (test r)).1 e in
+        let (t, i) = both (from_outside labelled marks a b) (eqb (get_or labelled b 0) r) w in
+        (o.exactly r (omega arith)).1 (a, b, s, t, eqb-true (get_or labelled b 0) r i))
         ∙ ap is_found (first_cong _ _ 0 (port_count ps) (λ k a b. tested r k (omega arith)));
   }
     where
-      few : component_count cs ≤ component_limit
-      few = scene.components.few
-
       test : ℕ → ℕ → ℕ → Bool
-      test r a b = (not (eqb (get_or labelled a 0) (get_or labelled b 0)) && not (marked (marks ++ rest) a)) && eqb (get_or labelled b 0) r
+      test r a b = from_outside labelled marks a b && eqb (get_or labelled b 0) r
 
-      passive : (k : ℕ) → k < port_count ps → is_signal ps k ≡ true → marked (marks ++ rest) (source_member cs ps k) ≡ is_passive rules (kind_at cs (place_of cs (port_connection ps k).source))
+      passive : (k : ℕ) → k < port_count ps → is_signal ps k ≡ true → marked marks (source_member cs ps k) ≡ is_passive rules (kind_at cs (place_of cs (port_connection ps k).source))
       passive k h signal =
           let there = ends_below cs ps scene.ends k h signal in
-          get_or-append marks rest false (source_member cs ps k) (omega (arith, there.source_below))
-          ∙ passive_at rules cs scene.distinct numbers f long g (port_connection ps k).source there.source_found
+          passive_at rules cs scene.distinct numbers f long g (port_connection ps k).source there.source_found
 
       tested : (r k : ℕ) → k < port_count ps → (is_signal ps k && test r (source_member cs ps k) (sink_member cs ps k))
           ≡ (is_signal ps k && (not (eqb (at (labels cs ps) (source_member cs ps k)) (at (labels cs ps) (sink_member cs ps k)))
           && (eqb (at (labels cs ps) (sink_member cs ps k)) r && not (is_passive rules (kind_at cs (place_of cs (port_connection ps k).source))))))
       tested r k h =
           tests_same (is_signal ps k) (not (eqb (get_or labelled (source_member cs ps k) 0) (get_or labelled (sink_member cs ps k) 0)))
-          (marked (marks ++ rest) (source_member cs ps k)) _ (eqb (get_or labelled (sink_member cs ps k) 0) r) (passive k h)
-          ∙ rw is
+          (marked marks (source_member cs ps k)) _ (eqb (get_or labelled (sink_member cs ps k) 0) r) (passive k h)
+          ∙ rw is refl

@@ -9,13 +9,13 @@ use Rattle.lists.specs.Ids.{IdTable, member_of, first_repeated, first_end_missin
 use Rattle.lists.specs.Ends.{SettledEnds}
 use Rattle.lists.specs.Order.{first_not_ascending, component_order}
 use Rattle.lists.specs.Within.{Components, PortConnections}
-use Rattle.regions.specs.Search.{Zeros}
-use Rattle.signals.specs.Signals.{is_signal}
+use Rattle.regions.specs.Graph.{flip}
+use Rattle.graph.specs.Rows.{Rows}
+use Rattle.signals.specs.Signals.{is_signal, signals}
 use Rattle.signals.specs.Sources.{is_on_frontier, is_drive}
-use Rattle.signals.specs.Regions.{labels, region_count, region_of_place, holds_drive, is_inferred}
+use Rattle.signals.specs.Regions.{labels, region_of_place, holds_drive, is_inferred}
 use Rattle.signals.specs.Drive.{drive, potential}
 use Rattle.signals.specs.Flags.{Flags, Numbers}
-use Rattle.signals.specs.Stages.{Tables}
 use Rattle.liveness.specs.Sets.{SetWhere}
 use Rattle.liveness.specs.declared.Analysis.{Analysis}
 
@@ -33,13 +33,14 @@ pub record Accepted (cs ps : List ℤ) (keys sources sinks : List ℕ) : Type 0 
   pub table : IdTable cs keys
   pub ends : SettledEnds cs ps sources sinks
 
--- the tables of its signal edges; each member's region; each component's member and region, by list place
-pub record Prepared (cs ps : List ℤ) (sources sinks forward backward labelled members region_of : List ℕ) : Type 0 where
-  pub tables : Tables cs ps sources sinks forward backward
-  pub sources_long : port_count ps ≤ length sources
-  pub sinks_long : port_count ps ≤ length sinks
+-- the rows of its signal edges, and of the same turned round; each member's region; each component's member and region, by list place
+pub record Prepared (cs ps : List ℤ) (ends next back_ends back labelled members region_of : List ℕ) : Type 0 where
+  pub forward : Rows (component_count cs) (signals cs ps) ends next
+  pub backward : Rows (component_count cs) (flip (signals cs ps)) back_ends back
   pub labels_are : labelled ≡ labels cs ps
+  pub members_long : length members ≡ component_count cs
   pub members_are : Numbers (component_count cs) (member_of cs) members
+  pub regions_long : length region_of ≡ component_count cs
   pub regions_are : Numbers (component_count cs) (region_of_place cs ps) region_of
 
 -- flags of the drive sources, and of those on frontiers
@@ -48,33 +49,10 @@ pub record Driven (cs ps fs : List ℤ) (frontier driven hasDriven : List Bool) 
   pub drive_flags : Flags (component_count cs) (is_drive cs fs) driven
   pub region_flags : Flags component_limit (holds_drive cs ps fs) hasDriven
 
--- the same, with the number of regions; the stack is zero again
-pub record Prepares (cs ps : List ℤ) (sources sinks forward backward labelled members region_of stack : List ℕ) (r : ℕ) : Type 0 where
-  pub prepared : Prepared cs ps sources sinks forward backward labelled members region_of
-  pub count : r ≡ region_count cs ps
-  pub stack_zeros : Zeros stack
-
--- an accepted scene that is prepared, the ends of its connections left out
-pub record PreparedScene (cs ps : List ℤ) (forward backward labelled members region_of : List ℕ) : Type 0 where
-  pub scene : Scene cs ps
-  pub sources : List ℕ
-  pub sinks : List ℕ
-  pub prepared : Prepared cs ps sources sinks forward backward labelled members region_of
-
 -- what the drive sources reach, and what these and the inferred inputs reach
 pub record Alive (rules : ℕ) (cs ps fs : List ℤ) (driven possible : List Bool) : Type 0 where
   pub drive_is : driven ≡ drive cs ps fs
   pub potential_is : possible ≡ potential rules cs ps fs
-
--- ---- room in the arrays that are lent
-
-pub record PreparedRoom (cs ps : List ℤ) (forward backward labelled members region_of stack : List ℕ) : Type 0 where
-  pub forward_room : length forward ≡ port_count ps
-  pub backward_room : length backward ≡ port_count ps
-  pub labels_room : length labelled ≡ component_count cs
-  pub members_room : component_count cs ≤ length members
-  pub regions_room : component_count cs ≤ length region_of
-  pub stack_room : 2 * component_count cs ≤ length stack
 
 -- ---- the ends of port connections, of which rows are built
 

@@ -1,4 +1,4 @@
-// What the drive sources and the inferred inputs reach: marks of their regions, carried along the pairs of regions.
+// What the drive sources and the inferred inputs reach: marks of their regions, carried along the edges by rising region.
 ghost use Rattle.std.specs.Prelude.{◌≡◌, ℕ, ◌&&◌, ◌||◌, List, ◌≤◌, eqb, length, get_or, ℤ};
 ghost use Rattle.lists.specs.Limits.{component_limit};
 ghost use Rattle.lists.specs.Records.{component_count};
@@ -9,13 +9,13 @@ ghost use Rattle.signals.specs.Flags.{Flags, Indices};
 ghost use Rattle.liveness.specs.Scene.{Alive, AliveRoom};
 
 use super::plot::PreparedPlot;
-use lists::{COMPONENTS, CONNECTIONS};
-use signals::crossings::{carry_marks, find_crossings};
-use signals::flags::{combine_flags, gather};
+use graph::marks::{by_region, carry_marks};
+use lists::COMPONENTS;
+use signals::flags::{combine_flags, gather, spread};
 
 // Flags the regions that hold a drive source or an inferred input.
 fn possible_regions(
-    region_at: &[usize],
+    region_at: &[u16],
     inferred: &[bool],
     has_drive: &[bool],
     possible: &mut [bool],
@@ -43,19 +43,20 @@ pub(crate) fn flag_alive(
         Flags (component_count cs) (is_inferred rules cs p.ports.now fs) inferred.now →
         Alive rules cs p.ports.now fs drive.new potential.new }
 {
-    let n = plot.labels.len();
-    let mut keys = [0u64; CONNECTIONS];
+    let mut ends = [0u16; COMPONENTS];
+    let mut nodes = [0u16; COMPONENTS];
     let mut driven = [false; COMPONENTS];
     let mut possible = [false; COMPONENTS];
-    let crossings = find_crossings(plot.forward.keys, plot.labels, &mut keys);
     driven.copy_from_slice(has_drive);
-    possible_regions(&plot.region_at[..n], inferred, has_drive, &mut possible);
+    possible_regions(plot.region_at, inferred, has_drive, &mut possible);
+    by_region(plot.labels, &mut ends, &mut nodes);
     carry_marks(
-        crossings,
+        plot.forward,
         plot.labels,
+        &nodes,
         &mut driven,
         &mut possible,
-        drive,
-        potential,
     );
+    spread(plot.labels, &driven, drive);
+    spread(plot.labels, &possible, potential);
 }

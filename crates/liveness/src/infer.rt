@@ -1,63 +1,67 @@
 // Which wires are inferred inputs: the regions fed from outside, then a test for each component.
-ghost use Rattle.std.specs.Prelude.{◌≡◌, ℕ, ◌≤◌, length, ℤ, List};
+ghost use Rattle.std.specs.Prelude.{◌≡◌, List, ◌≤◌, length, ℤ};
 ghost use Rattle.lists.specs.Limits.{component_limit};
 ghost use Rattle.lists.specs.Records.{component_count};
-ghost use Rattle.signals.specs.Regions.{fed_from_outside};
-ghost use Rattle.liveness.specs.Scene.{PreparedScene};
-ghost use Rattle.signals.specs.Flags.{Flags, Indices};
+ghost use Rattle.signals.specs.Signals.{signals};
+ghost use Rattle.signals.specs.Regions.{fed_from_outside, holds_drive, is_inferred};
+ghost use Rattle.signals.specs.Flags.{Flags};
 ghost use Rattle.signals.specs.Stages.{inferred_by};
 
+use super::plot::PreparedPlot;
 use lists::COMPONENTS;
-use lists::views::ComponentList;
 use signals::flags::gather;
 use signals::inferred::{flag_outside, is_inferred, passive_flags};
 use signals::network::Network;
 
-// Flags the inferred inputs, by list place, given which regions have a drive source and which are fed from outside.
-pub(crate) fn infer(
-    components: ComponentList,
-    members: &[usize],
-    region_at: &[usize],
-    has_drive: &[bool],
-    fed: &[bool],
-    network: &Network,
-    flags: &mut [bool],
-)
-    requires members_below { Indices (component_count components.numbers.now) (length network.now.labels.now) members.now }
-    requires regions_below { Indices (component_count components.numbers.now) (length has_drive.now) region_at.now }
-    requires fed_room { (length has_drive.now ≤ length fed.now) × (component_count components.numbers.now ≤ length flags.old) }
-    ensures { let t = network.now in Flags (component_count components.entry.numbers.now)
-        (inferred_by components.entry.numbers.now members.now region_at.now has_drive.now fed.now
-        t.forward.keys.now t.backward.keys.now t.labels.now)
-        flags.new }
+// Flags the wires, by list place, that are inferred inputs where these regions have a drive source and those are fed from outside.
+fn flag_quiet(plot: &PreparedPlot, has_drive: &[bool], fed: &[bool], flags: &mut [bool])
+    requires regions { (length has_drive.now ≡ component_limit) × (length fed.now ≡ component_limit) }
+    requires components { component_count plot.now.plot.components.now ≤ length flags.old }
+    ensures { let p = plot.now in let cs = p.plot.components.now in Flags (component_count cs)
+        (inferred_by cs p.members.now p.region_at.now has_drive.now fed.now (signals cs p.plot.ports.now) p.labels.now) flags.new }
 {
+    let components = plot.plot.component_list();
+    let network = Network {
+        forward: plot.forward,
+        backward: plot.backward,
+        labels: plot.labels,
+    };
     for p in 0..components.count() {
-        let region = region_at[p];
+        let region = usize::from(plot.region_at[p]);
         let quiet = !has_drive[region] & !fed[region];
-        flags[p] = is_inferred(components, p, quiet, network, members[p]);
+        flags[p] = is_inferred(
+            components,
+            p,
+            quiet,
+            &network,
+            usize::from(plot.members[p]),
+        );
     }
 }
 
 // Flags the regions that get a connection from another region's component, passive sources left uncounted.
-pub(crate) fn outside_regions(
-    components: ComponentList,
-    rules: u64,
-    forward: &[u64],
-    labels: &[usize],
-    members: &[usize],
-    fed: &mut [bool],
-)
-    requires by_index { (ps : List ℤ) × (backward region_of : List ℕ) ×
-        PreparedScene components.numbers.now ps forward.now backward labels.now members.now region_of }
-    requires fed_len { length fed.old ≡ component_limit }
-    ensures { (ps : List ℤ) (backward region_of : List ℕ) →
-        PreparedScene components.entry.numbers.now ps forward.now backward labels.now members.now region_of →
-        Flags component_limit (fed_from_outside rules components.entry.numbers.now ps) fed.new }
+fn outside_regions(plot: &PreparedPlot, fed: &mut [bool])
+    requires { length fed.old ≡ component_limit }
+    ensures { let p = plot.now.plot in Flags component_limit (fed_from_outside p.rules p.components.now p.ports.now) fed.new }
 {
-    let n = labels.len();
+    let n = plot.labels.len();
     let mut passive_at = [false; COMPONENTS];
-    let mut passive = [false; COMPONENTS];
-    passive_flags(components, rules, &mut passive_at);
-    gather(&members[..n], &passive_at, &mut passive[..n]);
-    flag_outside(forward, labels, &passive, fed);
+    let mut array = [false; COMPONENTS];
+    let passive = &mut array[..n];
+    passive_flags(plot.plot.component_list(), plot.plot.rules, &mut passive_at);
+    gather(plot.members, &passive_at, passive);
+    flag_outside(plot.forward, plot.labels, passive, fed);
+}
+
+// Flags the inferred inputs, by list place, given which regions hold a drive source.
+pub(crate) fn flag_inferred(plot: &PreparedPlot, has_drive: &[bool], inferred: &mut [bool])
+    requires regions { length has_drive.now ≡ component_limit }
+    requires components { component_count plot.now.plot.components.now ≤ length inferred.old }
+    ensures { let p = plot.now.plot in let cs = p.components.now in (fs : List ℤ) →
+        Flags component_limit (holds_drive cs p.ports.now fs) has_drive.now →
+        Flags (component_count cs) (is_inferred p.rules cs p.ports.now fs) inferred.new }
+{
+    let mut fed = [false; COMPONENTS];
+    outside_regions(plot, &mut fed);
+    flag_quiet(plot, has_drive, &fed, inferred);
 }

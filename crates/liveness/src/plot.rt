@@ -1,16 +1,19 @@
 // A plot that the checks accepted, and the same prepared: what the stages of an analysis read.
 ghost use Rattle.std.proofs.Props.{props};
-ghost use Rattle.std.specs.Prelude.{◌≡◌, List, ℕ};
+ghost use Rattle.std.specs.Prelude.{◌≡◌, ◌*◌, ◌≤◌, length};
+ghost use Rattle.lists.specs.Records.{component_count};
 ghost use Rattle.lists.specs.Ends.{sources_of, sinks_of};
 ghost use Rattle.regions.specs.Search.{Zeros};
 ghost use Rattle.signals.specs.Regions.{region_count};
-ghost use Rattle.liveness.specs.Scene.{Accepted, Prepared, Prepares, PreparedRoom};
+ghost use Rattle.liveness.specs.Scene.{Accepted, Prepared};
 
+use graph::Graph;
+use graph::walk::regions;
 use lists::ends::Ends;
 use lists::views::{ComponentList, PortList};
-use regions::{Graph, HINTED};
+use lists::{COMPONENTS, CONNECTIONS};
 use signals::flags::spread;
-use signals::stages::{build_tables, find_regions, place_members};
+use signals::stages::place_members;
 
 // The lists that the checks accepted, the rules by which they are marked, the table of the components' ids, and the ends of the port
 // connections as members.
@@ -25,37 +28,45 @@ pub struct Plot<'a> {
     pub ghost accepted: { Accepted components.now ports.now keys.now (sources_of ends.now) (sinks_of ends.now) } by { Prim.hlevel props },
 }
 
-// The graph of its signal edges, forward and backward, each member's region and how many regions there are, and each component's member and
+// The rows of its signal edges, forward and backward, each member's region and how many regions there are, and each component's member and
 // region.
 #[derive(Clone, Copy)]
 pub struct PreparedPlot<'a> {
     pub plot: Plot<'a>,
     pub forward: Graph<'a>,
     pub backward: Graph<'a>,
-    pub labels: &'a [usize],
+    pub labels: &'a [u16],
     pub count: usize,
-    pub members: &'a [usize],
-    pub region_at: &'a [usize],
-    pub ghost prepared: { Prepared plot.components.now plot.ports.now (sources_of plot.ends.now) (sinks_of plot.ends.now)
-        forward.keys.now backward.keys.now labels.now members.now region_at.now } by { Prim.hlevel props },
+    pub members: &'a [u16],
+    pub region_at: &'a [u16],
+    pub ghost prepared: { Prepared plot.components.now plot.ports.now forward.ends.now forward.next.now backward.ends.now backward.next.now
+        labels.now members.now region_at.now } by { Prim.hlevel props },
     pub ghost counted: { count ≡ region_count plot.components.now plot.ports.now } by { Prim.hlevel props },
 }
 
-// Hints of where the rows of each node end, forward and backward.
+// The arrays that a plot is prepared in, each as long as the most that it may hold.
 #[derive(Drop)]
-pub struct RowHints {
-    forward: [usize; HINTED],
-    backward: [usize; HINTED],
+pub struct Room {
+    ends: [u16; COMPONENTS],
+    next: [u16; CONNECTIONS],
+    back_ends: [u16; COMPONENTS],
+    back: [u16; CONNECTIONS],
+    labels: [u16; COMPONENTS],
+    members: [u16; COMPONENTS],
+    region_at: [u16; COMPONENTS],
 }
 
-impl RowHints {
+impl Room {
     // All zero.
-    pub fn new() -> RowHints
-        ensures { Zeros result.forward × Zeros result.backward }
-    {
-        RowHints {
-            forward: [0; HINTED],
-            backward: [0; HINTED],
+    pub fn new() -> Room {
+        Room {
+            ends: [0; COMPONENTS],
+            next: [0; CONNECTIONS],
+            back_ends: [0; COMPONENTS],
+            back: [0; CONNECTIONS],
+            labels: [0; COMPONENTS],
+            members: [0; COMPONENTS],
+            region_at: [0; COMPONENTS],
         }
     }
 }
@@ -78,73 +89,34 @@ impl<'a> Plot<'a> {
         }
     }
 
-    // Builds the graph, with hints of its rows, and finds the regions; answers how many there are. Leaves the stack zero.
-    pub fn prepare(
-        &self,
-        forward: &mut [u64],
-        backward: &mut [u64],
-        labels: &mut [usize],
-        members: &mut [usize],
-        region_at: &mut [usize],
-        rows: &mut RowHints,
-        stack: &mut [usize],
-    ) -> usize
-        requires { let p = self.now in
-            PreparedRoom p.components.now p.ports.now forward.old backward.old labels.old members.old region_at.old stack.old }
-        ensures { let p = self.now in Prepares p.components.now p.ports.now (sources_of p.ends.now) (sinks_of p.ends.now)
-            forward.new backward.new labels.new members.new region_at.new stack.new result }
-    {
-        stack.fill(0);
-        build_tables(
-            self.port_list(),
-            self.ends,
-            forward,
-            backward,
-            &mut rows.forward,
-            &mut rows.backward,
-        );
-        let onward = Graph {
-            keys: forward,
-            rows: &rows.forward,
-        };
-        let back = Graph {
-            keys: backward,
-            rows: &rows.backward,
-        };
-        let count = find_regions(onward, back, labels, stack);
-        place_members(self.keys, members);
-        spread(&members[..labels.len()], labels, region_at);
-        count
-    }
-
-    // What `prepare` made of the plot, to be read.
-    pub fn prepared(
-        self,
-        forward: &'a [u64],
-        backward: &'a [u64],
-        labels: &'a [usize],
-        members: &'a [usize],
-        region_at: &'a [usize],
-        rows: &'a RowHints,
-        count: usize,
-    ) -> PreparedPlot<'a>
-        requires { let p = self in (stack : List ℕ) × Prepares p.components.now p.ports.now (sources_of p.ends.now) (sinks_of p.ends.now)
-            forward.now backward.now labels.now members.now region_at.now stack count }
+    // Builds the rows of the signal edges, finds the regions, and gives each component its member and its region; what was made is to be
+    // read in the room. Leaves the stack zero.
+    pub fn prepare(self, room: &'a mut Room, stack: &mut [usize]) -> PreparedPlot<'a>
+        requires { 2 * component_count self.components.now ≤ length stack.old }
         ensures plot { result.plot ≡ self.entry }
-        ensures lent { (result.forward.keys.now ≡ forward.now) × (result.backward.keys.now ≡ backward.now)
-            × (result.labels.now ≡ labels.now) }
-        ensures placed { (result.members.now ≡ members.now) × (result.region_at.now ≡ region_at.now) }
+        ensures stack { Zeros stack.new }
     {
+        let n = self.keys.len();
+        let Room { ends, next, back_ends, back, labels, members, region_at } = room;
+        let ends = &mut ends[..n];
+        let back_ends = &mut back_ends[..n];
+        let labels = &mut labels[..n];
+        let members = &mut members[..n];
+        let region_at = &mut region_at[..n];
+        stack.fill(0);
+        self.rows(ends, next, back_ends, back);
+        let forward = Graph { ends, next };
+        let backward = Graph {
+            ends: back_ends,
+            next: back,
+        };
+        let count = regions(forward, backward, labels, stack);
+        place_members(self.keys, members);
+        spread(members, labels, region_at);
         PreparedPlot {
             plot: self,
-            forward: Graph {
-                keys: forward,
-                rows: &rows.forward,
-            },
-            backward: Graph {
-                keys: backward,
-                rows: &rows.backward,
-            },
+            forward,
+            backward,
             labels,
             count,
             members,

@@ -6,6 +6,8 @@
 --     Staged                            the stages give `labels` and `is_cyclic`
 --     Within                            the signals of a scene stay within its members
 --     Tested                            tests of the edges of a table
+--     Rowed                             the rows of a graph with labels
+--     Edged                             flags of the regions that edges lead into
 --     Crossed                           the pairs of regions that signals lead from and to
 pub mod Tabulated
 pub mod Ends
@@ -18,4 +20,6 @@ pub mod Lent
 pub mod Staged
 pub mod Within
 pub mod Tested
+pub mod Rowed
+pub mod Edged
 pub mod Crossed

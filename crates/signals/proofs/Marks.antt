@@ -1,5 +1,5 @@
 -- Arrays of flags and counts, a place at a time.
---     set_marked                                       a flag that is set
+--     set_marked, or_marked                            a flag that is set; or that is where a value holds
 --     flags_none, flags_more                           `Flags`: one flag written more
 --     by_none, by_or, by_more                          `GatheredBy`: one test more
 --     gathered_none, gathered_more                      `Gathered`: one test more
@@ -48,7 +48,7 @@ flags_more {P} {out} p f h v e = record {
 -- ---- flags by index
 
 -- a flag that is set where the value holds, without a branch on it
-or_marked : (l : List Bool) (i j : ℕ) (v : Bool) → i < length l → marked (set l i (marked l i || v)) j ≡ (marked l j || (v && eqb i j))
+pub or_marked : (l : List Bool) (i j : ℕ) (v : Bool) → i < length l → marked (set l i (marked l i || v)) j ≡ (marked l j || (v && eqb i j))
 or_marked l i j true h = rw (← or_true (marked l i)) (set_marked l i j h)
 or_marked l i j false h = rw (← or_false (marked l i), set-get_or l i false) (or_false (marked l j))
 

@@ -2,30 +2,28 @@
 --     seen_cong                              what was seen by one test was seen by another that agrees with it
 --     seen_more                              a second neighbour
 --     few_none, few_one, few_many            at most one was seen exactly if the test holds at most once
---     row_none, row_key, row_other, row_all  the keys of a row: none yet, one more, all
+--     row_none, row_near, row_other, row_all the neighbours of a row: none yet, one more, all
 --     both_rows                              the neighbours of two rows
 -- Assumes nothing.
 use mathlib.Core.Path.{◌≡◌, refl, sym, ap, ◌∙◌}
 use mathlib.Core.Bool.{Bool, true, false, ◌&&◌, ◌||◌, or-false, or_assoc, and-false}
 use mathlib.Core.List.{List, [], ◌∷◌}
 use mathlib.Core.Logic.{◌⊎◌, ⊎_elim, inl, inr}
-use Prim.Native.Nat.{ℕ, zero, suc, ◌+◌, ◌*◌, ◌/◌, ◌%◌, ◌≤◌, ◌<◌}
+use Prim.Native.Nat.{ℕ, zero, suc, ◌+◌, ◌≤◌, ◌<◌}
 use native.Mathlib.Numerals.{add-one}
 use native.Mathlib.Omega.{arith}
 use lib.Dec.{eqb, leb}
 use lib.ListN.{length, get_or, take}
+use lib.Seq.{take_all}
 use borrow.Author.Tests.{eq-eqb, ne_eqb, eqb-true, le-leb, lt-leb}
 use Rattle.sets.specs.Members.{count_below}
 use Rattle.sets.proofs.Counts.{count_none}
-use Rattle.tables.specs.Order.{LowerBound, member}
+use Rattle.tables.specs.Order.{member}
 use Rattle.tables.specs.Laws.{same?, order?}
-use Rattle.tables.specs.Pairs.{span, pair}
 use Rattle.lists.proofs.Search.{never}
 use Rattle.lists.proofs.Members.{count_less, count_once}
-use Rattle.regions.specs.Keys.{edges}
-use Rattle.regions.proofs.Laws.Keys.{edges_pair}
 use Rattle.regions.proofs.Laws.Lists.{or_right}
-use Rattle.signals.specs.Seen.{SeenOf, Rows}
+use Rattle.signals.specs.Seen.{SeenOf}
 use Rattle.signals.specs.declared.inferred.Seen.{Seen}
 use Rattle.signals.specs.declared.inferred.Seen.TheVariants.{None, One, Many}
 
@@ -37,6 +35,9 @@ or_left b e = ap (λ (t : Bool). t || b) e
 pub either : (a b : Bool) → (a || b) ≡ true → (a ≡ true) ⊎ (b ≡ true)
 either true b e = inl refl
 either false b e = inr e
+
+pub eqb_turn : (a b : ℕ) → eqb a b ≡ eqb b a
+eqb_turn a b = ⊎_elim (λ e. eq-eqb a b e ∙ sym (eq-eqb b a (sym e))) (λ ne. ne_eqb a b ne ∙ sym (ne_eqb b a (λ e. ne (sym e)))) (same? a b)
 
 -- ---- what was seen
 
@@ -75,39 +76,20 @@ module _ (n : ℕ) (Q : ℕ → Bool) where
       let other = count_less (eqb i) Q n (λ k h e. ap Q (sym (eqb-true i k e)) ∙ p) j lt (ne_eqb i j (λ e. omega arith)) q in
       sym (lt-leb (count_below Q n) 1 (omega arith))
 
--- ---- the keys passed so far
+-- ---- the neighbours of a row passed so far
 
-member_none : (v at : ℕ) (keys : List ℕ) → ((k : ℕ) → k < at → k < length keys → get_or keys k 0 ≡ v → ⊥) → member v (take at keys) ≡ false
-unfolding member
-member_none v zero keys h = refl
-member_none v (suc at) [] h = refl
-member_none v (suc at) (key ∷ keys) h =
-    rw (ne_eqb v key (λ e. h 0 (omega arith) (omega arith) (sym e))) (member_none v at keys (λ k l m. h (suc k) (omega arith) (omega arith)))
+-- j was seen before, or has the label of m and is among the neighbours passed so far
+abbrev pub passed : List ℕ → List ℕ → ℕ → ℕ → (ℕ → Bool) → ℕ → Bool
+passed row labels m at test j = test j || (eqb (get_or labels j 0) (get_or labels m 0) && member j (take at row))
 
-member_one : (v at : ℕ) (keys : List ℕ) → at < length keys → member v (take (suc at) keys) ≡ (member v (take at keys) || eqb v (get_or keys at 0))
+pub member_one : (v at : ℕ) (row : List ℕ) → at < length row → member v (take (suc at) row) ≡ (member v (take at row) || eqb v (get_or row at 0))
 unfolding member
 member_one v at [] h = absurd (omega arith)
-member_one v zero (key ∷ keys) h = or-false (eqb v key)
-member_one v (suc at) (key ∷ keys) h =
-    ap (λ (t : Bool). eqb v key || t) (member_one v at keys (omega arith)) ∙ sym (or_assoc (eqb v key) (member v (take at keys)) (eqb v (get_or keys at 0)))
+member_one v zero (x ∷ row) h = or-false (eqb v x)
+member_one v (suc at) (x ∷ row) h =
+    ap (λ (t : Bool). eqb v x || t) (member_one v at row (omega arith)) ∙ sym (or_assoc (eqb v x) (member v (take at row)) (eqb v (get_or row at 0)))
 
-member_all : (v at : ℕ) (keys : List ℕ) → ((k : ℕ) → at ≤ k → k < length keys → get_or keys k 0 ≡ v → ⊥) → member v (take at keys) ≡ member v keys
-unfolding member
-member_all v zero [] h = refl
-member_all v zero (key ∷ keys) h =
-    sym (ap (λ (t : Bool). t || member v keys) (ne_eqb v key (λ e. h 0 (omega arith) (omega arith) (sym e)))
-    ∙ sym (member_all v zero keys (λ k l m. h (suc k) (omega arith) (omega arith))))
-member_all v (suc at) [] h = refl
-member_all v (suc at) (key ∷ keys) h =
-    ap (λ (t : Bool). eqb v key || t) (member_all v at keys (λ k l m. h (suc k) (omega arith) (omega arith)))
-
--- ---- a row of keys
-
--- j was seen before, or is of m's region and among the keys passed so far
-abbrev pub passed : List ℕ → List ℕ → ℕ → ℕ → (ℕ → Bool) → ℕ → Bool
-passed keys labels m at test j = test j || (eqb (get_or labels j 0) (get_or labels m 0) && member (pair m j) (take at keys))
-
--- a key in hand, whose neighbour is of the region or not
+-- a neighbour in hand, which is of the region or not
 in-region : (t l s e : Bool) → (e ≡ true → l ≡ true) → ((t || (l && s)) || e) ≡ (t || (l && (s || e)))
 in-region true l s e h = refl
 in-region false true s e h = refl
@@ -120,69 +102,51 @@ out_of_region false true s true h = never (sym (h refl))
 out_of_region false true s false h = sym (or-false s)
 out_of_region false false s e h = refl
 
-module _ (keys labels : List ℕ) (m : ℕ) (rows : Rows (length labels) keys) (lt : m < length labels) where
+module _ (row labels : List ℕ) (m : ℕ) where
   abbrev n : ℕ
   n = length labels
 
   abbrev same : ℕ → Bool
   same j = eqb (get_or labels j 0) (get_or labels m 0)
 
-  -- no key of m's is below the first
-  pub row_none : {at : ℕ} → LowerBound keys (m * span) at → (test : ℕ → Bool) (s : Seen) → SeenOf n test s → SeenOf n (passed keys labels m at test) s
-  row_none {at} low test =
-      seen_cong n test (passed keys labels m at test)
+  none_yet : (j : ℕ) → member j (take 0 row) ≡ false
+  unfolding member
+  none_yet j = refl
+
+  pub row_none : (test : ℕ → Bool) (s : Seen) → SeenOf n test s → SeenOf n (passed row labels m 0 test) s
+  row_none test =
+      seen_cong n test (passed row labels m 0 test)
       (λ j h.
-      let gone = member_none (pair m j) at keys (λ k l e q. omega (arith, low.before rows.rising k l)) in
-      sym (ap (λ (t : Bool). test j || (same j && t)) gone ∙ ap (λ (t : Bool). test j || t) (and-false (same j)) ∙ or-false (test j)))
+      sym (ap (λ (t : Bool). test j || (same j && t)) (none_yet j) ∙ ap (λ (t : Bool). test j || t) (and-false (same j)) ∙ or-false (test j)))
 
-  module _ (at : ℕ) (inside : at < length keys) where
-    abbrev key : ℕ
-    key = get_or keys at 0
+  module _ (at : ℕ) (inside : at < length row) where
+    abbrev here : ℕ
+    here = get_or row at 0
 
-    module _ (here : key / span ≡ m) where
-      pub row_below : key % span < n
-      row_below = rows.within at inside (omega arith)
+    one_more : (j : ℕ) → member j (take (at + 1) row) ≡ (member j (take at row) || eqb here j)
+    one_more j = rw add-one (member_one j at row inside ∙ ap (λ (t : Bool). member j (take at row) || t) (eqb_turn j here))
 
-      key_is : (j : ℕ) → j < n → eqb (pair m j) key ≡ eqb (key % span) j
-      key_is j h =
-          let fits = rows.nodes in
-          ⊎_elim
-          (λ (e : key % span ≡ j). eq-eqb (pair m j) key (omega arith) ∙ sym (eq-eqb (key % span) j e))
-          (λ (ne : key % span ≡ j → ⊥). ne_eqb (pair m j) key (λ e. ne (omega arith)) ∙ sym (ne_eqb (key % span) j ne))
-          (same? (key % span) j)
+    pub row_near : same here ≡ true → (test : ℕ → Bool) (s : Seen)
+        → SeenOf n (λ i. passed row labels m at test i || eqb here i) s → SeenOf n (passed row labels m (at + 1) test) s
+    row_near is test =
+        seen_cong n (λ i. passed row labels m at test i || eqb here i) (passed row labels m (at + 1) test)
+        (λ j h.
+        in-region (test j) (same j) (member j (take at row)) (eqb here j) (λ e. ap same (sym (eqb-true here j e)) ∙ is)
+        ∙ ap (λ (t : Bool). test j || (same j && t)) (sym (one_more j)))
 
-      one_more : (j : ℕ) → j < n → member (pair m j) (take (at + 1) keys) ≡ (member (pair m j) (take at keys) || eqb (key % span) j)
-      one_more j h = rw add-one (member_one (pair m j) at keys inside ∙ ap (λ (t : Bool). member (pair m j) (take at keys) || t) (key_is j h))
+    pub row_other : same here ≡ false → (test : ℕ → Bool) (s : Seen)
+        → SeenOf n (passed row labels m at test) s → SeenOf n (passed row labels m (at + 1) test) s
+    row_other is test =
+        seen_cong n (passed row labels m at test) (passed row labels m (at + 1) test)
+        (λ j h.
+        out_of_region (test j) (same j) (member j (take at row)) (eqb here j) (λ e. ap same (sym (eqb-true here j e)) ∙ is)
+        ∙ ap (λ (t : Bool). test j || (same j && t)) (sym (one_more j)))
 
-      pub row_key : same (key % span) ≡ true → (test : ℕ → Bool) (s : Seen)
-          → SeenOf n (λ i. passed keys labels m at test i || eqb (key % span) i) s → SeenOf n (passed keys labels m (at + 1) test) s
-      row_key is test =
-          seen_cong n (λ i. passed keys labels m at test i || eqb (key % span) i) (passed keys labels m (at + 1) test)
-          (λ j h.
-          in-region (test j) (same j) (member (pair m j) (take at keys)) (eqb (key % span) j) (λ e. ap same (sym (eqb-true (key % span) j e)) ∙ is)
-          ∙ ap (λ (t : Bool). test j || (same j && t)) (sym (one_more j h)))
-
-      pub row_other : same (key % span) ≡ false → (test : ℕ → Bool) (s : Seen)
-          → SeenOf n (passed keys labels m at test) s → SeenOf n (passed keys labels m (at + 1) test) s
-      row_other is test =
-          seen_cong n (passed keys labels m at test) (passed keys labels m (at + 1) test)
-          (λ j h.
-          out_of_region (test j) (same j) (member (pair m j) (take at keys)) (eqb (key % span) j) (λ e. ap same (sym (eqb-true (key % span) j e)) ∙ is)
-          ∙ ap (λ (t : Bool). test j || (same j && t)) (sym (one_more j h)))
-
-  -- the keys of m end before the place
-  pub row_all : {first : ℕ} → LowerBound keys (m * span) first → (at : ℕ) → first ≤ at → (at < length keys → get_or keys at 0 / span ≡ m → ⊥)
-      → (test : ℕ → Bool) (s : Seen) → SeenOf n (passed keys labels m at test) s → SeenOf n (λ j. test j || (same j && edges n keys m j)) s
-  row_all {first} low at le past test =
-      seen_cong n (passed keys labels m at test) (λ j. test j || (same j && edges n keys m j))
-      (λ j h.
-      ap (λ (t : Bool). test j || (same j && t))
-      (member_all (pair m j) at keys (λ k l e q.
-      let fits = rows.nodes in
-      let up = rows.rising.at at k l e in
-      let from = low.from rows.rising at le (omega arith) in
-      past (omega arith) (omega arith))
-      ∙ sym (edges_pair n keys m j lt h)))
+  pub row_all : (at : ℕ) → at ≡ length row
+      → (test : ℕ → Bool) (s : Seen) → SeenOf n (passed row labels m at test) s → SeenOf n (λ j. test j || (same j && member j row)) s
+  row_all at all test =
+      seen_cong n (passed row labels m at test) (λ j. test j || (same j && member j row))
+      (λ j h. ap (λ (l : List ℕ). test j || (same j && member j l)) (take_all at row (omega arith)))
 
 -- ---- two rows
 
@@ -190,8 +154,8 @@ either_row : (l f b : Bool) → ((l && f) || (l && b)) ≡ (l && (f || b))
 either_row true f b = refl
 either_row false f b = refl
 
-pub both_rows : (n : ℕ) (same forward backward : ℕ → Bool) (s : Seen)
-    → SeenOf n (λ j. (false || (same j && forward j)) || (same j && backward j)) s → SeenOf n (λ j. same j && (forward j || backward j)) s
-both_rows n same forward backward =
-    seen_cong n (λ j. (same j && forward j) || (same j && backward j)) (λ j. same j && (forward j || backward j))
-    (λ j h. either_row (same j) (forward j) (backward j))
+pub both_rows : (n : ℕ) (same inward outward forward backward : ℕ → Bool) → ((j : ℕ) → inward j ≡ forward j) → ((j : ℕ) → outward j ≡ backward j) → (s : Seen)
+    → SeenOf n (λ j. (false || (same j && inward j)) || (same j && outward j)) s → SeenOf n (λ j. same j && (forward j || backward j)) s
+both_rows n same inward outward forward backward f b =
+    seen_cong n (λ j. (same j && inward j) || (same j && outward j)) (λ j. same j && (forward j || backward j))
+    (λ j h. either_row (same j) (inward j) (outward j) ∙ ap (λ (t : Bool). same j && (t || outward j)) (f j) ∙ ap (λ (t : Bool). same j && (forward j || t)) (b j))

@@ -1,12 +1,11 @@
 -- What the stages leave in their arrays is what the definitions say.
---     regions_are, labels_long         the labels and the number of the regions
---     regions_few                      there are no more regions than nodes
 --     sink_ends                        the settled sinks of signal connections are nodes
 --     cyclic_is                        the cyclic regions
 --     members_below, labels_placed     members and labels by list place
 --     marks_are                        the gathered marks
 -- Assumes nothing.
-use mathlib.Core.Path.{◌≡◌, sym, ap, ◌∙◌}
+use Rattle.std.specs.Prelude.{None}
+use mathlib.Core.Path.{◌≡◌, refl, sym, ap, ◌∙◌}
 use mathlib.Core.Bool.{Bool, false, ◌&&◌, ◌||◌}
 use mathlib.Core.List.{List}
 use Prim.Native.Nat.{ℕ, ◌≤◌}
@@ -15,29 +14,28 @@ use lib.Dec.{eqb, leb}
 use lib.ListN.{length, get_or}
 use lib.Seq.{ext_get_or}
 use lib.IntN.{ℤ}
+use borrow.Author.Tests.{eqb-true, eq-eqb}
 use Rattle.sets.specs.Members.{count_below}
 use Rattle.lists.specs.Limits.{component_limit}
 use Rattle.lists.specs.Records.{component_count, port_count}
 use Rattle.lists.specs.First.{is_found, some, tabulate}
-use Rattle.lists.specs.Ids.{member_of}
+use Rattle.lists.specs.Ids.{member_of, first_end_missing}
 use Rattle.lists.specs.Ends.{Settled}
+use Rattle.lists.proofs.Search.{both}
+use Rattle.lists.proofs.Some.{some_at, some_found, and_true}
 use Rattle.lists.proofs.Members.{member_below}
-use Rattle.regions.specs.Graph.{Edges, at}
-use Rattle.regions.specs.Keys.{edges}
-use Rattle.regions.specs.Kosaraju as Kosaraju
-use Rattle.regions.specs.Search.{Regions}
-use Rattle.regions.proofs.Theorems.{keys_regions}
-use Rattle.signals.specs.Signals.{signals}
-use Rattle.signals.specs.Regions.{labels, region_count, region_of_place, is_cyclic}
+use Rattle.regions.specs.Graph.{at}
+use Rattle.signals.specs.Signals.{is_signal, source_member, sink_member, signals}
+use Rattle.signals.specs.Regions.{labels, region_of_place, is_cyclic}
 use Rattle.signals.specs.Drive.{members_where}
 use Rattle.signals.specs.Flags.{Flags, Numbers, Gathered, Indices}
-use Rattle.signals.specs.Keys.{KeysOf}
-use Rattle.signals.specs.Seen.{SignalEnds, of_edge}
+use Rattle.signals.specs.Seen.{SignalEnds}
 use Rattle.signals.specs.Stages.{cyclic_at}
 use Rattle.signals.proofs.Tabulated.{first_cong, tabulated_length, tabulated_at}
 use Rattle.signals.proofs.Ends.{EndsWithin}
 use Rattle.signals.proofs.Graph.{sink_at}
-use Rattle.signals.proofs.Tested.{signal_tests}
+use Rattle.signals.proofs.Tested.{same_truth}
+use Rattle.signals.proofs.Within.{edge_tests, signals_within, labels_count}
 
 -- ---- the sinks of signal connections
 
@@ -46,32 +44,35 @@ module _ {cs ps : List ℤ} {sources sinks : List ℕ} (few : component_count cs
   pub sink_ends : port_count ps ≤ length sinks → SignalEnds (component_count cs) ps sinks
   sink_ends long = record { long = long; below = λ k h e. rw (sink_at few s t k h) (ends k h e).1 }
 
--- ---- regions
+-- ---- cyclic regions
 
-module _ (cs ps : List ℤ) (keys : List ℕ) (graph : edges (component_count cs) keys ≡ signals cs ps) where
-  pub regions_are : {numbers : List ℕ} {count : ℕ} {stack : List ℕ} → Regions (component_count cs) (edges (component_count cs) keys) numbers count stack
-      → (numbers ≡ labels cs ps) × (count ≡ region_count cs ps)
-  regions_are r =
-      let n = component_count cs in
-      (r.labels_are ∙ ap (λ (g : Edges). Kosaraju.region_of n g) graph, r.count_is ∙ ap (λ (g : Edges). Kosaraju.count n g) graph)
+module _ (cs ps : List ℤ) (ends : first_end_missing cs ps ≡ None) where
+  -- an edge from a member of region r to itself is a connection from its member to itself
+  selves : (r : ℕ) → some (λ a. signals cs ps a a && eqb (at (labels cs ps) a) r) (component_count cs)
+      ≡ some (λ k. is_signal ps k && (eqb (source_member cs ps k) (sink_member cs ps k) && eqb (at (labels cs ps) (sink_member cs ps k)) r)) (port_count ps)
+  selves r =
+      let l = labels cs ps in
+      let itself : ℕ → ℕ → Bool = λ a b. eqb a b && eqb (at l b) r in
+      let edge : ℕ → Bool = λ a. signals cs ps a a && eqb (at l a) r in
+      let joined : ℕ → Bool = λ k. is_signal ps k && itself (source_member cs ps k) (sink_member cs ps k) in
+      same_truth (some edge (component_count cs)) (some joined (port_count ps))
+      (λ e.
+      let (a, h, t) = some_found edge (component_count cs) e in
+      let (s, i) = both (signals cs ps a a) (eqb (at l a) r) t in
+      (edge_tests cs ps itself).0 (a, a, s, and_true (eqb a a) (eqb (at l a) r) (eq-eqb a a refl) i))
+      (λ e.
+      let (a, b, s, t) = (edge_tests cs ps itself).1 e in
+      let (same, i) = both (eqb a b) (eqb (at l b) r) t in
+      let w = signals_within cs ps ends a b s in
+      some_at edge (component_count cs) b w.1
+      (and_true (signals cs ps b b) (eqb (at l b) r) (ap (λ (k : ℕ). signals cs ps k b) (sym (eqb-true a b same)) ∙ s) i))
 
-  pub labels_long : length (labels cs ps) ≡ component_count cs
-  labels_long =
-      let n = component_count cs in
-      ap (λ (g : Edges). length (Kosaraju.region_of n g)) (sym graph) ∙ (keys_regions n keys).long
-
-  pub regions_few : region_count cs ps ≤ component_count cs
-  regions_few = let n = component_count cs in omega (arith, (keys_regions n keys).few, ap (λ (g : Edges). Kosaraju.count n g) graph)
-
-  module _ {sources sinks : List ℕ} (few : component_count cs ≤ component_limit) (s : Settled cs ps 0 sources) (t : Settled cs ps 2 sinks)
-      (ends : EndsWithin cs ps) (table : KeysOf ps sources sinks component_limit keys) where
-    pub cyclic_is : (r : ℕ) → cyclic_at keys (labels cs ps) r ≡ is_cyclic cs ps r
-    unfolding is_cyclic
-    cyclic_is r =
-        let l = labels cs ps in
-        let itself : ℕ → ℕ → Bool = λ a b. eqb a b && eqb (at l b) r in
-        ap (λ (n : ℕ). leb 2 (count_below (λ m. eqb (at l m) r) n) || some (λ i. of_edge n itself (get_or keys i 0)) (length keys)) labels_long
-        ∙ ap (λ (b : Bool). leb 2 (count_below (λ m. eqb (at l m) r) (component_count cs)) || b) (signal_tests few s t ends table itself)
+  pub cyclic_is : (r : ℕ) → cyclic_at (signals cs ps) (labels cs ps) r ≡ is_cyclic cs ps r
+  unfolding is_cyclic
+  cyclic_is r =
+      let l = labels cs ps in
+      ap (λ (n : ℕ). leb 2 (count_below (λ m. eqb (at l m) r) n) || some (λ a. signals cs ps a a && eqb (at l a) r) n) (labels_count cs ps ends)
+      ∙ ap (λ (b : Bool). leb 2 (count_below (λ m. eqb (at l m) r) (component_count cs)) || b) (selves r)
 
 -- ---- by list place
 

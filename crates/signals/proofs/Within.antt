@@ -1,5 +1,6 @@
 -- The signals of an accepted scene lead from member to member, so the laws of the regions hold of them.
---     signal_at                           an edge is a signal connection
+--     signal_at, at_signal                an edge is a signal connection
+--     edge_tests                          an edge passes a test where a connection does
 --     signals_within                      the ends of a signal are members
 --     scene_regions                       the laws of its regions
 --     labels_count, label_under           a label for each member, below their number
@@ -7,16 +8,18 @@
 --     places_under                        the regions of the components, by list place
 -- Assumes nothing.
 use Rattle.std.specs.Prelude.{None}
-use mathlib.Core.Path.{◌≡◌}
-use mathlib.Core.Bool.{true, ◌&&◌}
+use mathlib.Core.Path.{◌≡◌, refl, ap, ◌∙◌}
+use mathlib.Core.Bool.{Bool, true, ◌&&◌}
 use mathlib.Core.List.{List}
+use mathlib.Core.Logic.{◌↔◌}
 use Prim.Native.Nat.{ℕ, ◌≤◌, ◌<◌}
 use native.Mathlib.Omega.{arith}
 use lib.Dec.{eqb}
 use lib.ListN.{length}
 use lib.IntN.{ℤ}
-use borrow.Author.Tests.{eqb-true}
+use borrow.Author.Tests.{eqb-true, eq-eqb}
 use Rattle.lists.specs.Records.{component_count, port_count}
+use Rattle.lists.specs.First.{some}
 use Rattle.lists.specs.Ids.{first_end_missing}
 use Rattle.lists.proofs.Search.{both}
 use Rattle.lists.proofs.Members.{member_below}
@@ -27,7 +30,7 @@ use Rattle.signals.specs.Signals.{is_signal, source_member, sink_member, signals
 use Rattle.signals.specs.Regions.{labels, region_of_place}
 use Rattle.signals.specs.Flags.{Numbers, Indices}
 use Rattle.signals.proofs.Ends.{ends_within}
-use Rattle.lists.proofs.Some.{some_found}
+use Rattle.lists.proofs.Some.{some_at, some_found, and_true}
 
 -- ---- an edge is a signal connection
 
@@ -40,6 +43,26 @@ module _ (cs ps : List ℤ) where
       let e = both (is_signal ps k) (eqb (source_member cs ps k) a && eqb (sink_member cs ps k) b) t in
       let g = both (eqb (source_member cs ps k) a) (eqb (sink_member cs ps k) b) e.1 in
       (k, h, e.0, eqb-true (source_member cs ps k) a g.0, eqb-true (sink_member cs ps k) b g.1)
+
+  pub at_signal : {a b : ℕ} (k : ℕ) → k < port_count ps → is_signal ps k ≡ true → source_member cs ps k ≡ a → sink_member cs ps k ≡ b → signals cs ps a b ≡ true
+  unfolding signals
+  at_signal {a} {b} k h s p q =
+      some_at (λ j. is_signal ps j && (eqb (source_member cs ps j) a && eqb (sink_member cs ps j) b)) (port_count ps) k h
+      (and_true (is_signal ps k) _ s (and_true (eqb (source_member cs ps k) a) _ (eq-eqb (source_member cs ps k) a p) (eq-eqb (sink_member cs ps k) b q)))
+
+  -- an edge passes a test exactly if a signal connection does
+  pub edge_tests : (test : ℕ → ℕ → Bool)
+      → ((a b : ℕ) × (signals cs ps a b ≡ true) × (test a b ≡ true)) ↔ (some (λ k. is_signal ps k && test (source_member cs ps k) (sink_member cs ps k)) (port_count ps) ≡ true)
+  edge_tests test =
+      let tested : ℕ → Bool = λ k. is_signal ps k && test (source_member cs ps k) (sink_member cs ps k) in (
+        λ (a, b, e, t).
+            let (k, h, s, p, q) = signal_at a b e in
+            some_at tested (port_count ps) k h (and_true (is_signal ps k) _ s (ap (λ (i : ℕ). test i (sink_member cs ps k)) p ∙ ap (test a) q ∙ t)),
+        λ e.
+            let (k, h, w) = some_found tested (port_count ps) e in
+            let (s, t) = both (is_signal ps k) (test (source_member cs ps k) (sink_member cs ps k)) w in
+            (source_member cs ps k, sink_member cs ps k, at_signal k h s refl refl, t),
+      )
 
 module _ (cs ps : List ℤ) (ends : first_end_missing cs ps ≡ None) where
   pub signals_within : Within (component_count cs) (signals cs ps)

@@ -1,13 +1,12 @@
--- What the search for inferred inputs keeps: the neighbours seen so far; and tests of the edges of a table.
+-- What the search for inferred inputs keeps: the neighbours seen so far; and flags of the regions that edges lead into.
 -- Assumes nothing: these are definitions.
-use Rattle.std.specs.Prelude.{ℕ, ◌/◌, ◌%◌, ◌≤◌, ◌<◌, ◌≡◌, Bool, true, false, not, ◌&&◌, ◌||◌, List, eqb, ltb, leb, length, get_or, ℤ}
+use Rattle.std.specs.Prelude.{ℕ, ◌/◌, ◌%◌, ◌≤◌, ◌<◌, ◌≡◌, Bool, true, false, ◌&&◌, ◌||◌, List, ◌↔◌, eqb, ltb, leb, length, get_or, ℤ}
 use Rattle.sets.specs.Members.{count_below}
 use Rattle.tables.specs.Order.{Ascending}
 use Rattle.tables.specs.Pairs.{span}
 use Rattle.lists.specs.Records.{port_count}
 use Rattle.lists.specs.First.{some}
-use Rattle.regions.specs.Graph.{marked}
-use Rattle.regions.specs.Keys.{edges}
+use Rattle.regions.specs.Graph.{Edges, marked}
 use Rattle.signals.specs.Signals.{is_signal}
 use Rattle.signals.specs.declared.inferred.Seen.{Seen}
 use Rattle.signals.specs.declared.inferred.Seen.TheVariants.{None, One, Many}
@@ -36,26 +35,25 @@ pub record EdgeKeys (n : ℕ) (keys front : List ℕ) : Type 0 where
 abbrev pub of_edge : ℕ → (ℕ → ℕ → Bool) → ℕ → Bool
 of_edge n test key = ltb (key / span) n && test (key / span) (key % span)
 
--- an edge whose two nodes pass the test leads into region r
-abbrev pub some_edge_into : List ℕ → List ℕ → (ℕ → ℕ → Bool) → ℕ → Bool
-some_edge_into forward labels passes r =
-    some (λ i. of_edge (length labels) (λ a b. passes a b && eqb (get_or labels b 0) r) (get_or forward i 0)) (length forward)
-
--- two nodes have the same label, and an edge leads from the one to the other in a table forward or in one backward
-abbrev pub near : List ℕ → List ℕ → List ℕ → ℕ → ℕ → Bool
-near forward backward labels m = λ j.
-    eqb (get_or labels j 0) (get_or labels m 0) && (edges (length labels) forward m j || edges (length labels) backward m j)
+-- two nodes have the same label, and an edge leads from the one to the other, either way
+abbrev pub near : Edges → List ℕ → ℕ → ℕ → Bool
+near edge labels m = λ j. eqb (get_or labels j 0) (get_or labels m 0) && (edge m j || edge j m)
 
 -- at most one is near to m
-abbrev pub few_near : List ℕ → List ℕ → List ℕ → ℕ → Bool
-few_near forward backward labels m = leb (count_below (near forward backward labels m) (length labels)) 1
+abbrev pub few_near : Edges → List ℕ → ℕ → Bool
+few_near edge labels m = leb (count_below (near edge labels m) (length labels)) 1
+
+-- what flags become by the nodes in a row that pass the test: the flag of the label of each is set
+pub record Joined (row labels : List ℕ) (test : ℕ → Bool) (before after : List Bool) : Type 0 where
+  pub at : (r : ℕ) → r < length after
+      → marked after r ≡ (marked before r || some (λ p. test (get_or row p 0) && eqb (get_or labels (get_or row p 0) 0) r) (length row))
+
+-- the flags of those labels are set whose nodes an edge leads into that passes the test, and no other
+pub record Led (edge : Edges) (test : ℕ → ℕ → Bool) (labels : List ℕ) (flags : List Bool) : Type 0 where
+  pub exactly : (r : ℕ) → r < length flags
+      → (marked flags r ≡ true) ↔ ((a b : ℕ) × (edge a b ≡ true) × (test a b ≡ true) × (get_or labels b 0 ≡ r))
 
 -- the ends of a signal connection are nodes below n
 pub record SignalEnds (n : ℕ) (ps : List ℤ) (members : List ℕ) : Type 0 where
   pub long : port_count ps ≤ length members
   pub below : (k : ℕ) → k < port_count ps → is_signal ps k ≡ true → get_or members k 0 < n
-
--- an edge leads into region r, from another region's node that is not passive
-abbrev pub outside_key : List ℕ → List Bool → ℕ → ℕ → Bool
-outside_key labels passive r key =
-    of_edge (length labels) (λ a b. (not (eqb (get_or labels a 0) (get_or labels b 0)) && not (marked passive a)) && eqb (get_or labels b 0) r) key

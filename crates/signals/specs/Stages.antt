@@ -6,11 +6,10 @@ use Rattle.lists.specs.Limits.{component_limit}
 use Rattle.lists.specs.Records.{component}
 use Rattle.lists.specs.First.{some}
 use Rattle.lists.specs.Ends.{Settled}
-use Rattle.regions.specs.Graph.{marked}
-use Rattle.regions.specs.Keys.{edges}
+use Rattle.regions.specs.Graph.{Edges, marked}
 use Rattle.signals.specs.Regions.{wire}
 use Rattle.signals.specs.Keys.{Slots, KeysOf, ports}
-use Rattle.signals.specs.Seen.{of_edge}
+use Rattle.signals.specs.Seen.{few_near}
 
 -- the members at the ends of each port connection, and the sorted tables of the signal edges, forward and backward
 pub record Tables (cs ps : List ℤ) (sources sinks forward backward : List ℕ) : Type 0 where
@@ -25,23 +24,14 @@ pub record FedTable (ps : List ℤ) (sources sinks fed : List ℕ) : Type 0 wher
   pub slots_are : Slots ps sinks slots
   pub fed_keys : KeysOf ps slots sources (component_limit * ports) fed
 
--- the component at p is a wire with few neighbours in a quiet region, by the arrays of the analysis
-abbrev pub inferred_by : List ℤ → List ℕ → List ℕ → List Bool → List Bool → List ℕ → List ℕ → List ℕ → ℕ → Bool
-inferred_by cs members region_of_place holds_drive fed forward backward labels p =
+-- the component at p is a wire with few neighbours in a quiet region, by the edges and the arrays of the analysis
+abbrev pub inferred_by : List ℤ → List ℕ → List ℕ → List Bool → List Bool → Edges → List ℕ → ℕ → Bool
+inferred_by cs members region_of_place holds_drive fed edge labels p =
     eqb (component cs p).kind wire
     && ((not (marked holds_drive (get_or region_of_place p 0)) && not (marked fed (get_or region_of_place p 0)))
-    && leb
-    (count_below
-    (λ j. eqb (get_or labels j 0) (get_or labels (get_or members p 0) 0)
-    && (edges (length labels) forward (get_or members p 0) j || edges (length labels) backward (get_or members p 0) j))
-    (length labels))
-    1)
+    && few_near edge labels (get_or members p 0))
 
--- an edge leads from a node of region r to itself
-abbrev pub self_key : List ℕ → ℕ → ℕ → Bool
-self_key labels r key = of_edge (length labels) (λ a b. eqb a b && eqb (get_or labels b 0) r) key
-
--- region r has two nodes or more, or such an edge
-abbrev pub cyclic_at : List ℕ → List ℕ → ℕ → Bool
-cyclic_at forward labels r =
-    leb 2 (count_below (λ m. eqb (get_or labels m 0) r) (length labels)) || some (λ i. self_key labels r (get_or forward i 0)) (length forward)
+-- region r has two nodes or more, or an edge from a node to itself
+abbrev pub cyclic_at : Edges → List ℕ → ℕ → Bool
+cyclic_at edge labels r =
+    leb 2 (count_below (λ m. eqb (get_or labels m 0) r) (length labels)) || some (λ a. edge a a && eqb (get_or labels a 0) r) (length labels)

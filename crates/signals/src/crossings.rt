@@ -15,7 +15,7 @@ use tables::SPAN;
 
 // Lists the pairs of two regions that edges lead from and to, and answers the part of `keys` that they fill. Each pair is stored, and only
 // those of two regions are kept: whether they differ comes in no order that a processor could foresee.
-fn list_crossings<'a>(forward: &[u64], labels: &[usize], keys: &'a mut [u64]) -> &'a [u64]
+fn list_crossings<'a>(forward: &[u64], labels: &[u16], keys: &'a mut [u64]) -> &'a [u64]
     requires rows { Rows (length labels.now) forward.now }
     requires keys_len { length forward.now ≤ length keys.old }
     requires indices { Indices (length labels.now) component_limit labels.now }
@@ -24,8 +24,8 @@ fn list_crossings<'a>(forward: &[u64], labels: &[usize], keys: &'a mut [u64]) ->
 {
     let mut at: usize = 0;
     for key in edges_of(forward, labels.len()) {
-        let from = labels[(key / SPAN) as usize];
-        let to = labels[(key % SPAN) as usize];
+        let from = usize::from(labels[(key / SPAN) as usize]);
+        let to = usize::from(labels[(key % SPAN) as usize]);
         keys[at] = from as u64 * SPAN + to as u64;
         at += usize::from(from != to);
     }
@@ -33,7 +33,7 @@ fn list_crossings<'a>(forward: &[u64], labels: &[usize], keys: &'a mut [u64]) ->
 }
 
 // The pairs of the regions that each edge leads from and to, where they differ, by rising first number: the part of `keys` that they fill.
-pub fn find_crossings<'a>(forward: &[u64], labels: &[usize], keys: &'a mut [u64]) -> &'a [u64]
+pub fn find_crossings<'a>(forward: &[u64], labels: &[u16], keys: &'a mut [u64]) -> &'a [u64]
     requires rows { Rows (length labels.now) forward.now
         × ((length forward.now ≤ length keys.old) × (length forward.now ≤ connection_limit)) }
     requires indices { Indices (length labels.now) component_limit labels.now }
@@ -50,7 +50,7 @@ pub fn find_crossings<'a>(forward: &[u64], labels: &[usize], keys: &'a mut [u64]
 // Carries two lists of marks of regions along the pairs of regions, and gives each node the marks of its region.
 pub fn carry_marks(
     keys: &[u64],
-    labels: &[usize],
+    labels: &[u16],
     a: &mut [bool],
     b: &mut [bool],
     out_a: &mut [bool],

@@ -7,8 +7,7 @@ ghost use Rattle.lists.specs.Limits.{component_limit};
 ghost use Rattle.lists.specs.Ends.{sources_of, sinks_of};
 ghost use Rattle.signals.specs.Signals.{is_signal};
 ghost use Rattle.signals.specs.Keys.{Slots, slot, signal_key, signal_keys, turned, KeysOf, Sortable};
-ghost use Rattle.signals.specs.Flags.{Flags, Indices};
-ghost use Rattle.signals.specs.Seen.{Rows, EdgeKeys, some_edge_into};
+ghost use Rattle.signals.specs.Seen.{Rows, EdgeKeys};
 
 use lists::COMPONENTS;
 use lists::ends::Ends;
@@ -111,26 +110,4 @@ pub fn edges_of(keys: &[u64], n: usize) -> &[u64]
     ensures { EdgeKeys n keys.now result.now }
 {
     &keys[..tables::lower_bound(keys, n as u64 * SPAN)]
-}
-
-// Flags the regions that some edge leads into whose two nodes pass the test, and clears the others. There is no branch on a test.
-pub(crate) fn flag_sinks<F: Fn(usize, usize) -> bool>(
-    forward: &[u64],
-    labels: &[usize],
-    test: F,
-    flags: &mut [bool],
-)
-    ghost passes: { ℕ → ℕ → Bool }
-    requires rows { Rows (length labels.now) forward.now }
-    requires indices { Indices (length labels.now) (length flags.old) labels.now }
-    requires callable { (a b : ℕ) → a < length labels.now → b < length labels.now → F.pre test a b }
-    requires answer { (a b : ℕ) (r : Bool) → a < length labels.now → b < length labels.now → F.post test a b r → r ≡ passes a b }
-    ensures { Flags (length flags.old) (some_edge_into forward.now labels.now passes) flags.new }
-{
-    flags.fill(false);
-    for key in edges_of(forward, labels.len()) {
-        let from = (key / SPAN) as usize;
-        let to = (key % SPAN) as usize;
-        flags[labels[to]] |= test(from, to);
-    }
 }

@@ -5,25 +5,25 @@ ghost use Rattle.signals.specs.Flags.{Flags, Gathered, Counted, Indices};
 
 // Sets the flag of each index whose test holds, and clears the others. There is no branch on a test: they come in no order that a
 // processor could foresee.
-pub fn gather(index: &[usize], tests: &[bool], out: &mut [bool])
+pub fn gather(index: &[u16], tests: &[bool], out: &mut [bool])
     requires indices { Indices (length index.now) (length out.old) index.now }
     requires tests_in_bounds { length index.now ≤ length tests.now }
     ensures { Gathered (length index.now) index.now tests.now out.new }
 {
     out.fill(false);
     for (j, test) in index.iter().zip(tests) {
-        out[*j] |= *test;
+        out[usize::from(*j)] |= *test;
     }
 }
 
 // Counts how often each index stands there.
-pub fn count_into(index: &[usize], counts: &mut [usize])
+pub fn count_into(index: &[u16], counts: &mut [usize])
     requires { Indices (length index.now) (length counts.old) index.now }
     ensures { Counted (length index.now) index.now counts.new }
 {
     counts.fill(0);
     for j in index {
-        counts[*j] += 1;
+        counts[usize::from(*j)] += 1;
     }
 }
 
@@ -41,12 +41,12 @@ pub fn combine_flags<F: Fn(bool, bool) -> bool>(flags: &mut [bool], others: &[bo
 }
 
 // The value of each index.
-pub fn spread<T: Copy>(index: &[usize], values: &[T], out: &mut [T])
+pub fn spread<T: Copy>(index: &[u16], values: &[T], out: &mut [T])
     requires { Indices (length index.now) (length values.now) index.now × (length index.now ≤ length out.old) }
     ensures long { length index.now ≤ length out.new }
     ensures values { (p : ℕ) (d : T) → p < length index.now → get_or out.new p d ≡ get_or values.now (get_or index.now p 0) d }
 {
     for (p, j) in index.iter().enumerate() {
-        out[p] = values[*j];
+        out[p] = values[usize::from(*j)];
     }
 }

@@ -1,20 +1,18 @@
 // Inferred inputs: wires at the edge of a region that nothing drives or feeds.
-ghost use Rattle.std.specs.Prelude.{◌≡◌, Bool, ◌&&◌, ◌||◌, ℕ, ◌≤◌, ◌<◌, eqb, leb, length, get_or};
-ghost use Rattle.sets.specs.Members.{count_below};
+ghost use Rattle.std.specs.Prelude.{◌≡◌, Bool, not, ◌&&◌, ◌||◌, ℕ, ◌≤◌, ◌<◌, eqb, length, get_or};
+ghost use Rattle.tables.specs.Order.{member};
 ghost use Rattle.lists.specs.Records.{component, component_count};
-ghost use Rattle.lists.specs.First.{some};
-ghost use Rattle.regions.specs.Keys.{edges};
+ghost use Rattle.regions.specs.Graph.{marked};
+ghost use Rattle.graph.specs.Rows.{edges_of};
 ghost use Rattle.signals.specs.Regions.{wire, is_passive};
 ghost use Rattle.signals.specs.Flags.{Flags, Indices};
-ghost use Rattle.signals.specs.Seen.{SeenOf, Rows, few_near, outside_key};
+ghost use Rattle.signals.specs.Seen.{SeenOf, Joined, Led, few_near};
 
-use super::edges::flag_sinks;
 use super::network::Network;
+use graph::Graph;
 use lists::kinds::BlockKind;
 use lists::rules::lamps_pass;
 use lists::views::ComponentList;
-use regions::Graph;
-use tables::SPAN;
 
 // A component's number is compared with the kind's own: to turn it into a kind for one test is longer.
 const WIRE: u64 = BlockKind::RedstoneWire as u64;
@@ -38,21 +36,15 @@ fn see(seen: Seen, j: usize) -> Seen
     }
 }
 
-// With the neighbours of m in a graph seen too, those of its own region.
-fn see_row(graph: &Graph, labels: &[usize], m: usize, seen: Seen) -> Seen
-    requires { Rows (length labels.now) graph.now.keys.now × (m < length labels.now) }
+// With the neighbours in a row seen too, those that have the label of m.
+fn see_row(row: &[u16], labels: &[u16], m: usize, seen: Seen) -> Seen
+    requires { (m < length labels.now) × Indices (length row.now) (length labels.now) row.now }
     ensures { (test : ℕ → Bool) → SeenOf (length labels.now) test seen →
-        SeenOf (length labels.now) (λ j. test j
-        || (eqb (get_or labels.now j 0) (get_or labels.now m 0) && edges (length labels.now) graph.now.keys.now m j)) result }
+        SeenOf (length labels.now) (λ j. test j || (eqb (get_or labels.now j 0) (get_or labels.now m 0) && member j row.now)) result }
 {
-    let at = graph.first_key(m);
     let mut found = seen;
-    // Stops at the first key of another node: to cut the row first, its end would have to be looked up as well.
-    for key in &graph.keys[at..] {
-        if key / SPAN != m as u64 {
-            return found;
-        }
-        let j = (key % SPAN) as usize;
+    for neighbour in row {
+        let j = usize::from(*neighbour);
         if labels[j] == labels[m] {
             found = see(found, j);
         }
@@ -63,10 +55,10 @@ fn see_row(graph: &Graph, labels: &[usize], m: usize, seen: Seen) -> Seen
 // Whether m has at most one distinct neighbour in its region, either way along the edges.
 fn few_neighbours(network: &Network, m: usize) -> bool
     requires { m < length network.now.labels.now }
-    ensures { result ≡ few_near network.now.forward.keys.now network.now.backward.keys.now network.now.labels.now m }
+    ensures { let t = network.now in result ≡ few_near (edges_of t.forward.ends.now t.forward.next.now) t.labels.now m }
 {
-    let first = see_row(&network.forward, network.labels, m, Seen::None);
-    let both = see_row(&network.backward, network.labels, m, first);
+    let first = see_row(network.forward.row(m), network.labels, m, Seen::None);
+    let both = see_row(network.backward.row(m), network.labels, m, first);
     !matches!(both, Seen::Many)
 }
 
@@ -91,15 +83,30 @@ pub fn passive_flags(components: ComponentList, rules: u64, flags: &mut [bool])
     }
 }
 
-// Flags the regions with an edge from another region's node that is not passive.
-pub fn flag_outside(forward: &[u64], labels: &[usize], passive: &[bool], fed: &mut [bool])
-    requires rows { Rows (length labels.now) forward.now }
-    requires labels_in_bounds { (length labels.now ≤ length passive.now) × Indices (length labels.now) (length fed.old) labels.now }
-    ensures { Flags (length fed.old) (λ r.
-        some (λ i. outside_key labels.now passive.now r (get_or forward.now i 0)) (length forward.now)) fed.new }
+// Flags the labels of those nodes of a row that are not labelled as x, where x counts: an edge of x leads into their regions. There is no
+// branch on a label.
+fn flag_others(row: &[u16], labels: &[u16], x: usize, counts: bool, fed: &mut [bool])
+    requires inside { (x < length labels.now) × Indices (length row.now) (length labels.now) row.now }
+    requires indices { Indices (length labels.now) (length fed.old) labels.now }
+    ensures { Joined row.now labels.now (λ y. counts && not (eqb (get_or labels.now x 0) (get_or labels.now y 0))) fed.old fed.new }
 {
-    let is_outside = |from: usize, to: usize| (labels[from] != labels[to]) & !passive[from];
-    flag_sinks(forward, labels, is_outside, fed);
+    for neighbour in row {
+        let to = labels[usize::from(*neighbour)];
+        fed[usize::from(to)] |= counts & (labels[x] != to);
+    }
+}
+
+// Flags the regions with an edge from another region's node that is not passive.
+pub fn flag_outside(graph: Graph, labels: &[u16], passive: &[bool], fed: &mut [bool])
+    requires nodes { (length graph.ends.now ≡ length labels.now) × (length labels.now ≤ length passive.now) }
+    requires indices { Indices (length labels.now) (length fed.old) labels.now }
+    ensures { Led (edges_of graph.entry.ends.now graph.entry.next.now) (λ a b.
+        not (marked passive.now a) && not (eqb (get_or labels.now a 0) (get_or labels.now b 0))) labels.now fed.new }
+{
+    fed.fill(false);
+    for x in 0..labels.len() {
+        flag_others(graph.row(x), labels, x, !passive[x], fed);
+    }
 }
 
 // Whether component p, member m, is an inferred input, given whether its region has a drive source or is fed from outside.
@@ -112,7 +119,7 @@ pub fn is_inferred(
 ) -> bool
     requires { (p < component_count components.numbers.now) × (m < length network.now.labels.now) }
     ensures { result ≡ (eqb (component components.entry.numbers.now p).kind wire
-        && (quiet && few_near network.now.forward.keys.now network.now.backward.keys.now network.now.labels.now m)) }
+        && (quiet && few_near (edges_of network.now.forward.ends.now network.now.forward.next.now) network.now.labels.now m)) }
 {
     (components.kind(p) == WIRE) & quiet && few_neighbours(network, m)
 }

@@ -1,15 +1,17 @@
 // The nodes of a scene: the edges between them, and their regions.
-ghost use Rattle.std.specs.Prelude.{length};
-ghost use Rattle.signals.specs.Seen.{Rows};
+ghost use Rattle.std.proofs.Props.{props};
+ghost use Rattle.std.specs.Prelude.{◌≡◌, length};
+ghost use Rattle.regions.specs.Graph.{flip};
+ghost use Rattle.graph.specs.Rows.{Rows, edges_of};
 
-use regions::Graph;
+use graph::Graph;
 
-// The edges forward and backward, and a label for each node.
+// The edges, the same turned round, and a label for each node.
 #[derive(Clone, Copy)]
 pub struct Network<'a> {
     pub forward: Graph<'a>,
     pub backward: Graph<'a>,
-    pub labels: &'a [usize],
-    pub ghost forward_rows: { Rows (length labels.now) forward.keys.now },
-    pub ghost backward_rows: { Rows (length labels.now) backward.keys.now },
+    pub labels: &'a [u16],
+    pub ghost nodes: { length forward.ends.now ≡ length labels.now } by { Prim.hlevel props },
+    pub ghost turned: { Rows (length labels.now) (flip (edges_of forward.ends.now forward.next.now)) backward.ends.now backward.next.now } by { Prim.hlevel props },
 }

@@ -1,27 +1,25 @@
-// The stages of the analysis over local arrays: tables of edges, regions.
+// The stages of the analysis over local arrays: tables of edges, members, cyclic regions.
 ghost use Rattle.std.specs.Prelude.{None};
 ghost use Rattle.std.specs.Prelude.{◌≡◌, ◌||◌, List, ◌*◌, ◌≤◌, leb, length, get_or, ℤ};
-ghost use Rattle.tables.specs.Order.{Ascending};
 ghost use Rattle.lists.specs.Limits.{component_limit};
 ghost use Rattle.lists.specs.Records.{component_count, port_count};
 ghost use Rattle.lists.specs.Ids.{IdTable, IsIdTable, member_of, first_repeated};
 ghost use Rattle.lists.specs.Ends.{Settled, SettledEnds, sources_of, sinks_of};
 ghost use Rattle.lists.specs.First.{some};
-ghost use Rattle.regions.specs.Keys.{edges, Reversed};
-ghost use Rattle.regions.specs.Graph.{marked};
-ghost use Rattle.regions.specs.Search.{Zeros, Regions};
-ghost use Rattle.signals.specs.Flags.{Flags, Numbers, Indices};
-ghost use Rattle.signals.specs.Seen.{Rows};
-ghost use Rattle.signals.specs.Stages.{Tables, FedTable, self_key, cyclic_at};
+ghost use Rattle.tables.specs.Order.{member};
+ghost use Rattle.regions.specs.Graph.{at, marked};
+ghost use Rattle.graph.specs.Rows.{edges_of};
+ghost use Rattle.signals.specs.Flags.{Flags, Numbers, GatheredBy, Indices};
+ghost use Rattle.signals.specs.Stages.{Tables, FedTable, cyclic_at};
 
-use super::edges::{PORTS, flag_sinks, list_keys, settle_slots, signal_keys, turned_keys};
+use super::edges::{PORTS, list_keys, settle_slots, signal_keys, turned_keys};
 use super::flags::count_into;
+use graph::Graph;
 use lists::ends::Ends;
 use lists::ids::place_at;
 use lists::views::PortList;
 use lists::{COMPONENTS, CONNECTIONS};
-use regions::{Graph, HINTED};
-use tables::SPAN;
+use regions::HINTED;
 
 // Sorts the signal edges into a table, forward, given their settled ends; backward are the same edges turned round. Leaves hints of where
 // the rows of each end.
@@ -58,40 +56,13 @@ pub fn build_fed(ports: PortList, ends: &[Ends], fed: &mut [u64])
     signal_keys(ports, &feeds, COMPONENTS * PORTS, fed, &mut spare);
 }
 
-// The regions of the nodes below labels.len(); answers how many there are.
-pub fn find_regions(
-    forward: Graph,
-    backward: Graph,
-    labels: &mut [usize],
-    stack: &mut [usize],
-) -> usize
-    requires ascending { Ascending forward.keys.now × (Ascending backward.keys.now
-        × Reversed (length labels.old) forward.keys.now backward.keys.now) }
-    requires labels_len_bound { (length labels.old ≤ component_limit) × ((2 * length labels.old ≤ length stack.old) × Zeros stack.old) }
-    ensures { Regions (length labels.old) (edges (length labels.old) forward.entry.keys.now) labels.new result stack.new }
-{
-    let n = labels.len();
-    let mut visited = [false; COMPONENTS];
-    let mut order = [0usize; COMPONENTS];
-    let mut members = [0usize; COMPONENTS];
-    regions::regions(
-        forward,
-        backward,
-        labels,
-        &mut visited[..n],
-        &mut order,
-        &mut members,
-        stack,
-    )
-}
-
 // The member of each component, by list place.
-pub fn place_members(keys: &[u64], members: &mut [usize])
-    requires { IsIdTable keys.now × (length keys.now ≤ length members.old) }
+pub fn place_members(keys: &[u64], members: &mut [u16])
+    requires { IsIdTable keys.now × (length keys.now ≤ length members.old) × (length keys.now ≤ component_limit) }
     ensures { (cs : List ℤ) → IdTable cs keys.now → first_repeated cs ≡ None → Numbers (component_count cs) (member_of cs) members.new }
 {
     for m in 0..keys.len() {
-        members[place_at(keys, m)] = m;
+        members[place_at(keys, m)] = m as u16;
     }
 }
 
@@ -105,15 +76,39 @@ fn flag_large(sizes: &[usize], flags: &mut [bool])
     }
 }
 
+// Whether a node stands in a row.
+fn holds(row: &[u16], x: usize) -> bool
+    ensures { result ≡ member x row.now }
+{
+    let mut found = false;
+    for neighbour in row {
+        found |= usize::from(*neighbour) == x;
+    }
+    found
+}
+
+// Flags the regions with an edge from a node to itself, and clears the others.
+fn flag_selves(graph: Graph, labels: &[u16], flags: &mut [bool])
+    requires nodes { length graph.ends.now ≡ length labels.now }
+    requires indices { Indices (length labels.now) (length flags.old) labels.now }
+    ensures { let edge = edges_of graph.entry.ends.now graph.entry.next.now in
+        GatheredBy (length labels.now) (at labels.now) (λ a. edge a a) flags.new }
+{
+    flags.fill(false);
+    for (x, label) in labels.iter().enumerate() {
+        flags[usize::from(*label)] |= holds(graph.row(x), x);
+    }
+}
+
 // Flags the cyclic regions: those of two nodes or more, or with an edge from a node to itself.
-pub fn find_cyclic(forward: &[u64], labels: &[usize], flags: &mut [bool])
-    requires rows { Rows (length labels.now) forward.now }
+pub fn find_cyclic(graph: Graph, labels: &[u16], flags: &mut [bool])
+    requires nodes { length graph.ends.now ≡ length labels.now }
     requires indices { Indices (length labels.now) (length flags.old) labels.now × (length flags.old ≤ component_limit) }
-    ensures { Flags (length flags.old) (cyclic_at forward.now labels.now) flags.new }
+    ensures { Flags (length flags.old) (cyclic_at (edges_of graph.entry.ends.now graph.entry.next.now) labels.now) flags.new }
 {
     let count = flags.len();
     let mut sizes = [0usize; COMPONENTS];
-    flag_sinks(forward, labels, |from, to| from == to, flags);
+    flag_selves(graph, labels, flags);
     count_into(labels, &mut sizes[..count]);
     flag_large(&sizes[..count], flags);
 }

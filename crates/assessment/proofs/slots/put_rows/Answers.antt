@@ -21,4 +21,4 @@ loop-p-preserved c =
     let s = a.slots.now in
     let row = λ (p : ℕ). rows_of a.rules (component cs p).id (component cs p).kind (component cs p).facing (λ port. status_at s (slot_of (get_or a.members.now p 0) port)) in
     below_more _ row 3 12 _ _ (λ k. refl) c.loop-p-test.true c.loop-p.invariant (device_few _ _ _ _ _ _)
-    (rows_read _ _ _ _ _ _ _ _ c.id.ensures.0 c.kind.ensures c.facing.ensures c.put_ports-at.ensures) c.put_ports-at.auto.out
+    (rows_read _ _ _ _ _ _ _ _ c.id.ensures.0 c.kind.ensures c.facing.ensures (rw c.from.ensures at c.put_ports-at.ensures)) c.put_ports-at.auto.out

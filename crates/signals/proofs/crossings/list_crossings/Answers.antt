@@ -29,11 +29,11 @@ loop-key-preserved c =
     let l = c.loop-key in
     let edges = c.edges_of-key-items.result.now in
     let labels = c.args.labels.now in
-    let more = c.from-at.ensures ∙ byte (differs edges labels l.key-index) in
+    let more = rw (c.from-from.ensures, c.from-to.ensures) at c.from-at.ensures ∙ byte (differs edges labels l.key-index) in
     record {
       few = omega (arith, more, most_one (differs edges labels l.key-index));
-      kept = kept_more (differs edges labels) (pair_of edges labels) l.key-index l.at l.keys l.invariant.kept
-          (omega (arith, c.edges_of-key-items.ensures.few, c.requires.keys_len)) _ more;
+      kept = rw (c.from-from.ensures, c.from-to.ensures) (kept_more (differs edges labels) (pair_of edges labels) l.key-index l.at l.keys l.invariant.kept
+          (omega (arith, c.edges_of-key-items.ensures.few, c.requires.keys_len)) _ more);
     }
 
 pub returns-clause-pairs : goal.returns-clause-pairs

@@ -8,7 +8,8 @@ loop-j-init c = rw (c.fill.ensures.after (λ y h. search rules)) (counted_none c
 
 -- a count is at most the indices passed
 pub overflow_add-counts : goal.overflow_add-counts
-overflow_add-counts c = omega (arith, counted_most _ _ c.loop-j.invariant (let there : get_or c.args.index.now c.loop-j.j-index 0 < length c.loop-j.counts = search rules in there))
+overflow_add-counts c =
+    rw c.from.ensures (omega (arith, counted_most _ _ c.loop-j.invariant (let there : get_or c.args.index.now c.loop-j.j-index 0 < length c.loop-j.counts = search rules in there)))
 
 pub loop-j-preserved : goal.loop-j-preserved
-loop-j-preserved c = counted_more _ _ c.loop-j.invariant (search rules)
+loop-j-preserved c = rw c.from.ensures (counted_more _ _ c.loop-j.invariant (search rules))

@@ -1,10 +1,12 @@
--- What `flag_sinks` is told of the test.
+-- `signals::inferred::flag_outside` meets its contract: the edges from the nodes before x are dealt with.
 -- Assumes nothing.
 use Rattle.std.proofs.Common.{not, ◌&&◌, get_or}
 use lib.Dec.{eqb}
 use Rattle.regions.specs.Graph.{marked}
+use Rattle.graph.specs.Rows.{edges_of}
+use Rattle.signals.proofs.Edged.{LedTo}
 use Rattle.signals.proofs.inferred.flag_outside.Given as goal
 
--- two nodes are of different regions, and the first is not passive
-abbrev pub ghost-flag_sinks : goal.ghost-flag_sinks
-ghost-flag_sinks l a b = not (eqb (get_or l.labels.now a 0) (get_or l.labels.now b 0)) && not (marked l.test.1.now a)
+abbrev pub invariant-loop-x : goal.invariant-loop-x
+invariant-loop-x l =
+    LedTo (edges_of l.graph.ends.now l.graph.next.now) (λ a b. not (marked l.passive a) && not (eqb (get_or l.labels a 0) (get_or l.labels b 0))) l.labels l.x l.fed
