@@ -3,38 +3,37 @@
 --     labels_long, ends_long       a prepared scene has a label and a row for each component
 --     graph, turned                its rows are those of the signal edges, and of the same turned round
 --     labels_small, regions_small, members_small      its labels, regions and members as indices
+--     cyclic_by                    the cyclic regions by its rows are those of the definition
 --     inferred_is                  the test by the arrays is `is_inferred`
 -- Assumes nothing.
-use mathlib.Core.Path.{◌≡◌, refl, sym, ap, ◌∙◌, subst}
-use mathlib.Core.Bool.{Bool, true, false, not, ◌&&◌, ◌||◌}
+use mathlib.Core.Path.{◌≡◌, refl, sym, ap, ◌∙◌}
+use mathlib.Core.Bool.{Bool, true, false, not, ◌&&◌}
 use mathlib.Core.List.{List}
 use Prim.Native.Nat.{ℕ, ◌/◌, ◌%◌, ◌≤◌, ◌<◌}
 use native.Mathlib.Omega.{arith}
 use lib.Dec.{eqb, leb}
 use lib.ListN.{length, get_or}
 use lib.IntN.{ℤ}
-use Rattle.sets.specs.Members.{count_below}
-use Rattle.sets.proofs.Counts.{count_cong}
 use Rattle.tables.specs.Pairs.{span}
 use Rattle.tables.specs.Laws.{member_rearranged, at_member, member_at}
-use Rattle.lists.specs.Limits.{component_limit, connection_limit}
+use Rattle.lists.specs.Limits.{component_limit}
 use Rattle.lists.specs.Records.{component, component_count, port_count}
 use Rattle.lists.specs.First.{tabulate}
 use Rattle.lists.specs.Ids.{member_of}
 use Rattle.lists.proofs.Members.{member_below}
-use Rattle.regions.specs.Graph.{flip}
+use Rattle.regions.specs.Graph.{Edges, flip}
 use Rattle.graph.specs.Rows.{edges_of}
 use Rattle.graph.specs.Rows as Graph
 use Rattle.graph.proofs.Rows.{edges_are}
 use Rattle.signals.specs.Signals.{is_signal, signals}
-use Rattle.signals.specs.Regions.{labels, region_of_place, wire, holds_drive, fed_from_outside, neighbours, is_inferred}
+use Rattle.signals.specs.Regions.{region_of_place, wire, is_cyclic, holds_drive, fed_from_outside, neighbours, is_inferred}
 use Rattle.signals.specs.Keys.{KeysOf, signal_key}
 use Rattle.signals.specs.Flags.{Flags, Indices}
 use Rattle.signals.specs.Seen.{Rows}
 use Rattle.liveness.specs.Scene.{Scene, Prepared}
-use Rattle.signals.specs.Stages.{inferred_by}
+use Rattle.signals.specs.Stages.{inferred_by, cyclic_at}
 use Rattle.signals.proofs.Tabulated.{tab_length, tab_at}
-use Rattle.signals.proofs.Staged.{members_below}
+use Rattle.signals.proofs.Staged.{members_below, cyclic_is}
 use Rattle.signals.proofs.Within.{labels_count, label_under, labels_under, places_under}
 
 -- ---- rows
@@ -97,6 +96,9 @@ module _ {cs ps : List ℤ} (scene : Scene cs ps) {ends next back_ends back labe
     long = omega (arith, p.members_long);
     below = λ q l. omega (arith, (members_below cs p.members_are).below q l);
   }
+
+  pub cyclic_by : (r : ℕ) → cyclic_at (edges_of ends next) labelled r ≡ is_cyclic cs ps r
+  cyclic_by r = ap (λ (e : Edges). cyclic_at e labelled r) graph ∙ ap (λ (l : List ℕ). cyclic_at (signals cs ps) l r) p.labels_are ∙ cyclic_is cs ps scene.ends r
 
   module _ (rules : ℕ) (fs : List ℤ) {driven fed : List Bool} (d : Flags component_limit (holds_drive cs ps fs) driven) (f : Flags component_limit (fed_from_outside rules cs ps) fed) where
     pub inferred_is : (q : ℕ) → q < component_count cs → inferred_by cs members region_of driven fed (signals cs ps) labelled q ≡ is_inferred rules cs ps fs q

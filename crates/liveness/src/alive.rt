@@ -14,12 +14,7 @@ use lists::COMPONENTS;
 use signals::flags::{combine_flags, gather, spread};
 
 // Flags the regions that hold a drive source or an inferred input.
-fn possible_regions(
-    region_at: &[u16],
-    inferred: &[bool],
-    has_drive: &[bool],
-    possible: &mut [bool],
-)
+fn possible_regions(region_at: &[u16], inferred: &[bool], has_drive: &[bool], possible: &mut [bool])
     requires indices { let n = length region_at.now in Indices n component_limit region_at.now × (n ≤ length inferred.now) }
     requires regions_len { (length has_drive.now ≡ component_limit) × (length possible.old ≡ component_limit) }
     ensures { Flags component_limit (λ r. marked has_drive.now r

@@ -29,13 +29,7 @@ fn flag_quiet(plot: &PreparedPlot, has_drive: &[bool], fed: &[bool], flags: &mut
     for p in 0..components.count() {
         let region = usize::from(plot.region_at[p]);
         let quiet = !has_drive[region] & !fed[region];
-        flags[p] = is_inferred(
-            components,
-            p,
-            quiet,
-            &network,
-            usize::from(plot.members[p]),
-        );
+        flags[p] = is_inferred(components, p, quiet, &network, usize::from(plot.members[p]));
     }
 }
 

@@ -97,7 +97,15 @@ impl<'a> Plot<'a> {
         ensures stack { Zeros stack.new }
     {
         let n = self.keys.len();
-        let Room { ends, next, back_ends, back, labels, members, region_at } = room;
+        let Room {
+            ends,
+            next,
+            back_ends,
+            back,
+            labels,
+            members,
+            region_at,
+        } = room;
         let ends = &mut ends[..n];
         let back_ends = &mut back_ends[..n];
         let labels = &mut labels[..n];

@@ -7,10 +7,9 @@ use Prim.Native.Nat.{ℕ, ◌≤◌}
 use native.Mathlib.Omega.{arith}
 use lib.ListN.{length, take, length-take}
 use Rattle.lists.specs.Limits.{component_limit}
-use Rattle.signals.proofs.Within.{labels_under}
-use Rattle.liveness.proofs.Inferring.{labels_long, forward_rows}
+use Rattle.liveness.proofs.Inferring.{labels_long, ends_long, labels_small, cyclic_by}
 use Rattle.sets.proofs.Flagged.{set_of_front}
-use Rattle.liveness.proofs.Answers.{set_where}
+use Rattle.liveness.proofs.Answers.{set_where, set_same}
 use Rattle.liveness.proofs.steps.answer.Goals as goal
 use Rattle.liveness.proofs.steps.answer.Goals.{Start}
 
@@ -20,11 +19,8 @@ find_cyclic-requires c =
     let p = c.args.plot.now in
     let scene = p.plot.accepted.scene in
     record {
-      rows = forward_rows scene p.prepared;
-      indices = (
-        rw p.prepared.labels_are (labels_under p.plot.components.now p.plot.ports.now scene.ends component_limit scene.components.few),
-        omega arith,
-      );
+      nodes = ends_long scene p.prepared;
+      indices = (labels_small scene p.prepared component_limit scene.components.few, omega arith);
     }
 
 few : (s : Start) → length s.args.plot.now.labels.now ≤ component_limit
@@ -50,6 +46,7 @@ returns c =
       inputs_is = refl;
       drive_set = set_of_front _ _ _ c.requires.labels_in_bounds.0 c.of_flags.ensures;
       potential_set = set_of_front _ _ _ c.requires.labels_in_bounds.1 c.of_flags-2.ensures;
-      cyclic_set = set_where c.requires.count.0 (set_of_front _ _ _ (omega (arith, c.find_cyclic.auto.flags, c.requires.count.0)) c.of_flags-3.ensures) c.find_cyclic.ensures;
+      cyclic_set = set_same refl (cyclic_by c.args.plot.now.plot.accepted.scene c.args.plot.now.prepared)
+          (set_where c.requires.count.0 (set_of_front _ _ _ (omega (arith, c.find_cyclic.auto.flags, c.requires.count.0)) c.of_flags-3.ensures) c.find_cyclic.ensures);
       has_drive_set = set_of_front _ _ _ c.requires.count.1 c.of_flags-4.ensures;
     }

@@ -14,5 +14,5 @@ pub loop-p-preserved : goal.loop-p-preserved
 unfolding tabulate
 loop-p-preserved c =
     let l = c.loop-p in
-    rw (add-one l.p) (put_more (omega arith) l.invariant
+    rw (add-one l.p, c.from.ensures) (put_more (omega arith) l.invariant
     (rw (add-one l.p) at (one_put (get_or c.args.region_at.now l.p 0) l.regions l.p (omega (arith, l.auto.regions, c.requires)))))

@@ -9,7 +9,6 @@ use native.Mathlib.Omega.{arith}
 use lib.ListN.{length, get_or, take, drop, replicate}
 use lib.Seq.{length-take-le}
 use lib.IntN.{ℤ}
-use Rattle.std.proofs.lemmas.List.{get_or-take}
 use Rattle.lists.proofs.EndLaws.{sources_length}
 use Rattle.lists.specs.Limits.{component_limit}
 use Rattle.lists.specs.Records.{component_count}
@@ -20,13 +19,11 @@ use Rattle.signals.specs.Regions.{region_of_place, regions_of}
 use Rattle.signals.specs.Drive.{drive, potential}
 use Rattle.assessment.specs.Verdicts.{source_rows_below}
 use Rattle.assessment.specs.Rows.{sources_below}
-use Rattle.signals.specs.Stages.{cyclic_at}
 use Rattle.signals.proofs.Lent.{front, front_long}
-use Rattle.signals.proofs.Ends.{ends_within}
-use Rattle.signals.proofs.Staged.{regions_few, cyclic_is}
+use Rattle.signals.proofs.Within.{scene_regions}
 use Rattle.assessment.proofs.RowLaws.{sources_are, inferred_alone}
 use Rattle.liveness.specs.Scene.{Scene}
-use Rattle.liveness.proofs.Inferring.{labels_long, graph}
+use Rattle.liveness.proofs.Inferring.{labels_long}
 use Rattle.liveness.specs.Entry.{AnalysisOf}
 use Rattle.liveness.proofs.Answers.{set_all, set_where, set_same, tabulated_same, numbers_are}
 use Rattle.liveness.proofs.steps.report.Goals as goal
@@ -63,7 +60,7 @@ small s = omega (arith, all s, few s)
 count_small : (s : Start) → s.args.plot.now.count ≤ component_limit
 count_small s =
     let p = s.args.plot.now in
-    omega (arith, p.counted, regions_few (cs s) (ps s) p.forward.keys.now (graph (scene s) p.prepared), few s)
+    omega (arith, p.counted, (scene_regions (cs s) (ps s) (scene s).ends).few, few s)
 
 lent : (s : Start) → length (take (nodes s) (replicate component_limit false)) ≡ nodes s
 lent s = length-take-le _ _ (small s)
@@ -97,17 +94,8 @@ marks_lent : (s : Start) (marks : List Bool) → length marks ≡ length (take (
 marks_lent s marks e = ap length (marks_front s marks e) ∙ marks_long s marks e
 
 -- ---- rows
--- the regions of the components, at the front of their array
-abbrev regions : Start → List ℕ
-regions s = take (nodes s) s.args.plot.now.region_at.now
-
-regions_lent : (s : Start) → length (regions s) ≡ nodes s
-regions_lent s = length-take-le _ _ (omega (arith, all s, s.args.plot.now.prepared.regions_are.long))
-
 pub put_regions-requires : goal.put_regions-requires
-put_regions-requires c =
-    let s = (goal.at.put_regions-requires c).Start in
-    omega (arith, regions_lent s, all s, c.requires.rows_room.regions_room)
+put_regions-requires c = omega (arith, c.args.plot.now.prepared.regions_long, c.requires.rows_room.regions_room)
 
 pub put_sources-requires : goal.put_sources-requires
 put_sources-requires c =
@@ -121,10 +109,10 @@ pub write_verdicts-requires : goal.write_verdicts-requires
 write_verdicts-requires c =
     let s = (goal.at.write_verdicts-requires c).Start in
     let p = c.args.plot.now.prepared in
-    let t = p.tables in rw (c.component_list-listed.ensures, c.port_list.ensures) record {
+    let t = c.args.plot.now.plot.accepted.ends in rw (c.component_list-listed.ensures, c.port_list.ensures) record {
       ends = (scene s).ends;
       settled = (t.source_members, t.sink_members);
-      ports_in_bounds = omega (arith, p.sources_long, sources_length c.args.plot.now.plot.ends.now);
+      ports_in_bounds = omega (arith, t.sources_long, sources_length c.args.plot.now.plot.ends.now);
       numbers = (p.members_are, c.requires.rows_room.inputs_room);
     }
 
@@ -145,14 +133,13 @@ returns c =
     let s = (goal.at.returns c).Start in
     let a = c.answer.ensures in
     let p = c.args.plot.now.prepared in
-    let t = p.tables in
+    let regions = c.args.plot.now.region_at.now in
     let e = c.mark.ensures in
     let n = component_count (cs s) in
-    let region_rows_lem : tabulate (λ q. get_or (regions s) q 0) (length (regions s)) ≡ regions_of (cs s) (ps s) =
-    tabulated_same (λ q. get_or (regions s) q 0) (region_of_place (cs s) (ps s)) (length (regions s))
-    (λ q h. get_or-take (nodes s) c.args.plot.now.region_at.now q 0 (omega (arith, regions_lent s))
-    ∙ p.regions_are.at q (omega (arith, regions_lent s, all s)))
-    ∙ ap (tabulate (region_of_place (cs s) (ps s))) (regions_lent s ∙ all s) in
+    let region_rows_lem : tabulate (λ q. get_or regions q 0) (length regions) ≡ regions_of (cs s) (ps s) =
+    tabulated_same (λ q. get_or regions q 0) (region_of_place (cs s) (ps s)) (length regions)
+    (λ q h. p.regions_are.at q (omega (arith, p.regions_long)))
+    ∙ ap (tabulate (region_of_place (cs s) (ps s))) p.regions_long in
     let source-rows : sources_below (cs s) c.mark.new.on_frontier c.mark.new.inferred n ≡ source_rows_below (rules s) (cs s) (ps s) (fs s) n =
     sources_are (rules s) (cs s) (ps s) (fs s) e.frontier_flags e.inferred_flags n (omega arith) in
     let live : take (nodes s) (c.mark.new.drive ++ rest s) ≡ drive (cs s) (ps s) (fs s) = marks_front s c.mark.new.drive
@@ -167,10 +154,7 @@ returns c =
       input_count = ap (λ (k : ℕ). k * 3) a.inputs_is ∙ verdict-rows.count;
       drive_set = set_all (all s) live a.drive_set;
       potential_set = set_all (all s) may a.potential_set;
-      cyclic_set = set_same c.args.plot.now.counted
-          (λ r. ap (λ (l : List ℕ). cyclic_at c.args.plot.now.forward.keys.now l r) p.labels_are
-          ∙ cyclic_is (cs s) (ps s) c.args.plot.now.forward.keys.now (graph (scene s) p) (few s) t.source_members t.sink_members
-          (ends_within (cs s) (ps s) (scene s).ends) t.forward_keys r) a.cyclic_set;
+      cyclic_set = set_same c.args.plot.now.counted (λ r. refl) a.cyclic_set;
       has_drive_set = set_same c.args.plot.now.counted (λ r. refl) (set_where (count_small s) a.has_drive_set e.region_flags);
     } in
     record {
@@ -249,6 +233,3 @@ shape_of-sources c = c.put_sources.auto.out
 
 pub shape_of-inputs : goal.shape_of-inputs
 shape_of-inputs c = c.write_verdicts.auto.out
-
-pub slice_bounds-put_regions-end : goal.slice_bounds-put_regions-end
-slice_bounds-put_regions-end c = sym (regions_lent (goal.at.slice_bounds-put_regions-end c).Start)
