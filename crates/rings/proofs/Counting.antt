@@ -90,7 +90,7 @@ module _ (labels row : List ℕ) (b : ℕ) (seen₀ : List ℕ) where
         (same? a node)
 
     -- a node of b's label that is not seen yet
-    pub pass_more : length labels ≤ length seen₀ → at labels node ≡ at labels b → (at seen node ≡ b + 1 → ⊥)
+    pub pass_more : b < length seen₀ → at labels node ≡ at labels b → (at seen node ≡ b + 1 → ⊥)
         → Passed labels row b seen₀ (place + 1) (set seen node (b + 1)) (found + 1)
     pass_more room l fresh = record {
       long = length-set seen node (b + 1) ∙ p.long;
@@ -150,10 +150,10 @@ unseen seen b up a = ne_eqb (at seen a) (b + 1) (λ e. omega (arith, up a))
 pub none_seen : (seen : List ℕ) (b : ℕ) → SeenUpTo b seen → 0 ≡ count_below (is_seen seen b) (suc b)
 none_seen seen b up = sym (count_none (is_seen seen b) (suc b) (λ a h. unseen seen b up a))
 
-pub both_near : {edge : Edges} {inward outward labels : List ℕ} {b r r' : ℕ} (s₀ : List ℕ) {s₁ s₂ : List ℕ} → SeenUpTo b s₀
+pub both_near : (edge : Edges) {inward outward labels : List ℕ} {b r r' : ℕ} (s₀ : List ℕ) {s₁ s₂ : List ℕ} → SeenUpTo b s₀
     → ((a : ℕ) → member a inward ≡ edge b a) → ((a : ℕ) → member a outward ≡ edge a b)
     → RowSeen labels inward b s₀ s₁ r → RowSeen labels outward b s₁ s₂ r' → r' ≡ count_below (λ a. near_either edge labels a b) (suc b)
-both_near {edge} {inward} {outward} {labels} {b} s₀ {s₁} {s₂} up forward backward p q =
+both_near edge {inward} {outward} {labels} {b} s₀ {s₁} {s₂} up forward backward p q =
     q.count ∙ count_cong (is_seen s₂ b) (λ a. near_either edge labels a b) (suc b) (λ a h.
     q.marks a (omega arith)
     ∙ ap (λ (t : Bool). t || near_by labels outward b a) (p.marks a (omega arith) ∙ ap (λ (t : Bool). t || near_by labels inward b a) (unseen s₀ b up a))

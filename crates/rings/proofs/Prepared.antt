@@ -14,7 +14,6 @@ use lib.ListN.{length, get_or}
 use lib.IntN.{ℤ}
 use borrow.Author.Tests.{eqb-true}
 use Rattle.sets.specs.Members.{count_below}
-use Rattle.lists.specs.Records.{component_count}
 use Rattle.lists.specs.First.{tabulate}
 use Rattle.regions.specs.Graph.{at}
 use Rattle.graph.specs.Rows.{edges_of}

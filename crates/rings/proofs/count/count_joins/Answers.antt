@@ -23,7 +23,7 @@ pub overflow_add-joins : goal.overflow_add-joins
 overflow_add-joins c =
     let t = c.args.network.now in
     let r = at t.labels.now c.loop-b.b in
-    omega (
+    rw c.from.ensures (omega (
       arith,
       c.loop-b.invariant.counted.is r (low (goal.at.overflow_add-joins c).In-loop-b),
       join_few (near_in (edges_of t.forward.ends.now t.forward.next.now) t.labels.now r) c.loop-b.b (omega (arith, c.loop-b-test.true, c.requires.1)),
@@ -31,10 +31,10 @@ overflow_add-joins c =
       c.requires.1,
       c.count_near.ensures.count,
       count_le (λ a. near_either (edges_of t.forward.ends.now t.forward.next.now) t.labels.now a c.loop-b.b) (suc c.loop-b.b),
-    )
+    ))
 
 pub loop-b-preserved : goal.loop-b-preserved
 loop-b-preserved c = record {
-  counted = joins_more c.loop-b.invariant.counted c.count_near.ensures.count (low (goal.at.loop-b-preserved c).In-loop-b);
+  counted = rw c.from.ensures (joins_more c.loop-b.invariant.counted c.count_near.ensures.count (low (goal.at.loop-b-preserved c).In-loop-b));
   marks = c.count_near.ensures.marks;
 }

@@ -1,6 +1,6 @@
 -- `rings::count::count_near` meets its contract: what both rows mark is near.
 -- Assumes nothing.
-use Rattle.std.proofs.Common.{◌≡◌, ℕ, ap, ◌∙◌, arith}
+use Rattle.std.proofs.Common.{◌≡◌, ◌<◌, ℕ, length, refl, ap, ◌∙◌, arith}
 use Rattle.tables.specs.Order.{member}
 use Rattle.graph.specs.Rows.{edges_of}
 use Rattle.signals.proofs.Rowed.{row_indices}
@@ -10,7 +10,7 @@ use Rattle.rings.proofs.count.count_near.Goals as goal
 pub count_row-onward-requires-clause-row : goal.count_row-onward-requires-clause-row
 count_row-onward-requires-clause-row c =
     let net = c.args.network.now in
-    let low = omega (arith, net.nodes, c.requires.inside.0) in
+    let low : c.args.b < length net.forward.ends.now = omega (arith, net.nodes, c.requires.inside.0) in
     rw c.row.ensures (net.forward.rows.rising c.args.b low, row_indices net.forward.rows net.nodes low, c.requires.inside.0)
 
 pub count_row-requires-clause-row : goal.count_row-requires-clause-row
@@ -31,4 +31,4 @@ returns-clause-count c =
     let forward : (a : ℕ) → member a c.row.result.now ≡ edge b a =
     λ a. ap (member a) c.row.ensures ∙ net.forward.rows.rows.holds b (omega (arith, net.nodes, c.requires.inside.0)) a in
     let backward : (a : ℕ) → member a c.row-2.result.now ≡ edge a b = λ a. ap (member a) c.row-2.ensures ∙ net.turned.rows.holds b c.requires.inside.0 a in
-    both_near c.args.seen.now c.requires.seen_room.1 forward backward c.count_row-onward.ensures c.count_row.ensures
+    both_near edge c.args.seen.now c.requires.seen_room.1 forward backward c.count_row-onward.ensures c.count_row.ensures

@@ -10,10 +10,10 @@ use Rattle.rings.proofs.count.count_row.Goals.{then-labels-a+then-seen-a, else-l
 pub loop-neighbour-init : goal.loop-neighbour-init
 loop-neighbour-init c = pass_none c.args.labels.now c.args.row.now c.args.b c.args.seen.now c.requires.counted.0 c.requires.counted.1
 
-pub returns-then-b : goal.returns-then-b
-returns-then-b c =
+pub returns-then-b-a : goal.returns-then-b-a
+returns-then-b-a c =
     pass_all c.args.labels.now c.args.row.now c.args.b c.args.seen.now c.requires.row.0
-    (λ h. rw c.from-a.ensures at c.if-b.true) c.loop-neighbour.invariant
+    (λ h. rw c.from-a.ensures at c.if-b-a.true) c.loop-neighbour.invariant
 
 -- at most the nodes up to b are marked
 pub overflow_add-found : goal.overflow_add-found
@@ -28,10 +28,10 @@ loop-neighbour-preserved c =
     let row = a.row.now in
     let inside = c.loop-neighbour-test.true in
     let is = c.from-a.ensures in
-    let to = rw is at c.if-b.false in
+    let to = rw is at c.if-b-a.false in
     elim c.if-labels-a.branch [
       | then-labels-a+then-seen-a w ↦ rw (w.seen-is, w.found-is, is)
-          (pass_more labels row a.b a.seen.now l.invariant inside to c.requires.seen_room.0
+          (pass_more labels row a.b a.seen.now l.invariant inside to (omega (arith, c.requires.row.2, c.requires.seen_room.0))
           (rw is at w.if-labels-a.true) (rw is at w.if-seen-a.true))
       | else-labels-a w ↦ rw (w.seen-is, w.found-is) (elim w.else-labels-a.branch [
         | else-labels-a-via-then-labels-a+else-seen-a v ↦
