@@ -5,3 +5,4 @@ pub mod Meaning
 pub mod Sets
 pub mod Entry
 pub mod Scene
+pub mod Given

@@ -5,6 +5,7 @@
 // Lent slices stay parameters: a struct of `&mut` fields would owe a ghost name for what each is left as.
 #![tactic(auto)]
 
+pub mod accept;
 mod alive;
 pub mod edges;
 mod infer;
@@ -14,11 +15,10 @@ pub mod steps;
 ghost use Rattle.lists.specs.Rules.{rules_of};
 ghost use Rattle.liveness.specs.Entry.{Analyzed};
 
-use checks::refusals::{liveness_lists, room_for_rows};
-use lists::ends::Ends;
+use accept::Tables;
+use checks::refusals::room_for_rows;
 use lists::rules::rules_of;
-use lists::{COMPONENT, COMPONENTS, CONNECTIONS, Refusal};
-use plot::Plot;
+use lists::{COMPONENT, Refusal};
 use sets::ComponentSet;
 use steps::analyze;
 
@@ -58,8 +58,6 @@ pub fn analyze_signal_liveness(
         regions.old regions.new sources.old sources.new inputs.old inputs.new stack.old stack.new result }
 {
     let rules = rules_of(rules);
-    let mut keys = [0u64; COMPONENTS];
-    let mut ends = [Ends { source: 0, sink: 0 }; CONNECTIONS];
     let count = components.len() / COMPONENT;
     let enough = room_for_rows(
         count,
@@ -68,16 +66,7 @@ pub fn analyze_signal_liveness(
         inputs.len(),
         stack.len(),
     );
-    liveness_lists(
-        rules, components, ports, frontiers, enough, &mut keys, &mut ends,
-    )?;
-    let plot = Plot {
-        keys: &keys[..count],
-        components,
-        ports,
-        frontiers,
-        rules,
-        ends: &ends,
-    };
+    let mut tables = Tables::new();
+    let plot = tables.plot(rules, components, ports, frontiers, enough)?;
     Ok(analyze(&plot, regions, sources, inputs, stack))
 }
