@@ -31,51 +31,49 @@ fn hold(text: &[u8], case: &str) -> Result<usize, Box<dyn Error>> {
     let elements = check(&page, case);
     let report = String::from_utf8(dustroute::report(text)?)?;
     let report = Report::of(&report).ok_or("no report")?;
-    let blocks = elements
-        .iter()
-        .filter(|it| it.0 == "g" && classes(it).contains(&"block"));
+    let blocks = elements.iter();
+    let blocks = blocks.filter(|it| it.0 == "g" && classes(it).contains(&"block"));
     let mut count = 0;
     for block in blocks {
-        let id = value(block, "id")
-            .and_then(|it| it.strip_prefix('b'))
-            .ok_or("no id")?;
-        let [_, _, region, drive, potential] = report.components[&id.parse()?];
-        let state = ["not", "would", "driven"][usize::try_from(drive + potential)?];
-        assert_eq!(
-            value(block, "data-region"),
-            Some(region.to_string().as_str()),
-            "{case}"
-        );
-        assert_eq!(
-            value(block, "data-lights"),
-            Some(drive.to_string().as_str()),
-            "{case}"
-        );
-        assert!(classes(block).contains(&state), "{case}: block {id}");
-        assert_eq!(
-            classes(block).contains(&"unread"),
-            report.unread.contains(&id.parse()?)
-        );
+        hold_block(block, &report, case)?;
         count += 1;
     }
     assert_eq!(count, report.components.len(), "{case}");
-    for (status, class) in ["good", "waits", "empty", "bad"].into_iter().enumerate() {
-        let discs = elements
-            .iter()
-            .filter(|it| it.0 == "circle" && classes(it) == [class]);
-        let wanted = report.inputs.iter().filter(|it| it.status == status as u64);
+    for (status, class) in (0..).zip(["good", "waits", "empty", "bad"]) {
+        let discs = elements.iter();
+        let discs = discs.filter(|it| it.0 == "circle" && classes(it) == [class]);
+        let wanted = report.inputs.iter().filter(|it| it.status == status);
         // One of each stands in the legend.
         assert_eq!(discs.count(), 1 + wanted.count(), "{case}: {class}");
     }
-    let regions = elements
-        .iter()
-        .filter(|it| it.0 == "li" && value(it, "data-region").is_some());
-    let regions = regions.map(|it| value(it, "data-region").unwrap_or_default().to_string());
-    assert!(
-        regions.eq((0..report.regions.len()).map(|it| it.to_string())),
-        "{case}"
-    );
+    let regions = elements.iter().filter(|it| it.0 == "li");
+    let regions = regions.filter_map(|it| value(it, "data-region"));
+    let regions: Vec<&str> = regions.collect();
+    let wanted = (0..report.regions.len()).map(|it| it.to_string());
+    assert_eq!(regions, wanted.collect::<Vec<_>>(), "{case}");
     Ok(page.len())
+}
+
+fn hold_block(block: &Element, report: &Report, case: &str) -> Done {
+    let id = value(block, "id").and_then(|it| it.strip_prefix('b'));
+    let id: u64 = id.ok_or("no id")?.parse()?;
+    let [_, _, region, drive, potential] = report.components[&id];
+    let state = ["not", "would", "driven"][usize::try_from(drive + potential)?];
+    let data = ["data-region", "data-lights"].map(|key| value(block, key));
+    let wanted = [region, drive].map(|it| it.to_string());
+    assert_eq!(
+        data,
+        [Some(wanted[0].as_str()), Some(wanted[1].as_str())],
+        "{case}: {id}"
+    );
+    assert!(classes(block).contains(&state), "{case}: {id}");
+    let is_unread = report.unread.contains(&id);
+    assert_eq!(
+        classes(block).contains(&"unread"),
+        is_unread,
+        "{case}: {id}"
+    );
+    Ok(())
 }
 
 #[test]

@@ -222,6 +222,11 @@ fn two_sheets_that_do_not_go_together() -> Done {
         assert_eq!((code, given.as_str()), (1, ""), "{sheets:?}");
         assert!(errors.starts_with(&wanted), "{errors}");
     }
+    Ok(())
+}
+
+#[test]
+fn two_sheets_that_are_too_much_together() -> Done {
     let row_of = |from: u32| {
         let blocks = (from..from + 600).map(|id| format!("c={id},{id},0,0,0,0,0,0\n"));
         let blocks: String = blocks.collect();

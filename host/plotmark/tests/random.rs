@@ -14,7 +14,8 @@ use plotmark::steps::Step;
 use plotmark::terms::opposite;
 use plotmark::text::{Colours, write};
 use plotmark::words::{Driven, told};
-use scenes::sheets::drawn;
+use scenes::random::Random;
+use scenes::sheets::{drawn, edits};
 
 type Done = Result<(), Box<dyn Error>>;
 
@@ -337,5 +338,38 @@ fn sides_are_those_of_the_core() -> Done {
     }
     println!("kept, and left out by reason: {counts:?}");
     assert!(counts.iter().all(|count| *count > 100));
+    Ok(())
+}
+
+/// Whatever is done to a sheet, it is marked or gets one line of words, in which nothing
+/// of the sheet reaches a terminal as it is.
+#[test]
+fn damaged_sheets_are_told_in_a_line() -> Done {
+    let (mut marked, mut refused) = (0, 0);
+    for seed in 0..SHEETS / 2 {
+        let text = drawn::sheet(seed).text;
+        let random = &mut Random::new(seed);
+        let edit = edits::drawn(&text, random);
+        let text = edit.apply(&text);
+        let Err(refusal) = Marked::read(&text) else {
+            marked += 1;
+            continue;
+        };
+        let told = plotmark::refused::refused("it", &text, refusal);
+        let number = refusal.reason.number();
+        let begins = format!("it: not marked (refusal {number}). ");
+        assert!(
+            told.starts_with(&begins) && told.ends_with('.'),
+            "sheet {seed}: {told}"
+        );
+        assert!(!told.contains(char::is_control), "sheet {seed}: {told:?}");
+        assert!(
+            (begins.len() + 10..500).contains(&told.len()),
+            "sheet {seed}: {told}"
+        );
+        refused += 1;
+    }
+    println!("damaged sheets: {marked} marked, {refused} refused");
+    assert!(marked > 100 && refused > 1_000);
     Ok(())
 }

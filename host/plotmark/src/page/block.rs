@@ -1,11 +1,13 @@
 //! A block of the picture.
 
+use std::fmt::Display;
+
 use dustroute::{
     Component, ComponentId, Facing, RequiredInputStatus, SignalSource, SignalSourceKind,
 };
 
 use super::layers::{HEIGHT, Spot, WIDTH};
-use super::shapes::{self, State};
+use super::shapes::{self, State, label};
 use crate::html::Html;
 use crate::plot::{Input, Marked};
 use crate::terms;
@@ -84,53 +86,40 @@ pub fn anchor(id: ComponentId) -> String {
 
 /// Draws a block where it belongs.
 pub fn draw(html: &mut Html, marked: &Marked, found: &Found<'_>, spot: Spot) {
-    let id = found.block.id;
-    let unread = marked.plot.sheet.rules.leaves_unread(found.block);
-    let class = format!(
-        "block {}{}",
-        found.state.class(),
-        if unread { " unread" } else { "" }
-    );
+    let is_unread = marked.plot.sheet.rules.leaves_unread(found.block);
+    let unread = if is_unread { " unread" } else { "" };
+    let class = format!("block {}{unread}", found.state.class());
     let lights = u8::from(found.state == State::Driven);
-    let attributes: &[(&str, &dyn std::fmt::Display)] = &[
+    let attributes: &[(&str, &dyn Display)] = &[
         ("class", &class),
-        ("id", &anchor(id)),
+        ("id", &anchor(found.block.id)),
         ("role", &"img"),
         ("data-region", &found.region),
         ("data-lights", &lights),
     ];
     html.within("g", attributes, |html| {
         html.saying("title", &[], &found.said(marked));
-        let (x, y) = (spot.x, spot.y);
-        html.empty(
-            "rect",
-            &[
-                ("x", &x),
-                ("y", &y),
-                ("width", &WIDTH),
-                ("height", &HEIGHT),
-                ("rx", &5),
-            ],
-        );
-        label(
-            html,
-            "kind",
-            (x + WIDTH / 2, y + 21),
-            &terms::short_kind(found.block.kind),
-        );
-        let digits = id.0.to_string();
-        label(
-            html,
-            id_class(digits.len()),
-            (x + WIDTH / 2, y + 37),
-            &digits,
-        );
-        shapes::lamp(html, found.state, (x + 23, y + 47));
-        label(html, "region", (x + 31, y + 50), &found.region.to_string());
-        facing(html, found, unread, spot);
+        names(html, found, spot);
+        facing(html, found, is_unread, spot);
         signs(html, found, spot);
     });
     html.line();
+}
+
+/// The block with its kind, its id, its state and its region.
+fn names(html: &mut Html, found: &Found<'_>, Spot { x, y }: Spot) {
+    let middle = x + WIDTH / 2;
+    shapes::outline(html, (x, y), (WIDTH, HEIGHT));
+    label(
+        html,
+        "kind",
+        (middle, y + 21),
+        &terms::short_kind(found.block.kind),
+    );
+    let digits = found.block.id.0.to_string();
+    label(html, id_class(digits.len()), (middle, y + 37), &digits);
+    shapes::lamp(html, found.state, (x + 23, y + 47));
+    label(html, "region", (x + 31, y + 50), &found.region.to_string());
 }
 
 /// How large an id is written.
@@ -140,10 +129,6 @@ const fn id_class(digits: usize) -> &'static str {
         6..=7 => "name long",
         _ => "name longer",
     }
-}
-
-fn label(html: &mut Html, class: &str, (x, y): (i32, i32), text: &str) {
-    html.saying("text", &[("class", &class), ("x", &x), ("y", &y)], text);
 }
 
 /// A triangle on the side to which a device faces.
@@ -175,16 +160,7 @@ fn signs(html: &mut Html, found: &Found<'_>, spot: Spot) {
     let corner = (spot.x + WIDTH, spot.y);
     if !found.sources.is_empty() {
         if found.is_place() {
-            html.empty(
-                "circle",
-                &[
-                    ("class", &"place"),
-                    ("cx", &corner.0),
-                    ("cy", &corner.1),
-                    ("r", &7),
-                ],
-            );
-            label(html, "place", (corner.0, corner.1 + 4), "?");
+            shapes::place(html, corner);
         } else {
             shapes::star(html, corner);
         }

@@ -3,8 +3,11 @@
 use std::fmt::Display;
 
 use super::block::VERDICTS;
-use super::shapes::{self, State};
+use super::shapes::{self, Point, State};
 use crate::html::Html;
+
+/// Where a sign is drawn in its field.
+const MIDDLE: Point = (15, 11);
 
 /// Draws the legend.
 pub fn draw(html: &mut Html) {
@@ -17,6 +20,7 @@ pub fn draw(html: &mut Html) {
                 states(html);
                 verdicts(html);
                 others(html);
+                arrows(html);
             });
         },
     );
@@ -42,64 +46,38 @@ fn states(html: &mut Html) {
     for state in [State::Driven, State::Would, State::Not] {
         let class = format!("block {}", state.class());
         sign(html, state.said(), &class, |html| {
-            html.empty(
-                "rect",
-                &[
-                    ("x", &2),
-                    ("y", &2),
-                    ("width", &26),
-                    ("height", &18),
-                    ("rx", &4),
-                ],
-            );
-            shapes::lamp(html, state, (15, 11));
+            shapes::outline(html, (2, 2), (26, 18));
+            shapes::lamp(html, state, MIDDLE);
         });
     }
+    let said = "beside it the number of the block's region";
+    sign(html, said, "block", |html| {
+        shapes::lamp(html, State::Driven, (9, 11));
+        shapes::label(html, "region", (17, 14), "3");
+    });
 }
 
 fn verdicts(html: &mut Html) {
     for (status, said) in VERDICTS {
         let said = format!("on the side of an input: {said}");
         sign(html, &said, "block", |html| {
-            shapes::disc(html, status, (15, 11))
+            shapes::disc(html, status, MIDDLE)
         });
     }
 }
 
 fn others(html: &mut Html) {
-    sign(
-        html,
-        "beside it the number of the block's region",
-        "block",
-        |html| {
-            shapes::lamp(html, State::Driven, (9, 11));
-            html.saying("text", &[("class", &"region"), ("x", &17), ("y", &14)], "3");
-        },
-    );
-    sign(html, "a source", "block", |html| {
-        shapes::star(html, (15, 11))
+    let said = "a place where an input could be put";
+    sign(html, "a source", "block", |html| shapes::star(html, MIDDLE));
+    sign(html, said, "block", |html| shapes::place(html, MIDDLE));
+    let said = "how a device faces (empty: not known, taken as North)";
+    sign(html, said, "block", |html| {
+        shapes::head(html, "faces", (11, 11), (1, 0));
+        shapes::head(html, "faces taken", (24, 11), (1, 0));
     });
-    sign(
-        html,
-        "a place where an input could be put",
-        "block",
-        |html| {
-            html.empty(
-                "circle",
-                &[("class", &"place"), ("cx", &15), ("cy", &11), ("r", &7)],
-            );
-            html.saying("text", &[("class", &"place"), ("x", &15), ("y", &15)], "?");
-        },
-    );
-    sign(
-        html,
-        "how a device faces (empty: not known, taken as North)",
-        "block",
-        |html| {
-            shapes::head(html, "faces", (11, 11), (1, 0));
-            shapes::head(html, "faces taken", (24, 11), (1, 0));
-        },
-    );
+}
+
+fn arrows(html: &mut Html) {
     sign(html, "feeds; both ways", "arrow", |html| {
         shapes::line(html, "shaft", (2, 5), (22, 5));
         shapes::head(html, "head", (27, 5), (1, 0));
@@ -107,33 +85,27 @@ fn others(html: &mut Html) {
         shapes::head(html, "head", (27, 16), (1, 0));
         shapes::head(html, "head", (2, 16), (-1, 0));
     });
-    sign(
-        html,
-        "feeds, or is fed by, the layer above or below",
-        "stub",
-        |html| {
-            shapes::head(html, "head", (10, 11), (1, 0));
-            shapes::head(html, "to", (15, 8), (0, -1));
-            shapes::head(html, "to", (24, 14), (0, 1));
-        },
-    );
-    sign(html, "a connection that was left out", "left-out", |html| {
-        shapes::cross(html, false, (15, 11));
+    let said = "feeds, or is fed by, the layer above or below";
+    sign(html, said, "stub", |html| {
+        shapes::head(html, "head", (10, 11), (1, 0));
+        shapes::head(html, "to", (15, 8), (0, -1));
+        shapes::head(html, "to", (24, 14), (0, 1));
     });
-    sign(
-        html,
-        "one that names a block which is not on the plot",
-        "left-out",
-        |html| {
-            shapes::cross(html, true, (15, 11));
-        },
-    );
-    sign(
-        html,
-        "support, which carries no signal",
-        "left-out support",
-        |html| {
-            shapes::cross(html, false, (15, 11));
-        },
-    );
+    for (said, class, is_gone) in [
+        ("a connection that was left out", "left-out", false),
+        (
+            "one that names a block which is not on the plot",
+            "left-out",
+            true,
+        ),
+        (
+            "support, which carries no signal",
+            "left-out support",
+            false,
+        ),
+    ] {
+        sign(html, said, class, |html| {
+            shapes::cross(html, is_gone, MIDDLE)
+        });
+    }
 }

@@ -7,8 +7,10 @@ mod grid;
 mod layers;
 mod legend;
 mod links;
+mod lost;
 mod shapes;
 mod strip;
+mod stubs;
 mod telling;
 
 use crate::html::Html;
