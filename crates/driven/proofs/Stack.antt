@@ -21,7 +21,7 @@ use Rattle.graph.proofs.Frames.{Placed, AllPlaced}
 use Rattle.graph.proofs.Stack.{effort}
 use Rattle.driven.specs.Seek.{Search, seek, seeking}
 use Rattle.driven.specs.Search.{search_of, SeekRoom, SeeksFrom}
-use Rattle.driven.proofs.Passing.{seek_goal}
+use Rattle.driven.proofs.Passing.{seek_met, seek_goal}
 use Rattle.driven.proofs.Frames.{finish, finish_start, finish_leave, finish_pass, finish_enter, finish_goal}
 
 -- no more nodes are new than there are
@@ -214,6 +214,11 @@ module _ {n : ℕ} {edge : Edges} {ends next : List ℕ} {goals : List Bool} {go
           omega arith
 
 -- ---- a whole search
+
+-- the start is met already
+pub seeks_old : (n : ℕ) (edge : Edges) (goals : List Bool) (x : ℕ) (met : List Bool) (stack : List ℕ) → Zeros stack → marked met x ≡ true
+    → SeeksFrom n edge goals x met met false stack
+seeks_old n edge goals x met stack z old = record { seeks = sym (seek_met n edge goals n x (seeking met) old); stack_zeros = z }
 
 -- the start is a goal
 pub seeks_goal : {n : ℕ} (edge : Edges) (goals : List Bool) {x : ℕ} (met : List Bool) (stack : List ℕ) → x < n → Zeros stack → marked met x ≡ false → marked goals x ≡ true

@@ -12,7 +12,7 @@ use Rattle.regions.specs.Kosaraju.{starts_of}
 use Rattle.regions.proofs.Laws.Loops.{each_append}
 use Rattle.driven.specs.Seek.{Search, seek, seeking, sought}
 use Rattle.driven.specs.Search.{search_of, SeekRoom, SeeksFrom, Seeks}
-use Rattle.driven.proofs.Passing.{seek_met, each_stopped}
+use Rattle.driven.proofs.Passing.{each_stopped}
 
 -- ---- the starts, by rising number
 
@@ -130,12 +130,6 @@ module _ {n : ℕ} {edge : Edges} {goals starts met : List Bool} {stack : List �
             ∙ ap (λ (j : ℕ). each f (starts_of j starts) (seeking (replicate n false))) all;
         stack_zeros = s.stack_zeros;
       }
-
--- a start that is met
-pub going_met : {n : ℕ} {edge : Edges} {goals starts met : List Bool} {stack : List ℕ} {start : ℕ} → Going n edge goals starts met stack start
-    → marked starts start ≡ true → marked met start ≡ true → Going n edge goals starts met stack (start + 1)
-going_met {n} {edge} {goals} {met = met} {start = start} g marks old =
-    going_on g marks (record { seeks = sym (seek_met n edge goals n start (seeking met) old); stack_zeros = g.room.stack_zeros }) refl refl refl
 
 -- no start is left
 pub going_end : {n : ℕ} {edge : Edges} {goals starts met : List Bool} {stack : List ℕ} {start : ℕ} → Going n edge goals starts met stack start → start ≤ n → n ≤ start

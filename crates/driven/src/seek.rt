@@ -1,14 +1,13 @@
 // A search along the edges of a graph from some nodes, which stops at the first goal. The calls of the recursive definition are a stack that the
 // caller lends.
-ghost use Rattle.std.specs.Prelude.{false, ◌≡◌, ◌<◌, length};
-ghost use Rattle.regions.specs.Graph.{marked};
+ghost use Rattle.std.specs.Prelude.{◌≡◌, ◌<◌, length};
 ghost use Rattle.graph.specs.Rows.{edges_of};
 ghost use Rattle.driven.specs.Search.{SeekRoom, SeeksFrom, Seeks};
 
 use graph::{Graph, begin_of};
 
-// Meets the nodes that `start`, which is not met, leads to over nodes that are not met, each one's own neighbours before the next, up to the
-// first goal; answers whether it met one. The open call is at a place of the row of `node`; the stack holds the same of each call below it.
+// Meets the nodes that `start` leads to over nodes that are not met, each one's own neighbours before the next, up to the first goal; answers
+// whether it met one. The open call is at a place of the row of `node`; the stack holds the same of each call below it.
 // The loop is by hand, as in `visit_from` of crate `graph`: the stack grows and shrinks as the search goes.
 fn seek_from(
     graph: Graph,
@@ -17,11 +16,13 @@ fn seek_from(
     met: &mut [bool],
     stack: &mut [usize],
 ) -> bool
-    requires { let n = length graph.ends.now in (start < n) × (marked met.old start ≡ false)
-        × SeekRoom n goals.now met.old stack.old }
+    requires { let n = length graph.ends.now in (start < n) × SeekRoom n goals.now met.old stack.old }
     ensures { let n = length graph.entry.ends.now in
         SeeksFrom n (edges_of graph.entry.ends.now graph.entry.next.now) goals.now start met.old met.new result stack.new }
 {
+    if met[start] {
+        return false;
+    }
     met[start] = true;
     if goals[start] {
         return true;
@@ -73,7 +74,7 @@ pub fn seek_all(
 {
     met.fill(false);
     for (start, is_start) in starts.iter().enumerate() {
-        if *is_start && !met[start] && seek_from(graph, start, goals, met, stack) {
+        if *is_start && seek_from(graph, start, goals, met, stack) {
             return true;
         }
     }

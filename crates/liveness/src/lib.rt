@@ -1,7 +1,6 @@
 // Regions, sources, drive and verdicts of a scene.
-// `length has_drive ≡ component_limit` stands at each stage that fills or reads the flags: they are lent apart from a plot, and three of
-// the stages are public, which an array in place of the slice would narrow. `(ps : List ℤ)` binds the port connections that a stage is not
-// lent.
+// `length has_drive ≡ component_limit` stands at each stage that fills or reads the flags: they are lent apart from a plot, and two of the
+// stages are public, which an array in place of the slice would narrow.
 // Marks (driven, possible; members, regions) stay slices of their own: each is gathered or spread by itself.
 // Lent slices stay parameters: a struct of `&mut` fields would owe a ghost name for what each is left as.
 #![tactic(auto)]

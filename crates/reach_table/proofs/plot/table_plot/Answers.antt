@@ -2,8 +2,6 @@
 -- Assumes nothing.
 use mathlib.Core.Path.{sym, subst, ◌∙◌}
 use Prim.Native.Nat.{ℕ}
-use lib.ListN.{length}
-use Rattle.lists.specs.Records.{component_count}
 use Rattle.liveness.proofs.Lent.{nodes_lent, flags_lent, nodes_are, nodes_few}
 use Rattle.graph.specs.Rows.{edges_of}
 use Rattle.graph.proofs.Rows.{edges_are, own_rows}

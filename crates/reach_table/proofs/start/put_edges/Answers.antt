@@ -1,8 +1,7 @@
 -- Answers for the goals that the search leaves.
-use mathlib.Core.Path.{sym, subst, ◌∙◌}
+use mathlib.Core.Path.{subst}
 use Prim.Native.Nat.{ℕ, ◌<◌}
 use native.Mathlib.Omega.{arith}
-use lib.ListN.{length}
 use Rattle.lists.specs.Records.{component_count}
 use Rattle.liveness.proofs.Lent.{nodes_are}
 use Rattle.graph.specs.Rows.{edges_of, Rows}
