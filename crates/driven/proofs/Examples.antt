@@ -7,7 +7,6 @@ use lib.ListN.{set, replicate}
 use Rattle.tables.specs.Order.{member}
 use Rattle.tables.specs.Pairs.{pair}
 use Rattle.regions.specs.Graph.{Edges, range, filter, each, next}
-use Rattle.regions.specs.Keys.{edges}
 use Rattle.driven.specs.Seek.{seek, sought}
 use Rattle.driven.specs.Search.{search_of}
 

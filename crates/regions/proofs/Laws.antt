@@ -7,8 +7,6 @@
 --     Main       the theorems on regions
 --     Reach      the theorems on reach
 --     Loops      for a proof of the program: one more turn of each of its loops
---     Keys       graphs of tables of keys
-pub mod Keys
 pub mod Lists
 pub mod Loops
 pub mod Main

@@ -3,19 +3,15 @@
 --     Theorems  what specs/Theorems.antt states
 --     Fill      lists of one value
 --     Again     a walk passes a visited node over
---     Rows      next_unvisited: the keys of a node are its neighbours
 --     Frames    the open calls of `visit` as a stack of frames
---     Stack     visit_from
---     Order     finish_order, reach_from
---     Label     paint, label_from, label_all, regions
---     Carried   what specs/Carry.antt states
+--     Stack     a lent stack as frames
+--     Order     walks from a list of nodes
+--     Label     the labels of a region
 pub mod Laws
 pub mod Theorems
 pub mod Fill
 pub mod Again
-pub mod Rows
 pub mod Frames
 pub mod Stack
 pub mod Order
 pub mod Label
-pub mod Carried

@@ -1,12 +1,10 @@
--- The theorems that specs/Theorems.antt states, and that they hold of every table of keys. More on tables is in `Laws.Keys`.
+-- The theorems that specs/Theorems.antt states.
 -- Assumes nothing.
 use mathlib.Core.Bool.{Bool}
 use mathlib.Core.List.{List}
 use Prim.Native.Nat.{ℕ}
 use Rattle.regions.specs.Graph.{Edges, Within}
-use Rattle.regions.specs.Keys.{edges}
 use Rattle.regions.specs.Theorems.{RegionLaws, ReachLaws}
-use Rattle.regions.proofs.Laws.Keys as Keys
 use Rattle.regions.proofs.Laws.Main as Main
 use Rattle.regions.proofs.Laws.Reach as Reach
 
@@ -28,12 +26,3 @@ reach_laws n edge within starts =
       includes = Reach.reached_includes n edge within starts;
       long = Reach.reached_length n edge within starts;
     }
-
-pub edges_within : (n : ℕ) (keys : List ℕ) → Within n (edges n keys)
-edges_within = Keys.edges_within
-
-pub keys_regions : (n : ℕ) (keys : List ℕ) → RegionLaws n (edges n keys)
-keys_regions n keys = region_laws n (edges n keys) (edges_within n keys)
-
-pub keys_reach : (n : ℕ) (keys : List ℕ) (starts : List Bool) → ReachLaws n (edges n keys) starts
-keys_reach n keys starts = reach_laws n (edges n keys) (edges_within n keys) starts

@@ -1,11 +1,8 @@
 -- What the contracts say: what a walk asks of the arrays that it is lent, and how they hold the states of `Kosaraju`. The stack is the one
 -- that document 01 has the caller lend, n pairs; it is zero before and after. Document 01, "liveness.rs".
 -- Assumes nothing: these are definitions.
-use Rattle.std.specs.Prelude.{◌≡◌, Bool, true, false, cond, List, [], ◌∷◌, ℕ, ◌+◌, ◌*◌, ◌≤◌, ◌<◌, length, get_or, set, take, drop}
-use Rattle.tables.specs.Order.{Ascending, LowerBound}
-use Rattle.tables.specs.Pairs.{span}
-use Rattle.regions.specs.Graph.{Edges, marked}
-use Rattle.regions.specs.Keys.{Next, NoNext}
+use Rattle.std.specs.Prelude.{◌≡◌, Bool, cond, List, [], ◌∷◌, ℕ, ◌+◌, ◌≤◌, get_or, take, drop}
+use Rattle.regions.specs.Graph.{Edges}
 use Rattle.regions.specs.Kosaraju as Kosaraju
 use Rattle.regions.specs.Kosaraju.{Walk, visit, Labels, label, reached}
 
@@ -27,45 +24,6 @@ fresh visited = weight 1 visited
 -- every place holds 0
 abbrev pub Zeros : List ℕ → Type 0
 Zeros l = (i : ℕ) → get_or l i 0 ≡ 0
-
--- what a walk asks: the keys rise, the arrays that it is lent are large enough, and the stack is zero
-pub record Room (n : ℕ) (keys : List ℕ) (visited : List Bool) (order stack : List ℕ) : Type 0 where
-  pub nodes : n ≤ span
-  pub keys_rise : Ascending keys
-  pub visited_length : length visited ≡ n
-  pub order_room : n ≤ length order
-  pub stack_room : 2 * n ≤ length stack
-  pub stack_zeros : Zeros stack
-
--- what opening the call of x at a place of the stack does: x is marked, and x and the place of its first key are stored
-pub record Entered (keys : List ℕ) (x at : ℕ) (visited₀ : List Bool) (stack₀ : List ℕ) (visited : List Bool) (stack : List ℕ) : Type 0 where
-  pub place : ℕ
-  pub start : LowerBound keys (x * span) place
-  pub visited_is : visited ≡ set visited₀ x true
-  pub stack_is : stack ≡ set (set stack₀ at x) (at + 1) place
-
--- a neighbour of x that is visited stands at the place
-pub record Passed (n : ℕ) (keys : List ℕ) (visited : List Bool) (x place : ℕ) : Type 0 where
-  pub node : ℕ
-  pub stands : Next n keys x place node
-  pub old : marked visited node ≡ true
-
--- a search for a neighbour of x that is not visited has come to the place: it passed visited ones
-pub record Skipped (n : ℕ) (keys : List ℕ) (visited : List Bool) (x from place : ℕ) : Type 0 where
-  pub onward : from ≤ place
-  pub passed : (i : ℕ) → i < place → from ≤ i → Passed n keys visited x i
-
--- it finds k there
-pub record Found (n : ℕ) (keys : List ℕ) (visited : List Bool) (x from place k : ℕ) : Type 0 where
-  pub skipped : Skipped n keys visited x from place
-  pub stands : Next n keys x place k
-  pub new : marked visited k ≡ false
-
--- it comes to a place from which on there is none
-pub record Spent (n : ℕ) (keys : List ℕ) (visited : List Bool) (x from : ℕ) : Type 0 where
-  pub place : ℕ
-  pub skipped : Skipped n keys visited x from place
-  pub ends : NoNext n keys x place
 
 -- what a walk from x does: it is `visit`, it touches no place of the order past the nodes that it adds, and it leaves the stack zero
 pub record Searched (n : ℕ) (edge : Edges) (x : ℕ) (visited₀ : List Bool) (order₀ : List ℕ) (count₀ : ℕ)
