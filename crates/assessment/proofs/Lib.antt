@@ -1,6 +1,6 @@
 -- Laws of the definitions, for the proofs of this crate and of those above it.
 --     Positions, Frontiers                  where components that ascend part, and the first of each part
---     Reached                               marks carried along the pairs of regions give `drive` and `potential`
+--     Reached                               marks carried along the edges give `drive` and `potential`
 --     Fed, Places, Statuses                 the keys and the flags of a slot, and its status
 --     UpRows                                the rows of what is upstream of each region
 --     Written, Devices, Required, RowLaws   the rows written are those of the document

@@ -1,10 +1,12 @@
 -- The table of what is upstream of each region: a row to a region, which is a set of members.
 -- Assumes nothing: these are definitions.
-use Rattle.std.specs.Prelude.{ℕ, ◌≡◌, Bool, false, ◌&&◌, List, [], eqb, ltb, length, get_or}
+use Rattle.std.specs.Prelude.{ℕ, ◌≡◌, ◌<◌, Bool, true, false, ◌&&◌, List, [], ◌↔◌, eqb, ltb, get_or, map}
 use Rattle.sets.specs.declared.ComponentSet.{ComponentSet}
 use Rattle.sets.specs.Members.{member_of}
-use Rattle.regions.specs.Graph.{at, marked}
-use Rattle.regions.specs.Carry.{carry}
+use Rattle.regions.specs.Graph.{Edges, Reach, at, marked}
+use Rattle.regions.specs.Kosaraju.{region_of}
+use Rattle.graph.specs.Carried.{Carried}
+use Rattle.graph.specs.inner.Marks.{Handed}
 
 -- what stands for a row past the last
 abbrev pub no_row : ComponentSet
@@ -22,10 +24,19 @@ RowsEmpty rows = (r k : ℕ) → in_row rows r k ≡ false
 pub record Seeded (n : ℕ) (labels : List ℕ) (flags : List Bool) (rows : List ComponentSet) : Type 0 where
   pub at : (r k : ℕ) → in_row rows r k ≡ ((ltb k n && marked flags k) && eqb (at labels k) r)
 
--- each member's marks of regions are carried along the keys
-pub record Carried (keys : List ℕ) (old new : List ComponentSet) : Type 0 where
-  pub at : (r k : ℕ) → in_row new r k ≡ carry keys (λ s. in_row old s k) r
+-- member k's marks: the regions in whose rows it is
+abbrev pub column : ℕ → List ComponentSet → List Bool
+column k rows = map (λ row. member_of row.words k) rows
 
--- the row of each region has the flagged members whose region's mark is carried to it
-pub record UpstreamRows (keys labels : List ℕ) (flags : List Bool) (rows : List ComponentSet) : Type 0 where
-  pub at : (r k : ℕ) → in_row rows r k ≡ ((ltb k (length labels) && marked flags k) && carry keys (λ s. eqb (at labels k) s) r)
+-- each member's mark of region r is handed on to the regions of the first `count` nodes
+pub record RowHanded (nodes labels : List ℕ) (count r : ℕ) (old new : List ComponentSet) : Type 0 where
+  pub of : (k : ℕ) → Handed nodes labels count r (column k old) (column k new)
+
+-- each member's marks are carried along the edges
+pub record RowsCarried (n : ℕ) (edge : Edges) (old new : List ComponentSet) : Type 0 where
+  pub of : (k : ℕ) → Carried n edge (column k old) (column k new)
+
+-- the row of a node's region has exactly the flagged nodes that reach the node
+pub record UpstreamRows (n : ℕ) (edge : Edges) (flags : List Bool) (rows : List ComponentSet) : Type 0 where
+  pub exactly : (b k : ℕ) → b < n
+      → (in_row rows (at (region_of n edge) b) k ≡ true) ↔ ((k < n) × (marked flags k ≡ true) × Reach edge k b)

@@ -12,10 +12,10 @@ use mathlib.Core.Logic.{⊎_elim}
 use Prim.Native.Nat.{ℕ, ◌+◌, ◌%◌, ◌≤◌, ◌<◌}
 use native.Mathlib.Nat.{eq-or-lt_of_le}
 use native.Mathlib.Omega.{arith}
-use lib.Dec.{eqb, ltb}
+use lib.Dec.{ltb}
 use lib.ListN.{length, get_or}
 use lib.IntN.{ℤ}
-use borrow.Author.Tests.{eqb-true, eq-eqb, ltb-true, lt-ltb}
+use borrow.Author.Tests.{ltb-true, lt-ltb}
 use Rattle.tables.specs.Order.{member}
 use Rattle.tables.specs.Laws.{same?}
 use Rattle.tables.specs.Pairs.{pair, span}
@@ -25,11 +25,9 @@ use Rattle.lists.specs.Limits.{component_limit}
 use Rattle.lists.specs.Records.{component_count}
 use Rattle.lists.specs.First.{tabulate}
 use Rattle.lists.proofs.Search.{never, both}
-use Rattle.regions.specs.Graph.{Reach, at, marked, flip}
-use Rattle.regions.specs.Carry.{carry, CarryLaws}
+use Rattle.regions.specs.Graph.{Edges, Reach, at, marked, flip}
 use Rattle.regions.proofs.Theorems.{reach_laws}
-use Rattle.regions.proofs.Carried.{carry_laws}
-use Rattle.regions.proofs.Laws.Walks.{Reach·trans, Reach·flip}
+use Rattle.regions.proofs.Laws.Walks.{Reach·flip}
 use Rattle.signals.specs.Signals.{signals}
 use Rattle.signals.specs.Regions.{labels, is_inferred}
 use Rattle.signals.specs.Drive.{members_where}
@@ -38,7 +36,7 @@ use Rattle.assessment.specs.Upstream.{in_row, UpstreamRows}
 use Rattle.signals.proofs.Tabulated.{tabulated_at}
 use Rattle.lists.proofs.Some.{and_true}
 use Rattle.signals.proofs.Tested.{same_truth}
-use Rattle.signals.proofs.Within.{signals_within, scene_regions, labels_count, labels_under}
+use Rattle.signals.proofs.Within.{signals_within, labels_count, labels_under}
 use Rattle.liveness.specs.Sets.{SetWhere}
 use Rattle.inputs.specs.Query.{is_immediate, upstream, is_inferred_for, row_place, PortSets}
 use Rattle.inputs.specs.Inputs.{SlotOf, SlotKeys, Ready, SlotSets}
@@ -141,10 +139,9 @@ module _ {keys cut : List ℕ} {number : ℕ} {labelled : List ℕ} {rows : List
 -- ---- the table of a prepared scene
 
 -- the same of equal arrays
-pub rows_as : {keys labelled labelled' : List ℕ} {flags flags' : List Bool} {rows : List ComponentSet} → labelled ≡ labelled' → flags ≡ flags'
-    → UpstreamRows keys labelled flags rows → UpstreamRows keys labelled' flags' rows
-rows_as {keys} {labelled} {labelled'} {flags} {flags'} {rows} a b u =
-    subst (λ (f : List Bool). UpstreamRows keys labelled' f rows) b (subst (λ (l : List ℕ). UpstreamRows keys l flags rows) a u)
+pub rows_as : {n n' : ℕ} {edge edge' : Edges} {flags flags' : List Bool} {rows : List ComponentSet} → n ≡ n' → edge ≡ edge' → flags ≡ flags'
+    → UpstreamRows n edge flags rows → UpstreamRows n' edge' flags' rows
+rows_as a b c u = rw (← a, ← b, ← c) u
 
 pub ready_as : {rules : ℕ} {cs ps fs : List ℤ} {fed labelled fed' labelled' : List ℕ} {rows : List ComponentSet} → fed' ≡ fed → labelled' ≡ labelled → Ready rules cs ps fs fed labelled rows → Ready rules cs ps fs fed' labelled' rows
 ready_as a b r = rw (a, b) r
@@ -182,18 +179,6 @@ module _ {rules : ℕ} {cs ps fs : List ℤ} {p port : ℕ} {fed labelled : List
   immediate : SetWhere n (is_immediate cs ps p port) r.immediate.words
   immediate = set_below long (λ k h. immediate_at q k (omega (arith, few))) s.immediate
 
-  -- where the mark of a member's region is carried
-  laws : (k : ℕ) → CarryLaws n (signals cs ps) ready.keys (eqb (label k))
-  laws k = carry_laws n (signals cs ps) (signals_within cs ps q.fed_scene.scene.ends) (omega (arith, few)) ready.keys ready.pairs (eqb (label k))
-
-  carried : (k a : ℕ) → k < n → a < n → Reach (signals cs ps) k a → carry ready.keys (eqb (label k)) (label a) ≡ true
-  carried k a h l path = ((laws k).exactly a l).1 (k, h, eq-eqb (label k) (label k) refl, path)
-
-  reaches : (k a : ℕ) → k < n → a < n → carry ready.keys (eqb (label k)) (label a) ≡ true → Reach (signals cs ps) k a
-  reaches k a h l t =
-      let (b, m, same, path) = ((laws k).exactly a l).0 t in
-      Reach·trans (((scene_regions cs ps q.fed_scene.scene.ends).same k b h m).0 (eqb-true (label k) (label b) same)).0 path
-
   starts_at : (a : ℕ) → a < n → marked (tabulate (is_immediate cs ps p port) n) a ≡ is_immediate cs ps p port a
   starts_at a h = tabulated_at (is_immediate cs ps p port) false n a h
 
@@ -211,21 +196,17 @@ module _ {rules : ℕ} {cs ps fs : List ℤ} {p port : ℕ} {fed labelled : List
       let (a, h, e, path) = (back.exactly k).0 t in
       (a, h, sym (starts_at a h) ∙ e, Reach·flip path)
 
-  row_at : (a k : ℕ) → in_row rows (at labelled a) k ≡ ((ltb k n && marked flags k) && carry ready.keys (eqb (label k)) (label a))
-  row_at a k =
-      ap (λ (l : List ℕ). in_row rows (at l a) k) ready.labels_are ∙ ready.rows.at (label a) k
-      ∙ ap (λ (m : ℕ). (ltb k m && marked flags k) && carry ready.keys (eqb (label k)) (label a)) count
+  row_at : (a k : ℕ) → in_row rows (at labelled a) k ≡ in_row rows (label a) k
+  row_at a k = ap (λ (l : List ℕ). in_row rows (at l a) k) ready.labels_are
 
   there : (k : ℕ) → member_of r.inferred.words k ≡ true → (ltb k n && is_inferred_for rules cs ps fs p port k) ≡ true
   unfolding is_inferred_for
   there k t =
       let (a, h, m, row) = s.from k t in
-      let parts = both (ltb k n && marked flags k) (carry ready.keys (eqb (label k)) (label a)) (sym (row_at a k) ∙ row) in
-      let flagged = both (ltb k n) (marked flags k) parts.0 in
-      let small = ltb-true k n flagged.0 in
       let node : a < n = omega (arith, h, long) in
-      let up = above k a node (sym (immediate_at q a (omega (arith, node, few))) ∙ m) (reaches k a small node parts.1) in
-      and_true (ltb k n) (marked (upstream cs ps p port) k && marked flags k) flagged.0 (and_true (marked (upstream cs ps p port) k) (marked flags k) up flagged.1)
+      let (small, flag, path) = (ready.rows.exactly a k node).0 (sym (row_at a k) ∙ row) in
+      let up = above k a node (sym (immediate_at q a (omega (arith, node, few))) ∙ m) path in
+      and_true (ltb k n) (marked (upstream cs ps p port) k && marked flags k) (lt-ltb k n small) (and_true (marked (upstream cs ps p port) k) (marked flags k) up flag)
 
   back : (k : ℕ) → (ltb k n && is_inferred_for rules cs ps fs p port k) ≡ true → member_of r.inferred.words k ≡ true
   unfolding is_inferred_for
@@ -235,8 +216,7 @@ module _ {rules : ℕ} {cs ps fs : List ℤ} {p port : ℕ} {fed labelled : List
       let marks = both (marked (upstream cs ps p port) k) (marked flags k) parts.1 in
       let (a, h, e, path) = below k marks.0 in
       s.all a k (omega (arith, h, long)) (immediate_at q a (omega (arith, h, few)) ∙ e)
-      (row_at a k
-      ∙ and_true (ltb k n && marked flags k) (carry ready.keys (eqb (label k)) (label a)) (and_true (ltb k n) (marked flags k) parts.0 marks.1) (carried k a small h path))
+      (row_at a k ∙ (ready.rows.exactly a k h).1 (small, marks.1, path))
 
   inferred : SetWhere n (is_inferred_for rules cs ps fs p port) r.inferred.words
   inferred = record { member = λ k. same_truth (member_of r.inferred.words k) (ltb k n && is_inferred_for rules cs ps fs p port k) (there k) (back k) }

@@ -3,7 +3,7 @@
 --     Flagged, flagged-..            the flags of a slot's keys, by the keys passed so far
 --     immediate_is                   a slot's keys are the immediate sources of its port
 --     both_flags                     the flags of the nodes reached that are inferred
---     fed_scene, graph_back, ..      what the ports of a prepared scene are asked by
+--     fed_scene                      what the ports of a scene are asked by
 --     slot_asked, immediate_at       what `SlotOf` says of the table of fed ports
 --     none_fed, immediate_set, ..    the two sets of the port, by a walk
 --     row_place_lem, row_found, ..       the place of the port asked for
@@ -42,9 +42,10 @@ use Rattle.lists.proofs.Fields.{first_most}
 use Rattle.faces.specs.Ports.{ports_of}
 use Rattle.faces.proofs.Sound.{ports_few}
 use Rattle.regions.specs.Graph.{Edges, marked, flip}
-use Rattle.regions.specs.Keys.{edges}
+use Rattle.graph.specs.Rows.{edges_of}
+use Rattle.graph.proofs.Rows.{edges_are}
 use Rattle.regions.specs.Kosaraju.{reached}
-use Rattle.regions.proofs.Theorems.{keys_reach}
+use Rattle.regions.proofs.Theorems.{reach_laws}
 use Rattle.signals.specs.Signals.{is_signal, source_member, sink_member, signals}
 use Rattle.signals.specs.Drive.{members_where}
 use Rattle.assessment.specs.Verdicts.{is_required, has_row}
@@ -54,13 +55,13 @@ use Rattle.signals.specs.Flags.{Flags}
 use Rattle.liveness.specs.Sets.{SetWhere}
 use Rattle.assessment.specs.Rows.{SlotWithin}
 use Rattle.inputs.specs.Query.{is_immediate, upstream, is_inferred_for, with_row, row_place, PortSets, InputsBy}
-use Rattle.liveness.specs.Scene.{Scene, Prepared}
-use Rattle.signals.specs.Stages.{Tables, FedTable}
+use Rattle.liveness.specs.Scene.{Accepted}
+use Rattle.signals.specs.Stages.{FedTable}
 use Rattle.inputs.specs.Inputs.{FedScene, SlotOf, SlotKeys, Walkable, UpstreamSet}
 use Rattle.inputs.specs.declared.InputSources.{InputSources}
 use Rattle.signals.proofs.Tabulated.{first_cong, tabulated_length, tabulated_at}
-use Rattle.signals.proofs.Ends.{ends_within, sink_is}
-use Rattle.signals.proofs.Graph.{no_slot, fed_at, edges_back}
+use Rattle.signals.proofs.Ends.{sink_is}
+use Rattle.signals.proofs.Graph.{no_slot, fed_at}
 use mathlib.Core.Bool.{and_assoc}
 use Rattle.signals.proofs.Marks.{set_marked}
 use Rattle.assessment.proofs.Fed.{outside}
@@ -180,32 +181,21 @@ both_flags {n} inferred {visited} {visited'} {out} e f = subst (λ (l : List Boo
 
 -- ---- what the ports of a scene are asked by
 
-pub fed_scene : {cs ps : List ℤ} {sources sinks forward backward labelled members region_of fed : List ℕ}
-    → Scene cs ps → Prepared cs ps sources sinks forward backward labelled members region_of → FedTable ps sources sinks fed → FedScene cs ps fed
-fed_scene {sources = sources} {sinks = sinks} scene prepared table = record {
-  scene = scene;
+pub fed_scene : {cs ps : List ℤ} {keys sources sinks fed : List ℕ} → Accepted cs ps keys sources sinks → FedTable ps sources sinks fed → FedScene cs ps fed
+fed_scene {sources = sources} {sinks = sinks} accepted table = record {
+  scene = accepted.scene;
   sources = sources;
   sinks = sinks;
-  source_members = prepared.tables.source_members;
-  sink_members = prepared.tables.sink_members;
+  source_members = accepted.ends.source_members;
+  sink_members = accepted.ends.sink_members;
   table = table;
 }
-
-pub graph_back : {cs ps : List ℤ} {sources sinks forward backward : List ℕ} → Scene cs ps → Tables cs ps sources sinks forward backward
-    → edges (component_count cs) backward ≡ flip (signals cs ps)
-graph_back {cs} {ps} scene t =
-    λ i a b. edges_back scene.components.few t.source_members t.sink_members (ends_within cs ps scene.ends) t.backward_keys a b i
-
--- the same of equal arrays
-pub walk_as : {rules : ℕ} {cs ps fs : List ℤ} {fed backward fed' backward' : List ℕ} {inferred inferred' : List Bool} → fed' ≡ fed → backward' ≡ backward → inferred' ≡ inferred
-    → Walkable rules cs ps fs fed backward inferred → Walkable rules cs ps fs fed' backward' inferred'
-walk_as a b c r = rw (a, b, c) r
 
 pub flags_long : (cs : List ℤ) (P : ℕ → Bool) → length (members_where cs P) ≡ component_count cs
 unfolding members_where
 flags_long cs P = tabulated_length _ (component_count cs)
 
-pub walk_nodes : {rules : ℕ} {cs ps fs : List ℤ} {fed backward : List ℕ} {inferred : List Bool} → Walkable rules cs ps fs fed backward inferred → length inferred ≡ component_count cs
+pub walk_nodes : {rules : ℕ} {cs ps fs : List ℤ} {fed ends next : List ℕ} {inferred : List Bool} → Walkable rules cs ps fs fed ends next inferred → length inferred ≡ component_count cs
 walk_nodes {cs = cs} r = ap length r.inferred_are ∙ flags_long cs _
 
 -- ---- a mark that there cannot be
@@ -239,7 +229,7 @@ module _ {cs ps : List ℤ} {p port : ℕ} {fed : List ℕ} {number : ℕ} (q : 
 
 -- ---- by a walk
 
-module _ {rules : ℕ} {cs ps fs : List ℤ} {p port : ℕ} {fed backward : List ℕ} {number : ℕ} {inferred : List Bool} (w : Walkable rules cs ps fs fed backward inferred)
+module _ {rules : ℕ} {cs ps fs : List ℤ} {p port : ℕ} {fed ends next : List ℕ} {number : ℕ} {inferred : List Bool} (w : Walkable rules cs ps fs fed ends next inferred)
     (q : SlotOf cs ps p port fed number) where
   nodes : length inferred ≡ component_count cs
   nodes = walk_nodes w
@@ -261,10 +251,9 @@ module _ {rules : ℕ} {cs ps fs : List ℤ} {p port : ℕ} {fed backward : List
         let n = component_count cs in
         let test = is_immediate cs ps p port in
         let starts = tabulate test n in
-        ap (λ (g : Edges). marked (reached n g starts) a) (sym w.turned)
-        ∙ not_marked (marked (reached n (edges n backward) starts) a) (λ e.
-        let start = ((keys_reach n backward starts).exactly a).0 e in
-        never (sym (sym start.2 ∙ tabulated_at test false n start.0 start.1 ∙ none_immediate start.0 start.1)))
+        not_marked (marked (reached n (flip (signals cs ps)) starts) a) (λ e.
+        let (s, l, start, path) = ((reach_laws n (flip (signals cs ps)) w.turned.rows.within starts).exactly a).0 e in
+        never (sym (sym start ∙ tabulated_at test false n s l ∙ none_immediate s l)))
 
     none_inferred : (a : ℕ) → is_inferred_for rules cs ps fs p port a ≡ false
     unfolding is_inferred_for
@@ -292,21 +281,21 @@ module _ {rules : ℕ} {cs ps fs : List ℤ} {p port : ℕ} {fed backward : List
         } in
         set_same nodes (λ k. refl) (set_where (omega arith) s all)
 
-    reached_are : reached (length inferred) (edges (length inferred) backward) starts ≡ upstream cs ps p port
+    reached_are : reached (length inferred) (edges_of ends next) starts ≡ upstream cs ps p port
     unfolding upstream
     reached_are =
         let n = component_count cs in
-        ap (λ (k : ℕ). reached k (edges k backward) starts) nodes
-        ∙ ap (λ (g : Edges). reached n g starts) w.turned
+        ap (λ (k : ℕ). reached k (edges_of ends next) starts) nodes
+        ∙ ap (λ (g : Edges). reached n g starts) (edges_are w.turned.rows)
         ∙ ap (reached n (flip (signals cs ps))) starts_are
 
     pub inferred_set : {lent : List Bool} {stack words : List ℕ} → lent ≡ starts
-        → UpstreamSet (length inferred) (edges (length inferred) backward) lent inferred stack words → SetWhere (component_count cs) (is_inferred_for rules cs ps fs p port) words
+        → UpstreamSet (length inferred) (edges_of ends next) lent inferred stack words → SetWhere (component_count cs) (is_inferred_for rules cs ps fs p port) words
     unfolding is_inferred_for
     inferred_set e u =
         let n = length inferred in
         set_same nodes (λ k.
-        ap (λ (l : List Bool). marked (reached n (edges n backward) l) k && marked inferred k) e
+        ap (λ (l : List Bool). marked (reached n (edges_of ends next) l) k && marked inferred k) e
         ∙ ap (λ (l : List Bool). marked l k && marked inferred k) reached_are
         ∙ ap (λ (l : List Bool). marked (upstream cs ps p port) k && marked l k) w.inferred_are) u.set
 

@@ -1,23 +1,22 @@
--- The ports of an input query, by the tables of a prepared scene.
---     Inputs, FedScene          a prepared scene with its inferred inputs; its edges by the port that they feed
+-- The ports of an input query, by the tables and rows of a prepared scene.
+--     FedScene                  an accepted scene's edges by the port that they feed
 --     SlotKeys                  the keys of a port
 --     Walkable, UpstreamSet     what one port is asked by, and what a walk from its sources gives
 --     Ready, SlotSets           what many ports are asked by, and what the rows of their sources give
 -- Assumes nothing: these are definitions.
 use Rattle.std.specs.Prelude.{ℕ, ◌*◌, ◌/◌, ◌%◌, ◌≤◌, ◌<◌, ◌≡◌, Bool, true, ◌&&◌, List, length, get_or, ℤ}
-use Rattle.tables.specs.Order.{Ascending, member}
+use Rattle.tables.specs.Order.{member}
 use Rattle.tables.specs.Pairs.{pair, span}
 use Rattle.sets.specs.declared.ComponentSet.{ComponentSet}
 use Rattle.sets.specs.Members.{member_of}
 use Rattle.lists.specs.Limits.{component_limit}
-use Rattle.lists.specs.Records.{component_count, port_count}
+use Rattle.lists.specs.Records.{component_count}
 use Rattle.lists.specs.Ids as Ids
 use Rattle.lists.specs.Ends.{Settled}
 use Rattle.regions.specs.Graph.{Edges, flip, at, marked}
 use Rattle.regions.specs.Kosaraju.{reached}
-use Rattle.regions.specs.Keys.{edges}
-use Rattle.regions.specs.Carry.{Crossings}
 use Rattle.regions.specs.Search.{Zeros}
+use Rattle.graph.specs.Rows.{Rows}
 use Rattle.signals.specs.Signals.{signals}
 use Rattle.signals.specs.Regions.{labels, is_inferred}
 use Rattle.signals.specs.Drive.{members_where}
@@ -25,26 +24,10 @@ use Rattle.signals.specs.Keys.{slot, ports}
 use Rattle.signals.specs.Stages.{FedTable}
 use Rattle.assessment.specs.Upstream.{in_row, UpstreamRows}
 use Rattle.liveness.specs.Sets.{SetWhere}
-use Rattle.liveness.specs.Scene.{Scene, Prepared}
+use Rattle.liveness.specs.Scene.{Scene}
 use Rattle.inputs.specs.declared.InputSources.{InputSources}
 
--- ---- a prepared scene
-
--- with the flags of the members that are inferred inputs; the stack is zero again
-pub record Inputs (rules : ℕ) (cs ps fs : List ℤ) (sources sinks forward backward labelled : List ℕ) (inferred : List Bool) (stack : List ℕ) : Type 0 where
-  pub members : List ℕ
-  pub region_of : List ℕ
-  pub prepared : Prepared cs ps sources sinks forward backward labelled members region_of
-  pub inferred_are : inferred ≡ members_where cs (is_inferred rules cs ps fs)
-  pub stack_zeros : Zeros stack
-
--- room for them
-pub record InputsRoom (cs ps : List ℤ) (forward backward labelled : List ℕ) (inferred : List Bool) (stack : List ℕ) : Type 0 where
-  pub forward_room : length forward ≡ port_count ps
-  pub backward_room : length backward ≡ port_count ps
-  pub labels_room : length labelled ≡ component_count cs
-  pub inferred_room : length inferred ≡ component_count cs
-  pub stack_room : 2 * component_count cs ≤ length stack
+-- ---- an accepted scene
 
 -- its edges by the port that they feed
 pub record FedScene (cs ps : List ℤ) (fed : List ℕ) : Type 0 where
@@ -69,17 +52,16 @@ pub record SlotKeys (keys : List ℕ) (number : ℕ) (cut : List ℕ) : Type 0 w
 
 -- ---- one port, by a walk
 
--- the edges by the port that they feed and backward, and the flags of the inferred inputs
-pub record Walkable (rules : ℕ) (cs ps fs : List ℤ) (fed backward : List ℕ) (inferred : List Bool) : Type 0 where
+-- the edges by the port that they feed, the rows of the edges turned round, and the flags of the inferred inputs
+pub record Walkable (rules : ℕ) (cs ps fs : List ℤ) (fed ends next : List ℕ) (inferred : List Bool) : Type 0 where
   pub fed_scene : FedScene cs ps fed
-  pub turned : edges (component_count cs) backward ≡ flip (signals cs ps)
-  pub rising : Ascending backward
+  pub turned : Rows (component_count cs) (flip (signals cs ps)) ends next
   pub inferred_are : inferred ≡ members_where cs (is_inferred rules cs ps fs)
 
--- what a walk against the edges asks
-pub record UpstreamRoom (backward : List ℕ) (immediate inferred : List Bool) (stack : List ℕ) : Type 0 where
-  pub keys_rise : Ascending backward
+-- what a walk from the immediate sources asks
+pub record UpstreamRoom (nodes : ℕ) (immediate inferred : List Bool) (stack : List ℕ) : Type 0 where
   pub few : length inferred ≤ component_limit
+  pub nodes_are : nodes ≡ length inferred
   pub immediate_room : length immediate ≡ length inferred
   pub stack_room : 2 * length inferred ≤ length stack
   pub stack_zeros : Zeros stack
@@ -95,9 +77,7 @@ pub record UpstreamSet (n : ℕ) (edge : Edges) (immediate inferred : List Bool)
 pub record Ready (rules : ℕ) (cs ps fs : List ℤ) (fed labelled : List ℕ) (upstream : List ComponentSet) : Type 0 where
   pub fed_scene : FedScene cs ps fed
   pub labels_are : labelled ≡ labels cs ps
-  pub keys : List ℕ
-  pub pairs : Crossings (signals cs ps) (labels cs ps) keys
-  pub rows : UpstreamRows keys (labels cs ps) (members_where cs (is_inferred rules cs ps fs)) upstream
+  pub rows : UpstreamRows (component_count cs) (signals cs ps) (members_where cs (is_inferred rules cs ps fs)) upstream
   pub rows_long : length upstream ≡ component_limit
 
 -- the nodes that feed a slot, and all members of the rows of their regions

@@ -14,16 +14,15 @@ ghost use Rattle.inputs.specs.Query.{row_place, PortSets};
 ghost use Rattle.inputs.specs.Inputs.{Ready, SlotSets};
 
 use super::InputSources;
-use super::query::find_inputs;
+use super::query::inferred_members;
 use super::row::row_place;
 use super::slot::slot_keys;
 use assessment::upstream::upstream_rows;
+use lists::COMPONENTS;
 use lists::ids::member_of;
 use lists::views::ComponentList;
-use lists::{COMPONENTS, CONNECTIONS};
-use liveness::plot::Plot;
+use liveness::plot::{Plot, Room};
 use sets::ComponentSet;
-use signals::crossings::find_crossings;
 use signals::edges::PORTS;
 use signals::stages::build_fed;
 use tables::SPAN;
@@ -36,21 +35,20 @@ pub struct Asked<'a> {
     pub keys: &'a [u64],
     pub components: &'a [i64],
     pub fed: &'a [u64],
-    pub labels: &'a [usize],
+    pub labels: &'a [u16],
     pub upstream: &'a [ComponentSet; COMPONENTS],
     pub ghost table: { IdTable components.now keys.now } by { Prim.hlevel props },
     pub ghost ready: { ∥ ((ps fs : List ℤ) × Ready rules components.now ps fs fed.now labels.now upstream.now) ∥₁ },
 }
 
 // Fills what the ports of a plot are asked by: its edges by the port that they feed, the regions of its members, and the rows of the
-// inferred inputs upstream of each region, which are empty before. Leaves the stack zero. The edges forward and backward stand where
-// those by port and the pairs of regions are put after them.
-// Not a part of its caller's frame: its tables are needed here alone.
+// inferred inputs upstream of each region, which are empty before. Leaves the stack zero.
+// Not a part of its caller's frame: its rows are needed here alone.
 #[inline(never)]
 pub fn make_ready(
     plot: &Plot,
     fed: &mut [u64],
-    labels: &mut [usize],
+    labels: &mut [u16],
     upstream: &mut [ComponentSet; COMPONENTS],
     stack: &mut [usize],
 )
@@ -61,27 +59,21 @@ pub fn make_ready(
         Ready p.rules p.components.now p.ports.now p.frontiers.now fed.new labels.new upstream.new × Zeros stack.new }
 {
     let n = plot.keys.len();
-    let m = plot.port_list().count();
-    let mut pairs = [0u64; CONNECTIONS];
-    let mut inferred = [false; COMPONENTS];
-    find_inputs(
-        plot,
-        fed,
-        &mut pairs[..m],
-        labels,
-        &mut inferred[..n],
-        stack,
-    );
-    let crossings = find_crossings(fed, labels, &mut pairs);
+    let mut flags = [false; COMPONENTS];
+    let inferred = &mut flags[..n];
+    let mut room = Room::new();
     build_fed(plot.port_list(), plot.ends, fed);
-    upstream_rows(crossings, labels, &inferred[..n], upstream);
+    let prepared = plot.prepare(&mut room, stack);
+    inferred_members(&prepared, inferred);
+    upstream_rows(prepared.forward, prepared.labels, inferred, upstream);
+    labels.copy_from_slice(prepared.labels);
 }
 
 // The nodes that feed a slot, and all members of the rows of their regions.
 fn slot_sources(
     fed: &[u64],
     slot: usize,
-    labels: &[usize],
+    labels: &[u16],
     upstream: &[ComponentSet; COMPONENTS],
 ) -> InputSources
     requires ascending { Ascending fed.now × ((slot < 2 ^ 32) × SlotWithin fed.now slot (length labels.now)) }
@@ -93,7 +85,7 @@ fn slot_sources(
     for key in slot_keys(fed, slot) {
         let source = (key % SPAN) as usize;
         immediate = immediate.insert(source);
-        inferred = inferred.union(upstream[labels[source]]);
+        inferred = inferred.union(upstream[usize::from(labels[source])]);
     }
     InputSources {
         immediate,

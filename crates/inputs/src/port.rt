@@ -41,7 +41,7 @@ pub fn drive_members(plot: &Plot, goals: &mut [bool])
 {
     let mut on_frontier = [false; COMPONENTS];
     let mut drive_at = [false; COMPONENTS];
-    let mut members = [0usize; COMPONENTS];
+    let mut members = [0u16; COMPONENTS];
     frontier_flags(plot.components, plot.frontiers, &mut on_frontier);
     drive_flags(plot.component_list(), &on_frontier, &mut drive_at);
     place_members(plot.keys, &mut members);

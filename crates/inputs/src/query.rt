@@ -6,23 +6,23 @@ ghost use Rattle.tables.specs.Order.{member};
 ghost use Rattle.tables.specs.Pairs.{pair, span};
 ghost use Rattle.lists.specs.Records.{component_count, port_count};
 ghost use Rattle.lists.specs.First.{is_found};
-ghost use Rattle.lists.specs.Ends.{sources_of, sinks_of};
 ghost use Rattle.checks.specs.Refusals.{refuse, too_short};
 ghost use Rattle.regions.specs.Search.{Zeros};
 ghost use Rattle.regions.specs.Graph.{marked};
-ghost use Rattle.regions.specs.Keys.{edges};
+ghost use Rattle.graph.specs.Rows.{edges_of};
 ghost use Rattle.signals.specs.Regions.{is_inferred};
 ghost use Rattle.signals.specs.Drive.{members_where};
 ghost use Rattle.inputs.specs.Query.{row_place, PortSets, InputsBy};
 ghost use Rattle.signals.specs.Flags.{Flags};
-ghost use Rattle.inputs.specs.Inputs.{Inputs, InputsRoom, SlotKeys, SlotOf, Walkable, UpstreamRoom, UpstreamSet};
+ghost use Rattle.inputs.specs.Inputs.{SlotKeys, SlotOf, Walkable, UpstreamRoom, UpstreamSet};
 
 use super::InputSources;
 use super::row::row_place;
 use super::slot::slot_keys;
+use graph::Graph;
 use lists::ids::member_of;
-use lists::{COMPONENT, COMPONENTS, CONNECTIONS, Fault, Refusal};
-use liveness::plot::{Plot, PreparedPlot, RowHints};
+use lists::{COMPONENTS, CONNECTIONS, Fault, Refusal};
+use liveness::plot::{Plot, PreparedPlot, Room};
 use liveness::steps::flag_inputs;
 use sets::ComponentSet;
 use signals::edges::PORTS;
@@ -54,39 +54,39 @@ fn keep_inputs(flags: &mut [bool], inferred: &[bool])
     combine_flags(flags, inferred, |reached, input| reached & input);
 }
 
-// The inferred inputs among the flagged members and all upstream of them.
+// The inferred inputs among the flagged members and all upstream of them: the edges are turned round.
 fn upstream_inputs(
-    backward: &[u64],
+    backward: Graph,
     immediate: &[bool],
     inferred: &[bool],
     stack: &mut [usize],
 ) -> ComponentSet
-    requires { UpstreamRoom backward.now immediate.now inferred.now stack.old }
-    ensures { let n = length inferred.now in
-        UpstreamSet n (edges n backward.now) immediate.now inferred.now stack.new result.words }
+    requires { UpstreamRoom (length backward.ends.now) immediate.now inferred.now stack.old }
+    ensures { UpstreamSet (length inferred.now) (edges_of backward.entry.ends.now backward.entry.next.now)
+        immediate.now inferred.now stack.new result.words }
 {
     let n = inferred.len();
     let mut upstream = [false; COMPONENTS];
-    let mut order = [0usize; COMPONENTS];
-    regions::reach_from(backward, immediate, &mut upstream[..n], &mut order, stack);
+    let mut order = [0u16; COMPONENTS];
+    backward.reach_from(immediate, &mut upstream[..n], &mut order, stack);
     keep_inputs(&mut upstream[..n], inferred);
     ComponentSet::of_flags(&upstream[..n])
 }
 
-// The sets of one port, given the tables of the scene by the ports that are fed and backward, the port's slot, and the inferred inputs by
-// member. The stack is zero before and after.
+// The sets of one port, given the table of the scene by the ports that are fed, the edges turned round, the port's slot, and the inferred
+// inputs by member. The stack is zero before and after.
 pub(crate) fn row_sources(
     fed: &[u64],
-    backward: &[u64],
+    backward: Graph,
     slot: usize,
     inferred: &[bool],
     stack: &mut [usize],
 ) -> InputSources
     requires by_index { (rules : ℕ) × (cs ps fs : List ℤ) × (p port : ℕ)
-        × (Walkable rules cs ps fs fed.now backward.now inferred.now × SlotOf cs ps p port fed.now slot) }
+        × (Walkable rules cs ps fs fed.now backward.ends.now backward.next.now inferred.now × SlotOf cs ps p port fed.now slot) }
     requires inferred_in_bounds { (2 * length inferred.now ≤ length stack.old) × Zeros stack.old }
     ensures { (rules : ℕ) (cs ps fs : List ℤ) (p port : ℕ) →
-        Walkable rules cs ps fs fed.now backward.now inferred.now → SlotOf cs ps p port fed.now slot →
+        Walkable rules cs ps fs fed.now backward.entry.ends.now backward.entry.next.now inferred.now → SlotOf cs ps p port fed.now slot →
         PortSets rules cs ps fs (Some p) port result × Zeros stack.new }
 {
     let keys = slot_keys(fed, slot);
@@ -114,60 +114,28 @@ pub(crate) fn inferred_members(plot: &PreparedPlot, inferred: &mut [bool])
     let mut has_drive = [false; COMPONENTS];
     let mut inferred_at = [false; COMPONENTS];
     flag_inputs(plot, &mut on_frontier, &mut has_drive, &mut inferred_at);
-    let count = plot.plot.components.len() / COMPONENT;
-    gather(&plot.members[..count], &inferred_at, inferred);
+    gather(plot.members, &inferred_at, inferred);
 }
 
-// Prepares a plot, and flags its inferred inputs by member. Leaves the stack zero.
-pub(crate) fn find_inputs(
-    plot: &Plot,
-    forward: &mut [u64],
-    backward: &mut [u64],
-    labels: &mut [usize],
-    inferred: &mut [bool],
-    stack: &mut [usize],
-)
-    requires { InputsRoom plot.now.components.now plot.now.ports.now forward.old backward.old labels.old inferred.old stack.old }
-    ensures { let p = plot.now in
-        Inputs p.rules p.components.now p.ports.now p.frontiers.now (sources_of p.ends.now) (sinks_of p.ends.now)
-        forward.new backward.new labels.new inferred.new stack.new }
-{
-    let mut members = [0usize; COMPONENTS];
-    let mut region_at = [0usize; COMPONENTS];
-    let mut rows = RowHints::new();
-    let count = plot.prepare(
-        forward,
-        backward,
-        labels,
-        &mut members,
-        &mut region_at,
-        &mut rows,
-        stack,
-    );
-    let prepared = plot.prepared(
-        forward, backward, labels, &members, &region_at, &rows, count,
-    );
-    inferred_members(&prepared, inferred);
-}
-
-// Fills what one port of a plot is asked by: its edges by the port that they feed, its edges backward, and the inferred inputs by member.
-// Leaves the stack zero. The edges forward stand where those by port are sorted after them.
-fn walk_tables(
-    plot: &Plot,
+// Fills what one port of a plot is asked by: its edges by the port that they feed, and the inferred inputs by member; answers its edges turned
+// round. Leaves the stack zero.
+fn walk_tables<'a>(
+    plot: Plot<'a>,
+    room: &'a mut Room,
     fed: &mut [u64],
-    backward: &mut [u64],
     inferred: &mut [bool],
     stack: &mut [usize],
-)
-    requires fed_len { (length fed.old ≡ port_count plot.now.ports.now) × (length backward.old ≡ port_count plot.now.ports.now) }
-    requires inferred_len { let n = component_count plot.now.components.now in (length inferred.old ≡ n) × (2 * n ≤ length stack.old) }
-    ensures { let p = plot.now in Walkable p.rules p.components.now p.ports.now p.frontiers.now fed.new backward.new inferred.new
+) -> Graph<'a>
+    requires fed_len { length fed.old ≡ port_count plot.ports.now }
+    requires inferred_len { let n = component_count plot.components.now in (length inferred.old ≡ n) × (2 * n ≤ length stack.old) }
+    ensures { let p = plot.entry in
+        Walkable p.rules p.components.now p.ports.now p.frontiers.now fed.new result.ends.now result.next.now inferred.new
         × Zeros stack.new }
 {
-    let n = plot.keys.len();
-    let mut labels = [0usize; COMPONENTS];
-    find_inputs(plot, fed, backward, &mut labels[..n], inferred, stack);
     build_fed(plot.port_list(), plot.ends, fed);
+    let prepared = plot.prepare(room, stack);
+    inferred_members(&prepared, inferred);
+    prepared.backward
 }
 
 // The sets of a port of the component at p.
@@ -179,18 +147,14 @@ fn input_sources(plot: &Plot, p: usize, port: usize, stack: &mut [usize]) -> Inp
 {
     let n = plot.keys.len();
     let m = plot.port_list().count();
-    let mut fed = [0u64; CONNECTIONS];
-    let mut backward = [0u64; CONNECTIONS];
-    let mut inferred = [false; COMPONENTS];
-    walk_tables(
-        plot,
-        &mut fed[..m],
-        &mut backward[..m],
-        &mut inferred[..n],
-        stack,
-    );
+    let mut keys = [0u64; CONNECTIONS];
+    let mut flags = [false; COMPONENTS];
+    let mut room = Room::new();
+    let fed = &mut keys[..m];
+    let inferred = &mut flags[..n];
+    let backward = walk_tables(*plot, &mut room, fed, inferred, stack);
     let slot = member_of(plot.keys, plot.component_list().id(p)) * PORTS + port;
-    row_sources(&fed[..m], &backward[..m], slot, &inferred[..n], stack)
+    row_sources(fed, backward, slot, inferred, stack)
 }
 
 // The query of a plot; 8 where the port asked for has no verdict row.

@@ -1,19 +1,18 @@
--- The marks that the program hands on along the pairs of regions are those of the pass.
---     labels_small, regions_fit            the numbers of regions that marks are carried by
+-- The marks that the program hands on along the edges are those of the pass.
+--     regions_fit                          the numbers of regions that marks are carried by
+--     carried_by                           marks carried along the edges of a prepared scene
 --     handed_lit                           the marks carried from the regions that hold a drive source
 --     regions_are, driven_at               the regions written, and the members' marks
 --     lit_accepted                         the entry's answer, where the checks accept
 -- Assumes nothing.
 use Rattle.std.specs.Prelude.{Ok}
-use mathlib.Core.Path.{◌≡◌, sym, ap, subst, ◌∙◌}
+use mathlib.Core.Path.{◌≡◌, sym, ap, ◌∙◌}
 use mathlib.Core.Bool.{Bool, false}
 use mathlib.Core.List.{List}
 use Prim.Native.Nat.{ℕ, ◌≤◌, ◌<◌}
 use native.Mathlib.Omega.{arith}
-use lib.ListN.{length, get_or, take, drop}
-use lib.Seq.{length-take-le}
+use lib.ListN.{length, get_or, drop}
 use lib.IntN.{ℤ}
-use Rattle.std.proofs.lemmas.List.{get_or-take}
 use Rattle.sets.specs.Members.{member_of}
 use Rattle.lists.specs.Limits.{component_limit}
 use Rattle.lists.specs.Records.{component_count}
@@ -21,17 +20,18 @@ use Rattle.lists.specs.First.{tabulate}
 use Rattle.lists.specs.Ids as Ids
 use Rattle.lists.proofs.Members.{member_below}
 use Rattle.regions.specs.Graph.{at, marked}
-use Rattle.regions.specs.Carry.{carry, Crossings}
+use Rattle.graph.specs.Rows.{edges_of}
+use Rattle.graph.specs.Carried.{Carried}
 use Rattle.signals.specs.Signals.{signals}
 use Rattle.signals.specs.Sources.{is_drive}
 use Rattle.signals.specs.Regions.{labels, region_count, region_of_place, regions_of, holds_drive}
 use Rattle.signals.specs.Drive.{drive}
-use Rattle.signals.specs.Flags.{Flags, Indices}
+use Rattle.signals.specs.Flags.{Flags}
 use Rattle.signals.proofs.Tabulated.{tabulated_length, tabulated_at}
-use Rattle.signals.proofs.Within.{scene_regions, labels_under}
-use Rattle.assessment.proofs.Reached.{drive_is}
-use Rattle.liveness.specs.Scene.{Scene}
-use Rattle.liveness.proofs.Inferring.{SceneRegions}
+use Rattle.signals.proofs.Within.{scene_regions}
+use Rattle.assessment.proofs.Reached.{Exactly, drive_is}
+use Rattle.liveness.specs.Scene.{Scene, Prepared}
+use Rattle.liveness.proofs.Inferring.{graph}
 use Rattle.liveness.proofs.Answers.{tabulated_same}
 use Rattle.liveness.proofs.Demands.{demand_3, region_laid}
 use Rattle.liveness.proofs.Meanings.{asked_below, fed_from}
@@ -42,52 +42,49 @@ use Rattle.lighting.proofs.Lights.{lit_drive, light_laws}
 
 -- ---- the regions of a scene
 
-module _ {cs ps : List ℤ} {forward labelled region_at : List ℕ} (r : SceneRegions cs ps forward labelled region_at) where
-  pub labels_small : Indices (length labelled) component_limit labelled
-  labels_small =
-      subst (λ (l : List ℕ). Indices (length l) component_limit l) (sym r.labels_are)
-      (labels_under cs ps r.scene.ends component_limit r.scene.components.few)
+pub regions_fit : {cs ps : List ℤ} → Scene cs ps → region_count cs ps ≤ component_limit
+regions_fit {cs} {ps} scene = omega (arith, (scene_regions cs ps scene.ends).few, scene.components.few)
 
-  pub regions_fit : region_count cs ps ≤ component_limit
-  regions_fit = omega (arith, (scene_regions cs ps r.scene.ends).few, r.scene.components.few)
+module _ {cs ps : List ℤ} (scene : Scene cs ps) {ends next back_ends back labelled members region_at : List ℕ}
+    (p : Prepared cs ps ends next back_ends back labelled members region_at) where
+  -- what is written
+  pub regions_are : tabulate (λ q. get_or region_at q 0) (length region_at) ≡ regions_of cs ps
+  regions_are =
+      tabulated_same (λ q. get_or region_at q 0) (region_of_place cs ps) (length region_at) (λ q h. p.regions_are.at q (omega (arith, p.regions_long)))
+      ∙ ap (tabulate (region_of_place cs ps)) p.regions_long
 
-  -- the front that is written
-  pub regions_are : {n : ℕ} → n ≡ component_count cs → tabulate (λ q. get_or (take n region_at) q 0) (length (take n region_at)) ≡ regions_of cs ps
-  regions_are {n} e =
-      let long : length (take n region_at) ≡ n = length-take-le n region_at (omega (arith, r.regions_are.long)) in
-      tabulated_same (λ q. get_or (take n region_at) q 0) (region_of_place cs ps) (length (take n region_at))
-      (λ q h. get_or-take n region_at q 0 (omega (arith, long)) ∙ r.regions_are.at q (omega (arith, long)))
-      ∙ ap (tabulate (region_of_place cs ps)) (long ∙ e)
+  -- ---- the marks
 
--- ---- the marks
+  pub carried_by : {before after : List Bool} → Carried (length ends) (edges_of ends next) before after
+      → Exactly (component_count cs) (signals cs ps) (marked before) (marked after)
+  carried_by c = let e = rw (p.forward.rows.nodes, graph scene p) at c in record { exactly = e.exactly }
 
-module _ (cs ps fs : List ℤ) (scene : Scene cs ps) {keys : List ℕ} (pairs : Crossings (signals cs ps) (labels cs ps) keys) {marks : List Bool}
-    (flags : Flags component_limit (holds_drive cs ps fs) marks) where
+module _ (cs ps fs : List ℤ) (scene : Scene cs ps) {marks : List Bool} (marks' : List Bool) (flags : Flags component_limit (holds_drive cs ps fs) marks)
+    (carried : Exactly (component_count cs) (signals cs ps) (marked marks) (marked marks')) where
   -- the mark of a member's region
   spreads : ℕ → Bool
-  spreads m = carry keys (marked marks) (at (labels cs ps) m)
+  spreads m = marked marks' (at (labels cs ps) m)
 
   carried_drive : tabulate spreads (component_count cs) ≡ drive cs ps fs
   unfolding spreads
   carried_drive =
       let out = tabulate spreads (component_count cs) in
       let long : length out ≡ component_count cs = tabulated_length spreads (component_count cs) in
-      drive_is cs ps scene.components.few scene.ends pairs fs long
+      drive_is cs ps scene.components.few scene.ends fs carried long
       record { long = omega (arith, long); at = λ m h. tabulated_at spreads false (component_count cs) m h } flags
 
-  carried_lit : (r : ℕ) → r < region_count cs ps → carry keys (marked marks) r ≡ lit cs ps fs r
+  carried_lit : (r : ℕ) → r < region_count cs ps → marked marks' r ≡ lit cs ps fs r
   unfolding spreads
   carried_lit r h =
       let (m, l, e) = (scene_regions cs ps scene.ends).onto r h in
-      ap (carry keys (marked marks)) (sym e)
+      ap (marked marks') (sym e)
       ∙ sym (tabulated_at spreads false (component_count cs) m l)
       ∙ ap (λ (f : List Bool). marked f m) carried_drive
       ∙ lit_drive cs ps fs scene m l
       ∙ ap (lit cs ps fs) e
 
-  pub handed_lit : {marks' : List Bool} → region_count cs ps ≤ length marks' → ((r : ℕ) → marked marks' r ≡ carry keys (marked marks) r)
-      → Flags (region_count cs ps) (lit cs ps fs) marks'
-  handed_lit long handed = record { long = long; at = λ r h. handed r ∙ carried_lit r h }
+  pub handed_lit : region_count cs ps ≤ length marks' → Flags (region_count cs ps) (lit cs ps fs) marks'
+  handed_lit long = record { long = long; at = carried_lit }
 
 -- the mark of a member, spread from its region's
 pub driven_at : (cs ps fs : List ℤ) (scene : Scene cs ps) {labelled : List ℕ} {marks : List Bool} → labelled ≡ labels cs ps

@@ -1,42 +1,58 @@
 // The pass itself: each region, by rising number, hands its mark on to the regions that it feeds.
-ghost use Rattle.std.specs.Prelude.{◌≡◌, List, ℕ, length, ℤ};
-ghost use Rattle.tables.specs.Pairs.{KeysBelow};
+ghost use Rattle.std.specs.Prelude.{◌≡◌, List, ℕ, ◌<◌, length, ℤ};
 ghost use Rattle.lists.specs.Limits.{component_limit};
-ghost use Rattle.regions.specs.Graph.{marked};
-ghost use Rattle.regions.specs.Carry as Carry;
+ghost use Rattle.regions.specs.Graph.{at};
+ghost use Rattle.regions.specs.Kosaraju.{region_of};
+ghost use Rattle.graph.specs.Rows.{edges_of};
+ghost use Rattle.graph.specs.Carried.{Carried};
+ghost use Rattle.graph.specs.inner.Marks.{ByRegion, Handed, Labels};
 ghost use Rattle.signals.specs.Regions.{region_count, holds_drive};
 ghost use Rattle.signals.specs.Flags.{Flags};
 ghost use Rattle.lighting.specs.Pass as Pass;
 
-use lists::{COMPONENTS, CONNECTIONS};
+use graph::Graph;
+use graph::marks::by_region;
+use lists::COMPONENTS;
 use liveness::plot::PreparedPlot;
 use liveness::steps::flag_drive;
-use signals::crossings::find_crossings;
 
-// Hands the mark of each key's first number on to its second, one key after the other: `regions::carry::carry_both` with one list.
-#[tactic(auto, using(regions::proofs::Carried::carry_turn, regions::proofs::Carried::carry_all))]
-fn hand_on(keys: &[u64], marks: &mut [bool])
-    requires { KeysBelow (length marks.old) keys.now }
-    ensures { (r : ℕ) → marked marks.new r ≡ Carry.carry keys.now (marked marks.old) r }
+// Hands the mark of region r on to the regions of the nodes: `graph::marks::hand_on` with one list.
+fn hand_on(nodes: &[u16], labels: &[u16], r: usize, marks: &mut [bool])
+    requires region { r < length marks.old }
+    requires labels { Labels nodes.now labels.now (length marks.old) }
+    ensures { Handed nodes.now labels.now (length nodes.now) r marks.old marks.new }
 {
-    for i in 0..keys.len() {
-        let from = (keys[i] / tables::SPAN) as usize;
-        let to = (keys[i] % tables::SPAN) as usize;
-        marks[to] |= marks[from];
+    for node in nodes {
+        let t = usize::from(labels[usize::from(*node)]);
+        marks[t] |= marks[r];
     }
 }
 
-// Lights the regions of a plot, given marks at those that hold a drive source: pairs of regions, the first feeding the second, by rising
-// first, so that a region hands on its mark once all that feed it have.
+// Hands the marks of regions on along the edges of a graph, given the nodes by rising region, so that a region hands on its mark once all
+// that feed it have.
+fn pass(graph: Graph, labels: &[u16], nodes: &[u16], marks: &mut [bool])
+    requires labels { labels.now ≡ region_of (length graph.ends.now) (edges_of graph.ends.now graph.next.now) }
+    requires nodes { ByRegion (length graph.ends.now) labels.now nodes.now }
+    requires below { (x : ℕ) → x < length graph.ends.now → at labels.now x < length marks.old }
+    ensures { Carried (length graph.entry.ends.now) (edges_of graph.entry.ends.now graph.entry.next.now) marks.old marks.new }
+{
+    for i in 0..graph.ends.len() {
+        let x = usize::from(nodes[i]);
+        hand_on(graph.row(x), labels, usize::from(labels[x]), marks);
+    }
+}
+
+// Lights the regions of a plot, given marks at those that hold a drive source.
 pub fn light_from(plot: &PreparedPlot, marks: &mut [bool])
     requires { length marks.old ≡ component_limit }
     ensures { let p = plot.now.plot in let cs = p.components.now in (fs : List ℤ) →
         Flags component_limit (holds_drive cs p.ports.now fs) marks.old →
         Flags (region_count cs p.ports.now) (Pass.lit cs p.ports.now fs) marks.new }
 {
-    let mut keys = [0u64; CONNECTIONS];
-    let crossings = find_crossings(plot.forward.keys, plot.labels, &mut keys);
-    hand_on(crossings, marks);
+    let mut ends = [0u16; COMPONENTS];
+    let mut nodes = [0u16; COMPONENTS];
+    by_region(plot.labels, &mut ends, &mut nodes);
+    pass(plot.forward, plot.labels, &nodes, marks);
 }
 
 // Lights the regions of a plot.
@@ -47,13 +63,6 @@ pub fn light(plot: &PreparedPlot, lit: &mut [bool])
 {
     let mut on_frontier = [false; COMPONENTS];
     let mut drive_at = [false; COMPONENTS];
-    flag_drive(
-        plot.plot.component_list(),
-        plot.plot.frontiers,
-        plot.region_at,
-        &mut on_frontier,
-        &mut drive_at,
-        lit,
-    );
+    flag_drive(plot, &mut on_frontier, &mut drive_at, lit);
     light_from(plot, lit);
 }

@@ -1,7 +1,7 @@
 // A plot is prepared, its regions are lit, and the marks become sets.
 ghost use Rattle.std.specs.Prelude.{Ok};
 ghost use Rattle.std.specs.Prelude.{◌≡◌, ◌≤◌, length};
-ghost use Rattle.lists.specs.Records.{component_count, port_count};
+ghost use Rattle.lists.specs.Records.{component_count};
 ghost use Rattle.lists.specs.Slices.{laid};
 ghost use Rattle.signals.specs.Regions.{regions_of};
 ghost use Rattle.lighting.specs.Entry.{LitOf, LitBy};
@@ -9,8 +9,8 @@ ghost use Rattle.lighting.specs.Room.{LitRoom};
 
 use super::Lit;
 use super::pass::light;
-use lists::{COMPONENTS, CONNECTIONS};
-use liveness::plot::{Plot, PreparedPlot, RowHints};
+use lists::COMPONENTS;
+use liveness::plot::{Plot, PreparedPlot, Room};
 use liveness::steps::put_regions;
 use sets::ComponentSet;
 use signals::flags::spread;
@@ -26,45 +26,12 @@ fn show(plot: &PreparedPlot, regions: &mut [u64]) -> Lit
     let mut driven = [false; COMPONENTS];
     light(plot, &mut marks);
     spread(plot.labels, &marks, &mut driven);
-    put_regions(&plot.region_at[..n], regions);
+    put_regions(plot.region_at, regions);
     Lit {
         count: plot.count,
         lit: ComponentSet::of_flags(&marks[..plot.count]),
         driven: ComponentSet::of_flags(&driven[..n]),
     }
-}
-
-// Prepares a plot in arrays that are lent, and lights it.
-fn light_in(
-    plot: &Plot,
-    forward: &mut [u64],
-    backward: &mut [u64],
-    labels: &mut [usize],
-    regions: &mut [u64],
-    stack: &mut [usize],
-) -> Lit
-    requires forward_room { (length forward.old ≡ port_count plot.now.ports.now) × (length backward.old ≡ port_count plot.now.ports.now) }
-    requires labels_room { length labels.old ≡ component_count plot.now.components.now }
-    requires lit_room { LitRoom plot.now.components.now regions.old stack.old }
-    ensures { let p = plot.now in
-        LitBy (Ok tt) p.components.now p.ports.now p.frontiers.now regions.old regions.new stack.old stack.new (Ok result) }
-{
-    let mut members = [0usize; COMPONENTS];
-    let mut region_at = [0usize; COMPONENTS];
-    let mut rows = RowHints::new();
-    let count = plot.prepare(
-        forward,
-        backward,
-        labels,
-        &mut members,
-        &mut region_at,
-        &mut rows,
-        stack,
-    );
-    let prepared = plot.prepared(
-        forward, backward, labels, &members, &region_at, &rows, count,
-    );
-    show(&prepared, regions)
 }
 
 // Lights a plot: the region of each component at the front of the lent slice. Leaves the stack zero.
@@ -73,17 +40,7 @@ pub(crate) fn light_plot(plot: &Plot, regions: &mut [u64], stack: &mut [usize]) 
     ensures { let p = plot.now in
         LitBy (Ok tt) p.components.now p.ports.now p.frontiers.now regions.old regions.new stack.old stack.new (Ok result) }
 {
-    let n = plot.keys.len();
-    let m = plot.port_list().count();
-    let mut forward = [0u64; CONNECTIONS];
-    let mut backward = [0u64; CONNECTIONS];
-    let mut labels = [0usize; COMPONENTS];
-    light_in(
-        plot,
-        &mut forward[..m],
-        &mut backward[..m],
-        &mut labels[..n],
-        regions,
-        stack,
-    )
+    let mut room = Room::new();
+    let prepared = plot.prepare(&mut room, stack);
+    show(&prepared, regions)
 }

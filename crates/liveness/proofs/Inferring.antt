@@ -1,5 +1,4 @@
 -- The inferred inputs, by the arrays of the analysis.
---     rows_of                      a table of keys has rows of nodes
 --     labels_long, ends_long       a prepared scene has a label and a row for each component
 --     graph, turned                its rows are those of the signal edges, and of the same turned round
 --     labels_small, regions_small, members_small      its labels, regions and members as indices
@@ -35,29 +34,6 @@ use Rattle.signals.specs.Stages.{inferred_by, cyclic_at}
 use Rattle.signals.proofs.Tabulated.{tab_length, tab_at}
 use Rattle.signals.proofs.Staged.{members_below, cyclic_is}
 use Rattle.signals.proofs.Within.{labels_count, label_under, labels_under, places_under}
-
--- ---- rows
-
-module _ {ps : List ℤ} {firsts seconds : List ℕ} {nowhere : ℕ} {keys : List ℕ} (t : KeysOf ps firsts seconds nowhere keys)
-    (n : ℕ) (few : n ≤ nowhere) (fits : n ≤ span) (ends : (k : ℕ) → k < port_count ps → is_signal ps k ≡ true → get_or seconds k 0 < n) where
-  -- the key of a support is that of no node
-  key_within : (k v : ℕ) → k < port_count ps → (s : Bool) → is_signal ps k ≡ s → signal_key s (get_or firsts k 0) (get_or seconds k 0) nowhere ≡ v → v / span < n → v % span < n
-  key_within k v h true q e l = let below = ends k h q in omega arith
-  key_within k v h false q e l = omega arith
-
-  pub rows_of : Rows n keys
-  rows_of = record {
-    nodes = fits;
-    rising = t.sorted.ascending;
-    within = λ i h l.
-        let m = port_count ps in
-        let v = get_or keys i 0 in
-        let key : ℕ → ℕ = λ k. signal_key (is_signal ps k) (get_or firsts k 0) (get_or seconds k 0) nowhere in
-        let found = member_at v (tabulate key m) (sym (member_rearranged t.sorted.rearranged v) ∙ at_member v keys i h refl) in
-        let k = found.0 in
-        let there : k < m = omega (arith, found.1, tab_length key m) in
-        key_within k v there (is_signal ps k) refl (sym (tab_at key m k there) ∙ found.2) l;
-  }
 
 -- ---- a prepared scene
 

@@ -177,7 +177,7 @@ fn print_ready(
     let n = plot.keys.len();
     let m = plot.port_list().count();
     let mut fed = [0u64; CONNECTIONS];
-    let mut labels = [0usize; COMPONENTS];
+    let mut labels = [0u16; COMPONENTS];
     let mut upstream = [ComponentSet::empty(); COMPONENTS];
     make_ready(plot, &mut fed[..m], &mut labels[..n], &mut upstream, stack);
     let asked = Asked {

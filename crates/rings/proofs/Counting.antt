@@ -1,15 +1,15 @@
 -- The passes that count joined pairs.
---     Passed                    the keys of a table before a place are passed
+--     Passed                    the nodes of a row before a place are passed
 --     pass_none, pass_more, pass_seen, pass_foreign, pass_all     none of a row yet; one more; all
 --     both_near                 two rows
 --     joins_none, joins_more    the pairs of each region, a node more
 --     rings_flagged             the flags
 -- Assumes nothing.
 use mathlib.Core.Path.{◌≡◌, refl, sym, ap, ap₂, ◌∙◌}
-use mathlib.Core.Bool.{Bool, true, false, ◌&&◌, ◌||◌, or-false, or_assoc, and-false, or-true}
+use mathlib.Core.Bool.{Bool, true, false, ◌&&◌, ◌||◌, or-false, and-false, or-true}
 use mathlib.Core.List.{List, [], ◌∷◌}
 use mathlib.Core.Logic.{⊎_elim}
-use Prim.Native.Nat.{ℕ, zero, suc, ◌+◌, ◌*◌, ◌-◌, ◌≤◌, ◌<◌}
+use Prim.Native.Nat.{ℕ, zero, suc, ◌+◌, ◌*◌, ◌≤◌, ◌<◌}
 use native.Mathlib.Numerals.{add-one}
 use native.Mathlib.Omega.{arith}
 use lib.Dec.{eqb, leb}
@@ -18,50 +18,31 @@ use lib.Seq.{get_or-set_same, get_or-set_other}
 use borrow.Author.Tests.{eq-eqb, ne_eqb}
 use Rattle.sets.specs.Members.{count_below}
 use Rattle.sets.proofs.Counts.{count_cong, count_more, count_none, count_le}
-use Rattle.tables.specs.Order.{LowerBound, member}
+use Rattle.tables.specs.Order.{Ascending, member}
 use Rattle.tables.specs.Laws.{same?}
-use Rattle.tables.specs.Pairs.{span, pair}
 use Rattle.lists.specs.Limits.{component_limit}
 use Rattle.regions.specs.Graph.{Edges, at}
-use Rattle.regions.specs.Keys.{edges}
-use Rattle.regions.proofs.Laws.Keys.{edges_pair}
 use Rattle.signals.specs.Flags.{Flags, Counted}
-use Rattle.signals.specs.Seen.{Rows}
+use Rattle.signals.proofs.Neighbours.{member_one}
 use Rattle.rings.specs.Rings.{join_count}
 use Rattle.rings.specs.Counts.{is_seen, near_by, near_either, near_in, SeenUpTo, RowSeen, JoinsCounted}
 
--- ---- the keys before a place
-
-keys_none : (v at : ℕ) (keys : List ℕ) → ((k : ℕ) → k < at → k < length keys → get_or keys k 0 ≡ v → ⊥) → member v (take at keys) ≡ false
-unfolding member
-keys_none v zero keys h = refl
-keys_none v (suc at) [] h = refl
-keys_none v (suc at) (key ∷ keys) h =
-    rw (ne_eqb v key (λ e. h 0 (omega arith) (omega arith) (sym e))) (keys_none v at keys (λ k l m. h (suc k) (omega arith) (omega arith)))
-
-keys_one : (v at : ℕ) (keys : List ℕ) → at < length keys → member v (take (suc at) keys) ≡ (member v (take at keys) || eqb v (get_or keys at 0))
-unfolding member
-keys_one v at [] h = absurd (omega arith)
-keys_one v zero (key ∷ keys) h = or-false (eqb v key)
-keys_one v (suc at) (key ∷ keys) h =
-    ap (λ (t : Bool). eqb v key || t) (keys_one v at keys (omega arith)) ∙ sym (or_assoc (eqb v key) (member v (take at keys)) (eqb v (get_or keys at 0)))
-
-keys_all : (v at : ℕ) (keys : List ℕ) → ((k : ℕ) → at ≤ k → k < length keys → get_or keys k 0 ≡ v → ⊥) → member v (take at keys) ≡ member v keys
-unfolding member
-keys_all v zero [] h = refl
-keys_all v zero (key ∷ keys) h =
-    sym (ap (λ (t : Bool). t || member v keys) (ne_eqb v key (λ e. h 0 (omega arith) (omega arith) (sym e)))
-    ∙ sym (keys_all v zero keys (λ k l m. h (suc k) (omega arith) (omega arith))))
-keys_all v (suc at) [] h = refl
-keys_all v (suc at) (key ∷ keys) h =
-    ap (λ (t : Bool). eqb v key || t) (keys_all v at keys (λ k l m. h (suc k) (omega arith) (omega arith)))
-
 -- ---- a row
 
-pub record Passed (labels keys : List ℕ) (b : ℕ) (seen₀ : List ℕ) (place : ℕ) (seen : List ℕ) (found : ℕ) : Type 0 where
+row_all : (v at : ℕ) (row : List ℕ) → ((k : ℕ) → at ≤ k → k < length row → get_or row k 0 ≡ v → ⊥) → member v (take at row) ≡ member v row
+unfolding member
+row_all v zero [] h = refl
+row_all v zero (x ∷ row) h =
+    sym (ap (λ (t : Bool). t || member v row) (ne_eqb v x (λ e. h 0 (omega arith) (omega arith) (sym e)))
+    ∙ sym (row_all v zero row (λ k l m. h (suc k) (omega arith) (omega arith))))
+row_all v (suc at) [] h = refl
+row_all v (suc at) (x ∷ row) h =
+    ap (λ (t : Bool). eqb v x || t) (row_all v at row (λ k l m. h (suc k) (omega arith) (omega arith)))
+
+pub record Passed (labels row : List ℕ) (b : ℕ) (seen₀ : List ℕ) (place : ℕ) (seen : List ℕ) (found : ℕ) : Type 0 where
   pub long : length seen ≡ length seen₀
   pub marks : (a : ℕ) → a ≤ b
-      → is_seen seen b a ≡ (is_seen seen₀ b a || (eqb (at labels a) (at labels b) && member (pair b a) (take place keys)))
+      → is_seen seen b a ≡ (is_seen seen₀ b a || (eqb (at labels a) (at labels b) && member a (take place row)))
   pub low : SeenUpTo (b + 1) seen
   pub count : found ≡ count_below (is_seen seen b) (suc b)
 
@@ -71,56 +52,46 @@ taken_in true l m = refl
 taken_in false true m = refl
 taken_in false false m = refl
 
-module _ (labels keys : List ℕ) (b : ℕ) (rows : Rows (length labels) keys) (lt : b < length labels) (seen₀ : List ℕ) where
+module _ (labels row : List ℕ) (b : ℕ) (seen₀ : List ℕ) where
   abbrev same : ℕ → Bool
   same a = eqb (at labels a) (at labels b)
 
-  pub pass_none : {place found : ℕ} → LowerBound keys (b * span) place → SeenUpTo (b + 1) seen₀ → found ≡ count_below (is_seen seen₀ b) (suc b)
-      → Passed labels keys b seen₀ place seen₀ found
-  pass_none {place} low up count = record {
+  pub pass_none : {found : ℕ} → SeenUpTo (b + 1) seen₀ → found ≡ count_below (is_seen seen₀ b) (suc b) → Passed labels row b seen₀ 0 seen₀ found
+  unfolding member
+  pass_none up count = record {
     long = refl;
-    marks = λ a h.
-        let none = keys_none (pair b a) place keys (λ k l m e. omega (arith, low.before rows.rising k l, e)) in
-        sym (ap (λ (t : Bool). is_seen seen₀ b a || (same a && t)) none
-        ∙ ap (λ (t : Bool). is_seen seen₀ b a || t) (and-false (same a)) ∙ or-false (is_seen seen₀ b a));
+    marks = λ a h. sym (ap (λ (t : Bool). is_seen seen₀ b a || t) (and-false (same a)) ∙ or-false (is_seen seen₀ b a));
     low = up;
     count = count;
   }
 
-  module _ {place found : ℕ} {seen : List ℕ} (p : Passed labels keys b seen₀ place seen found) (inside : place < length keys)
-      (from : b * span ≤ get_or keys place 0) (to : get_or keys place 0 ≤ b * span + b) where
+  module _ {place found : ℕ} {seen : List ℕ} (p : Passed labels row b seen₀ place seen found) (inside : place < length row)
+      (to : get_or row place 0 ≤ b) where
     abbrev node : ℕ
-    node = get_or keys place 0 - b * span
+    node = get_or row place 0
 
-    more : (a : ℕ) → member (pair b a) (take (place + 1) keys) ≡ (member (pair b a) (take place keys) || eqb (pair b a) (get_or keys place 0))
-    more a = rw add-one (keys_one (pair b a) place keys inside)
-
-    -- no other node's
-    other_key : (a : ℕ) → (a ≡ node → ⊥) → eqb (pair b a) (get_or keys place 0) ≡ false
-    other_key a ne = ne_eqb (pair b a) (get_or keys place 0) (λ e. ne (omega (arith, e)))
-
-    node_low : node ≤ b
-    node_low = omega arith
+    more : (a : ℕ) → member a (take (place + 1) row) ≡ (member a (take place row) || eqb a node)
+    more a = rw add-one (member_one a place row inside)
 
     marks_more : (seen' : List ℕ) → ((a : ℕ) → (a ≡ node → ⊥) → is_seen seen' b a ≡ is_seen seen b a)
         → is_seen seen' b node ≡ (is_seen seen b node || same node) → (a : ℕ) → a ≤ b
-        → is_seen seen' b a ≡ (is_seen seen₀ b a || (same a && member (pair b a) (take (place + 1) keys)))
+        → is_seen seen' b a ≡ (is_seen seen₀ b a || (same a && member a (take (place + 1) row)))
     marks_more seen' others here a h = ⊎_elim
         (λ (e : a ≡ node).
         ap (is_seen seen' b) e ∙ here ∙ ap (λ (k : ℕ). is_seen seen b k || same k) (sym e)
         ∙ ap (λ (t : Bool). t || same a) (p.marks a h)
-        ∙ taken_in (is_seen seen₀ b a) (same a) (member (pair b a) (take place keys))
+        ∙ taken_in (is_seen seen₀ b a) (same a) (member a (take place row))
         ∙ ap (λ (t : Bool). is_seen seen₀ b a || (same a && t))
-        (sym (more a ∙ ap (λ (t : Bool). member (pair b a) (take place keys) || t) (eq-eqb (pair b a) (get_or keys place 0) (omega (arith, e))))))
+        (sym (more a ∙ ap (λ (t : Bool). member a (take place row) || t) (eq-eqb a node e))))
         (λ (ne : a ≡ node → ⊥).
         others a ne ∙ p.marks a h
         ∙ ap (λ (t : Bool). is_seen seen₀ b a || (same a && t))
-        (sym (more a ∙ ap (λ (t : Bool). member (pair b a) (take place keys) || t) (other_key a ne) ∙ or-false (member (pair b a) (take place keys)))))
+        (sym (more a ∙ ap (λ (t : Bool). member a (take place row) || t) (ne_eqb a node ne) ∙ or-false (member a (take place row)))))
         (same? a node)
 
     -- a node of b's label that is not seen yet
-    pub pass_more : length labels ≤ length seen₀ → at labels node ≡ at labels b → (at seen node ≡ b + 1 → ⊥)
-        → Passed labels keys b seen₀ (place + 1) (set seen node (b + 1)) (found + 1)
+    pub pass_more : b < length seen₀ → at labels node ≡ at labels b → (at seen node ≡ b + 1 → ⊥)
+        → Passed labels row b seen₀ (place + 1) (set seen node (b + 1)) (found + 1)
     pass_more room l fresh = record {
       long = length-set seen node (b + 1) ∙ p.long;
       marks = marks_more (set seen node (b + 1)) others (mark ∙ sym (ap (λ (t : Bool). is_seen seen b node || t) (eq-eqb _ _ l) ∙ or-true (is_seen seen b node)));
@@ -131,12 +102,12 @@ module _ (labels keys : List ℕ) (b : ℕ) (rows : Rows (length labels) keys) (
       count = omega (
         arith,
         p.count,
-        count_more (is_seen seen b) (is_seen (set seen node (b + 1)) b) node (suc b) (omega (arith, node_low)) (ne_eqb (at seen node) (b + 1) fresh) mark others,
+        count_more (is_seen seen b) (is_seen (set seen node (b + 1)) b) node (suc b) (omega (arith, to)) (ne_eqb (at seen node) (b + 1) fresh) mark others,
       );
     }
       where
         written : at (set seen node (b + 1)) node ≡ b + 1
-        written = get_or-set_same seen node (b + 1) 0 (omega (arith, p.long, node_low))
+        written = get_or-set_same seen node (b + 1) 0 (omega (arith, p.long, to))
 
         mark : is_seen (set seen node (b + 1)) b node ≡ true
         mark = eq-eqb _ _ written
@@ -145,23 +116,23 @@ module _ (labels keys : List ℕ) (b : ℕ) (rows : Rows (length labels) keys) (
         others a ne = ap (λ (k : ℕ). eqb k (b + 1)) (get_or-set_other seen node a (b + 1) 0 ne)
 
     -- a node that is seen already, or of another label
-    pass_over : is_seen seen b node ≡ (is_seen seen b node || same node) → Passed labels keys b seen₀ (place + 1) seen found
+    pass_over : is_seen seen b node ≡ (is_seen seen b node || same node) → Passed labels row b seen₀ (place + 1) seen found
     pass_over here = record { long = p.long; marks = marks_more seen (λ a ne. refl) here; low = p.low; count = p.count }
 
-    pub pass_seen : at seen node ≡ b + 1 → Passed labels keys b seen₀ (place + 1) seen found
+    pub pass_seen : at seen node ≡ b + 1 → Passed labels row b seen₀ (place + 1) seen found
     pass_seen e = let is = eq-eqb (at seen node) (b + 1) e in pass_over (is ∙ sym (ap (λ (t : Bool). t || same node) is))
 
-    pub pass_foreign : (at labels node ≡ at labels b → ⊥) → Passed labels keys b seen₀ (place + 1) seen found
+    pub pass_foreign : (at labels node ≡ at labels b → ⊥) → Passed labels row b seen₀ (place + 1) seen found
     pass_foreign ne =
         pass_over (sym (ap (λ (t : Bool). is_seen seen b node || t) (ne_eqb _ _ ne) ∙ or-false (is_seen seen b node)))
 
-  -- the keys up to b's own end before the place
-  pub pass_all : {place found : ℕ} {seen : List ℕ} → (place < length keys → b * span + b < get_or keys place 0)
-      → Passed labels keys b seen₀ place seen found → RowSeen labels keys b seen₀ seen found
-  pass_all {place} past p = record {
+  -- the nodes up to b's own end before the place
+  pub pass_all : {place found : ℕ} {seen : List ℕ} → Ascending row → (place < length row → b < get_or row place 0)
+      → Passed labels row b seen₀ place seen found → RowSeen labels row b seen₀ seen found
+  pass_all {place} rising past p = record {
     marks = λ a h.
-        let all = keys_all (pair b a) place keys (λ k l m e. omega (arith, past (omega arith), rows.rising.at place k l m, e)) in
-        p.marks a h ∙ ap (λ (t : Bool). is_seen seen₀ b a || (same a && t)) (all ∙ sym (edges_pair (length labels) keys b a lt (omega arith)));
+        let all = row_all a place row (λ k l m e. omega (arith, past (omega arith), rising.at place k l m, e)) in
+        p.marks a h ∙ ap (λ (t : Bool). is_seen seen₀ b a || (same a && t)) all;
     low = p.low;
     count = p.count;
   }
@@ -179,13 +150,15 @@ unseen seen b up a = ne_eqb (at seen a) (b + 1) (λ e. omega (arith, up a))
 pub none_seen : (seen : List ℕ) (b : ℕ) → SeenUpTo b seen → 0 ≡ count_below (is_seen seen b) (suc b)
 none_seen seen b up = sym (count_none (is_seen seen b) (suc b) (λ a h. unseen seen b up a))
 
-pub both_near : {forward backward labels : List ℕ} {b r r' : ℕ} (s₀ : List ℕ) {s₁ s₂ : List ℕ} → SeenUpTo b s₀
-    → RowSeen labels forward b s₀ s₁ r → RowSeen labels backward b s₁ s₂ r' → r' ≡ count_below (λ a. near_either forward backward labels a b) (suc b)
-both_near {forward} {backward} {labels} {b} s₀ {s₁} {s₂} up p q =
-    q.count ∙ count_cong (is_seen s₂ b) (λ a. near_either forward backward labels a b) (suc b) (λ a h.
+pub both_near : (edge : Edges) {inward outward labels : List ℕ} {b r r' : ℕ} (s₀ : List ℕ) {s₁ s₂ : List ℕ} → SeenUpTo b s₀
+    → ((a : ℕ) → member a inward ≡ edge b a) → ((a : ℕ) → member a outward ≡ edge a b)
+    → RowSeen labels inward b s₀ s₁ r → RowSeen labels outward b s₁ s₂ r' → r' ≡ count_below (λ a. near_either edge labels a b) (suc b)
+both_near edge {inward} {outward} {labels} {b} s₀ {s₁} {s₂} up forward backward p q =
+    q.count ∙ count_cong (is_seen s₂ b) (λ a. near_either edge labels a b) (suc b) (λ a h.
     q.marks a (omega arith)
-    ∙ ap (λ (t : Bool). t || near_by labels backward b a) (p.marks a (omega arith) ∙ ap (λ (t : Bool). t || near_by labels forward b a) (unseen s₀ b up a))
-    ∙ near_both (eqb (at labels a) (at labels b)) (edges (length labels) forward b a) (edges (length labels) backward b a))
+    ∙ ap (λ (t : Bool). t || near_by labels outward b a) (p.marks a (omega arith) ∙ ap (λ (t : Bool). t || near_by labels inward b a) (unseen s₀ b up a))
+    ∙ near_both (eqb (at labels a) (at labels b)) (member a inward) (member a outward)
+    ∙ ap₂ (λ (f g : Bool). eqb (at labels a) (at labels b) && (f || g)) (forward a) (backward a))
 
 -- ---- the joined pairs of each region
 
@@ -194,42 +167,42 @@ unfolding join_count
 join_few test zero h = omega arith
 join_few test (suc b) h = omega (arith, join_few test b (omega arith), count_le (λ a. test a b) (suc b))
 
-pub joins_none : (forward backward labels : List ℕ) (m : ℕ) → JoinsCounted forward backward labels 0 (replicate m 0)
+pub joins_none : (edge : Edges) (labels : List ℕ) (m : ℕ) → JoinsCounted edge labels 0 (replicate m 0)
 unfolding join_count
-joins_none forward backward labels m = record { is = λ r h. get_or-replicate m r 0 0 (omega (arith, length-replicate {A = ℕ} m 0)) }
+joins_none edge labels m = record { is = λ r h. get_or-replicate m r 0 0 (omega (arith, length-replicate {A = ℕ} m 0)) }
 
 pub zeros : (m a : ℕ) → at (replicate m 0) a ≡ 0
 zeros zero a = refl
 zeros (suc m) zero = refl
 zeros (suc m) (suc a) = zeros m a
 
-pub joins_more : {forward backward labels joins : List ℕ} {b count : ℕ} → JoinsCounted forward backward labels b joins
-    → count ≡ count_below (λ a. near_either forward backward labels a b) (suc b) → at labels b < length joins
-    → JoinsCounted forward backward labels (b + 1) (set joins (at labels b) (get_or joins (at labels b) 0 + count))
+pub joins_more : {edge : Edges} {labels joins : List ℕ} {b count : ℕ} → JoinsCounted edge labels b joins
+    → count ≡ count_below (λ a. near_either edge labels a b) (suc b) → at labels b < length joins
+    → JoinsCounted edge labels (b + 1) (set joins (at labels b) (get_or joins (at labels b) 0 + count))
 unfolding join_count
-joins_more {forward} {backward} {labels} {joins} {b} {count} p c low = rw add-one record {
+joins_more {edge} {labels} {joins} {b} {count} p c low = rw add-one record {
   is = λ r h.
       let inside : r < length joins = omega (arith, length-set joins (at labels b) (get_or joins (at labels b) 0 + count)) in
       ⊎_elim
       (λ (e : r ≡ at labels b).
       rw e (get_or-set_same joins (at labels b) (get_or joins (at labels b) 0 + count) 0 low)
-      ∙ ap₂ ◌+◌ (p.is (at labels b) low) (c ∙ count_cong _ _ (suc b) (λ a h. ap (λ (t : Bool). t && near_either forward backward labels a b) (sym (eq-eqb (at labels b) (at labels b) refl))))
-      ∙ ap (λ (k : ℕ). join_count (near_in forward backward labels k) b + count_below (λ a. near_in forward backward labels k a b) (suc b)) (sym e))
+      ∙ ap₂ ◌+◌ (p.is (at labels b) low) (c ∙ count_cong _ _ (suc b) (λ a h. ap (λ (t : Bool). t && near_either edge labels a b) (sym (eq-eqb (at labels b) (at labels b) refl))))
+      ∙ ap (λ (k : ℕ). join_count (near_in edge labels k) b + count_below (λ a. near_in edge labels k a b) (suc b)) (sym e))
       (λ (ne : r ≡ at labels b → ⊥).
       get_or-set_other joins (at labels b) r (get_or joins (at labels b) 0 + count) 0 ne
       ∙ p.is r inside
       ∙ omega (
         arith,
-        count_none (λ a. near_in forward backward labels r a b) (suc b) (λ a h.
-            ap (λ (t : Bool). t && near_either forward backward labels a b) (ne_eqb (at labels b) r (λ q. ne (sym q)))),
+        count_none (λ a. near_in edge labels r a b) (suc b) (λ a h.
+            ap (λ (t : Bool). t && near_either edge labels a b) (ne_eqb (at labels b) r (λ q. ne (sym q)))),
       ))
       (same? r (at labels b));
 }
 
-pub rings_flagged : {forward backward labels sizes joins : List ℕ} {flags : List Bool} {m : ℕ} → length sizes ≡ m → length joins ≡ m
-    → Counted (length labels) labels sizes → JoinsCounted forward backward labels (length labels) joins
+pub rings_flagged : {edge : Edges} {labels sizes joins : List ℕ} {flags : List Bool} {m : ℕ} → length sizes ≡ m → length joins ≡ m
+    → Counted (length labels) labels sizes → JoinsCounted edge labels (length labels) joins
     → Flags m (λ r. leb (get_or sizes r 0) (get_or joins r 0)) flags
-    → Flags m (λ r. leb (count_below (λ a. eqb (at labels a) r) (length labels)) (join_count (near_in forward backward labels r) (length labels))) flags
+    → Flags m (λ r. leb (count_below (λ a. eqb (at labels a) r) (length labels)) (join_count (near_in edge labels r) (length labels))) flags
 rings_flagged e f c p flagged = record {
   long = flagged.long;
   at = λ r h. flagged.at r h ∙ ap₂ leb (c.at r (omega (arith, e))) (p.is r (omega (arith, f)));

@@ -1,8 +1,8 @@
--- The rings of a prepared plot, by its tables.
+-- The rings of a prepared plot, by its rows.
 --     labels_low             its labels are numbers of regions
---     near_joined            the joined pairs by the two tables are those of its signals
+--     near_joined            the joined pairs by the rows are those of its signals
 --     prepared_rings         so are the flags
---     regions_written        the front of its regions
+--     regions_written        the regions that are written
 -- Assumes nothing.
 use mathlib.Core.Path.{◌≡◌, refl, sym, ap, ap₂, ◌∙◌, subst}
 use mathlib.Core.Bool.{Bool, true, false, ◌&&◌, ◌||◌, and-false, or_comm}
@@ -10,21 +10,16 @@ use mathlib.Core.List.{List}
 use Prim.Native.Nat.{ℕ}
 use native.Mathlib.Omega.{arith}
 use lib.Dec.{eqb, leb}
-use lib.ListN.{length, get_or, take}
-use lib.Seq.{length-take-le}
+use lib.ListN.{length, get_or}
 use lib.IntN.{ℤ}
-use Rattle.std.proofs.lemmas.List.{get_or-take}
 use borrow.Author.Tests.{eqb-true}
 use Rattle.sets.specs.Members.{count_below}
-use Rattle.lists.specs.Records.{component_count}
 use Rattle.lists.specs.First.{tabulate}
-use Rattle.regions.specs.Graph.{Edges, at}
-use Rattle.regions.specs.Keys.{edges}
+use Rattle.regions.specs.Graph.{at}
+use Rattle.graph.specs.Rows.{edges_of}
 use Rattle.signals.specs.Signals.{signals}
 use Rattle.signals.specs.Regions.{labels, region_count, region_of_place, regions_of}
-use Rattle.signals.specs.Flags.{Flags, Indices, Numbers}
-use Rattle.signals.proofs.Ends.{ends_within}
-use Rattle.signals.proofs.Graph.{edges_back}
+use Rattle.signals.specs.Flags.{Flags, Indices}
 use Rattle.signals.proofs.Within.{scene_regions, labels_count}
 use Rattle.liveness.specs.Scene.{Scene, Prepared}
 use Rattle.liveness.proofs.Answers.{tabulated_same}
@@ -42,8 +37,8 @@ same_region a b r x y = go (eqb b r) refl
     go true e = ap₂ (λ (k : ℕ) (s : Bool). eqb a k && s) (eqb-true b r e) (or_comm x y)
     go false e = sym (and-false (eqb a r))
 
-module _ {cs ps : List ℤ} (scene : Scene cs ps) {sources sinks forward backward labelled members region_at : List ℕ}
-    (p : Prepared cs ps sources sinks forward backward labelled members region_at) where
+module _ {cs ps : List ℤ} (scene : Scene cs ps) {ends next back_ends back labelled members region_at : List ℕ}
+    (p : Prepared cs ps ends next back_ends back labelled members region_at) where
   pub labels_low : Indices (length labelled) (region_count cs ps) labelled
   labels_low =
       subst (λ (l : List ℕ). Indices (length l) (region_count cs ps) l) (sym p.labels_are) record {
@@ -51,19 +46,13 @@ module _ {cs ps : List ℤ} (scene : Scene cs ps) {sources sinks forward backwar
         below = λ m h. (scene_regions cs ps scene.ends).below m (omega (arith, labels_count cs ps scene.ends));
       }
 
-  turned : (a b : ℕ) → edges (component_count cs) backward a b ≡ signals cs ps b a
-  turned = edges_back scene.components.few p.tables.source_members p.tables.sink_members (ends_within cs ps scene.ends) p.tables.backward_keys
-
-  pub near_joined : (r a b : ℕ) → near_in forward backward labelled r a b ≡ joined (signals cs ps) (members_of_region cs ps r) a b
+  pub near_joined : (r a b : ℕ) → near_in (edges_of ends next) labelled r a b ≡ joined (signals cs ps) (members_of_region cs ps r) a b
   near_joined r a b =
-      let n = component_count cs in
       let l = labels cs ps in
-      rw (p.labels_are, labels_count cs ps scene.ends)
-      (ap₂ (λ (f : Bool) (g : Bool). eqb (at l b) r && (eqb (at l a) (at l b) && (f || g))) (ap (λ (g : Edges). g b a) (graph scene p)) (turned b a)
-      ∙ same_region (at l a) (at l b) r (signals cs ps b a) (signals cs ps a b))
+      rw (p.labels_are, graph scene p) (same_region (at l a) (at l b) r (signals cs ps b a) (signals cs ps a b))
 
   pub prepared_rings : {flags : List Bool} {m : ℕ} → m ≡ region_count cs ps
-      → Flags m (λ r. leb (count_below (λ a. eqb (at labelled a) r) (length labelled)) (join_count (near_in forward backward labelled r) (length labelled))) flags
+      → Flags m (λ r. leb (count_below (λ a. eqb (at labelled a) r) (length labelled)) (join_count (near_in (edges_of ends next) labelled r) (length labelled))) flags
       → Flags (region_count cs ps) (has_ring cs ps) flags
   prepared_rings e f = record {
     long = omega (arith, e, f.long);
@@ -74,11 +63,9 @@ module _ {cs ps : List ℤ} (scene : Scene cs ps) {sources sinks forward backwar
         p.labels_are (labels_long scene p);
   }
 
--- the front that is written
-pub regions_written : (cs ps : List ℤ) {region_at : List ℕ} {n : ℕ} → Numbers (component_count cs) (region_of_place cs ps) region_at → n ≡ component_count cs
-    → tabulate (λ q. get_or (take n region_at) q 0) (length (take n region_at)) ≡ regions_of cs ps
-regions_written cs ps {region_at} {n} r e =
-    let long : length (take n region_at) ≡ n = length-take-le n region_at (omega (arith, r.long)) in
-    tabulated_same (λ q. get_or (take n region_at) q 0) (region_of_place cs ps) (length (take n region_at))
-    (λ q h. get_or-take n region_at q 0 (omega (arith, long)) ∙ r.at q (omega (arith, long)))
-    ∙ ap (tabulate (region_of_place cs ps)) (long ∙ e)
+-- what is written
+pub regions_written : {cs ps : List ℤ} {ends next back_ends back labelled members region_at : List ℕ}
+    → Prepared cs ps ends next back_ends back labelled members region_at → tabulate (λ q. get_or region_at q 0) (length region_at) ≡ regions_of cs ps
+regions_written {cs} {ps} {region_at = region_at} p =
+    tabulated_same (λ q. get_or region_at q 0) (region_of_place cs ps) (length region_at) (λ q h. p.regions_are.at q (omega (arith, p.regions_long)))
+    ∙ ap (tabulate (region_of_place cs ps)) p.regions_long

@@ -1,35 +1,31 @@
 // A region has a ring exactly if it has at least as many joined pairs as members; so one pass over the edges tells.
 ghost use Rattle.std.specs.Prelude.{◌≡◌, ◌+◌, ◌≤◌, ◌<◌, suc, eqb, leb, length, get_or};
 ghost use Rattle.sets.specs.Members.{count_below};
+ghost use Rattle.tables.specs.Order.{Ascending};
 ghost use Rattle.lists.specs.Limits.{component_limit};
 ghost use Rattle.regions.specs.Graph.{at};
+ghost use Rattle.graph.specs.Rows.{edges_of};
 ghost use Rattle.signals.specs.Flags.{Flags, Indices};
-ghost use Rattle.signals.specs.Seen.{Rows};
 ghost use Rattle.rings.specs.Counts.{is_seen, SeenUpTo, RowSeen, near_either, near_in, JoinsCounted};
 ghost use Rattle.rings.specs.Rings.{join_count};
 
 use lists::COMPONENTS;
-use regions::Graph;
 use signals::flags::count_into;
 use signals::network::Network;
-use tables::SPAN;
 
-// Marks the nodes up to b, b itself included, to which an edge leads from b within its region; answers how many are marked with those
-// that were.
-fn count_row(graph: &Graph, labels: &[usize], b: usize, seen: &mut [usize], count: usize) -> usize
-    requires rows { Rows (length labels.now) graph.now.keys.now × (b < length labels.now) }
+// Marks the nodes of a row up to b, b itself included, that have b's label; answers how many are marked with those that were.
+fn count_row(row: &[u16], labels: &[u16], b: usize, seen: &mut [usize], count: usize) -> usize
+    requires row { Ascending row.now × Indices (length row.now) (length labels.now) row.now × (b < length labels.now) }
     requires seen_room { (length labels.now ≤ length seen.old) × (length labels.now ≤ component_limit) }
     requires counted { SeenUpTo (b + 1) seen.old × (count ≡ count_below (is_seen seen.old b) (suc b)) }
-    ensures { RowSeen labels.now graph.now.keys.now b seen.old seen.new result }
+    ensures { RowSeen labels.now row.now b seen.old seen.new result }
 {
-    let at = graph.first_key(b);
-    let low = b as u64 * SPAN;
     let mut found = count;
-    for key in &graph.keys[at..] {
-        if low + (b as u64) < *key {
+    for neighbour in row {
+        let a = usize::from(*neighbour);
+        if b < a {
             return found;
         }
-        let a = (key - low) as usize;
         if labels[a] == labels[b] && seen[a] != b + 1 {
             seen[a] = b + 1;
             found += 1;
@@ -43,11 +39,12 @@ fn count_near(network: &Network, b: usize, seen: &mut [usize]) -> usize
     requires inside { (b < length network.now.labels.now) × (length network.now.labels.now ≤ component_limit) }
     requires seen_room { (length network.now.labels.now ≤ length seen.old) × SeenUpTo b seen.old }
     ensures count { let t = network.now in
-        result ≡ count_below (λ a. near_either t.forward.keys.now t.backward.keys.now t.labels.now a b) (suc b) }
+        result ≡ count_below (λ a. near_either (edges_of t.forward.ends.now t.forward.next.now) t.labels.now a b) (suc b) }
     ensures marks { SeenUpTo (b + 1) seen.new }
 {
-    let onward = count_row(&network.forward, network.labels, b, seen, 0);
-    count_row(&network.backward, network.labels, b, seen, onward)
+    let labels = network.labels;
+    let onward = count_row(network.forward.row(b), labels, b, seen, 0);
+    count_row(network.backward.row(b), labels, b, seen, onward)
 }
 
 // How many joined pairs each region has.
@@ -55,12 +52,12 @@ fn count_joins(network: &Network, joins: &mut [usize])
     requires { let t = network.now in
         Indices (length t.labels.now) (length joins.old) t.labels.now × (length t.labels.now ≤ component_limit) }
     ensures { let t = network.now in
-        JoinsCounted t.forward.keys.now t.backward.keys.now t.labels.now (length t.labels.now) joins.new }
+        JoinsCounted (edges_of t.forward.ends.now t.forward.next.now) t.labels.now (length t.labels.now) joins.new }
 {
     let mut seen = [0usize; COMPONENTS];
     joins.fill(0);
     for b in 0..network.labels.len() {
-        joins[network.labels[b]] += count_near(network, b, &mut seen);
+        joins[usize::from(network.labels[b])] += count_near(network, b, &mut seen);
     }
 }
 
@@ -80,7 +77,7 @@ pub fn flag_rings(network: &Network, flags: &mut [bool])
         × ((length t.labels.now ≤ component_limit) × (length flags.old ≤ component_limit)) }
     ensures { let t = network.now in Flags (length flags.old) (λ r.
         leb (count_below (λ m. eqb (at t.labels.now m) r) (length t.labels.now))
-        (join_count (near_in t.forward.keys.now t.backward.keys.now t.labels.now r) (length t.labels.now))) flags.new }
+        (join_count (near_in (edges_of t.forward.ends.now t.forward.next.now) t.labels.now r) (length t.labels.now))) flags.new }
 {
     let count = flags.len();
     let mut size_at = [0usize; COMPONENTS];

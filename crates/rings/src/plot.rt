@@ -1,7 +1,7 @@
 // A plot is prepared, its rings are found, and the flags become a set.
 ghost use Rattle.std.specs.Prelude.{Ok};
 ghost use Rattle.std.specs.Prelude.{◌≡◌, ◌≤◌, length};
-ghost use Rattle.lists.specs.Records.{component_count, port_count};
+ghost use Rattle.lists.specs.Records.{component_count};
 ghost use Rattle.lists.specs.Slices.{laid};
 ghost use Rattle.signals.specs.Flags.{Flags};
 ghost use Rattle.signals.specs.Regions.{region_count, regions_of};
@@ -11,8 +11,8 @@ ghost use Rattle.rings.specs.Counts.{RingsRoom};
 
 use super::Rings;
 use super::count::flag_rings;
-use lists::{COMPONENTS, CONNECTIONS};
-use liveness::plot::{Plot, PreparedPlot, RowHints};
+use lists::COMPONENTS;
+use liveness::plot::{Plot, PreparedPlot, Room};
 use liveness::steps::put_regions;
 use sets::ComponentSet;
 use signals::network::Network;
@@ -37,48 +37,15 @@ fn show(plot: &PreparedPlot, regions: &mut [u64]) -> Rings
     ensures written { let p = plot.now.plot in regions.new ≡ laid (regions_of p.components.now p.ports.now) regions.old }
     ensures answer { let p = plot.now.plot in RingsOf p.components.now p.ports.now result }
 {
-    let n = plot.labels.len();
     let count = plot.count;
     let mut flag_at = [false; COMPONENTS];
     let flags = &mut flag_at[..count];
     flag_plot(plot, flags);
-    put_regions(&plot.region_at[..n], regions);
+    put_regions(plot.region_at, regions);
     Rings {
         count,
         rings: ComponentSet::of_flags(flags),
     }
-}
-
-// Prepares a plot in arrays that are lent, and finds its rings.
-fn rings_in(
-    plot: &Plot,
-    forward: &mut [u64],
-    backward: &mut [u64],
-    labels: &mut [usize],
-    regions: &mut [u64],
-    stack: &mut [usize],
-) -> Rings
-    requires forward_room { (length forward.old ≡ port_count plot.now.ports.now) × (length backward.old ≡ port_count plot.now.ports.now) }
-    requires labels_room { length labels.old ≡ component_count plot.now.components.now }
-    requires rings_room { RingsRoom plot.now.components.now regions.old stack.old }
-    ensures { let p = plot.now in RingsBy (Ok tt) p.components.now p.ports.now regions.old regions.new stack.old stack.new (Ok result) }
-{
-    let mut members = [0usize; COMPONENTS];
-    let mut region_at = [0usize; COMPONENTS];
-    let mut rows = RowHints::new();
-    let count = plot.prepare(
-        forward,
-        backward,
-        labels,
-        &mut members,
-        &mut region_at,
-        &mut rows,
-        stack,
-    );
-    let prepared = plot.prepared(
-        forward, backward, labels, &members, &region_at, &rows, count,
-    );
-    show(&prepared, regions)
 }
 
 // Finds the rings of a plot: the region of each component at the front of the lent slice. Leaves the stack zero.
@@ -86,17 +53,7 @@ pub(crate) fn rings_plot(plot: &Plot, regions: &mut [u64], stack: &mut [usize]) 
     requires { RingsRoom plot.now.components.now regions.old stack.old }
     ensures { let p = plot.now in RingsBy (Ok tt) p.components.now p.ports.now regions.old regions.new stack.old stack.new (Ok result) }
 {
-    let n = plot.keys.len();
-    let m = plot.port_list().count();
-    let mut forward = [0u64; CONNECTIONS];
-    let mut backward = [0u64; CONNECTIONS];
-    let mut labels = [0usize; COMPONENTS];
-    rings_in(
-        plot,
-        &mut forward[..m],
-        &mut backward[..m],
-        &mut labels[..n],
-        regions,
-        stack,
-    )
+    let mut room = Room::new();
+    let prepared = plot.prepare(&mut room, stack);
+    show(&prepared, regions)
 }

@@ -1,11 +1,9 @@
--- The tables of keys are the graph of `signals`.
+-- The ends of connections as members, and the table of fed ports.
 --     pair_same, slot_same                  two pairs are equal where their parts are
 --     pairs_member                          what a table of keys has
 --     settled_small                         settled members are below the span
 --     source_at, sink_at                    and are those at the ends of the connections
---     sortable_members, sortable_slots      so that they can be sorted as pairs
---     edges_signals, edges_back             the forward and the backward table
---     edges_turned                          each holds the edges of the other, turned around
+--     sortable_slots                        so that fed ports can be sorted as pairs
 --     fed_at                                the table of fed ports
 -- Assumes nothing.
 use mathlib.Core.Path.{◌≡◌, refl, sym, ap, ◌∙◌}
@@ -18,9 +16,9 @@ use native.Mathlib.Omega.{arith}
 use lib.Dec.{eqb}
 use lib.ListN.{length, get_or}
 use lib.IntN.{ℤ}
-use borrow.Author.Tests.{eq-eqb, ne_eqb, lt-ltb, le-ltb}
+use borrow.Author.Tests.{eq-eqb, ne_eqb}
 use Rattle.tables.specs.Order.{member}
-use Rattle.tables.specs.Laws.{same?, order?, member_rearranged}
+use Rattle.tables.specs.Laws.{same?, member_rearranged}
 use Rattle.tables.specs.Pairs.{pair, span}
 use Rattle.lists.specs.Limits.{component_limit, port_width}
 use Rattle.lists.specs.Records.{natural_at, port_connection, component_count, port_count}
@@ -28,14 +26,12 @@ use Rattle.lists.specs.First.{is_found, some}
 use Rattle.lists.specs.Ids.{member_of}
 use Rattle.lists.specs.Ends.{Settled}
 use Rattle.lists.specs.Within.{PortConnections}
-use Rattle.lists.proofs.Search.{first_nothing}
 use Rattle.lists.proofs.Fields.{field_most}
 use Rattle.lists.proofs.Members.{member_below}
-use Rattle.regions.specs.Keys.{edges, Reversed}
-use Rattle.signals.specs.Signals.{is_signal, source_member, sink_member, signals}
+use Rattle.signals.specs.Signals.{is_signal, source_member, sink_member}
 use Rattle.signals.specs.Keys.{Slots, Sortable, KeysOf, signal_key, slot, ports}
 use Rattle.signals.proofs.Tabulated.{member_tab, first_cong}
-use Rattle.signals.proofs.Ends.{members_small, EndsWithin}
+use Rattle.signals.proofs.Ends.{members_small}
 
 -- ---- tests of pairs
 
@@ -85,34 +81,6 @@ module _ {ps : List ℤ} {firsts seconds : List ℕ} {nowhere : ℕ} {keys : Lis
       ∙ ap is_found (first_cong (λ k. eqb (key k) (pair a b)) (has_pair ps firsts seconds a b) 0 (port_count ps) (λ k p q.
       key_same (is_signal ps k) (get_or firsts k 0) (get_or seconds k 0) nowhere a b (small k (omega arith)) h l))
 
-  module _ (n : ℕ) (few : n ≤ nowhere) (fits : n ≤ span)
-      (ends : (k : ℕ) → k < port_count ps → is_signal ps k ≡ true → (get_or firsts k 0 < n) × (get_or seconds k 0 < n)) where
-    -- no signal connection has an end past n
-    past : (a b : ℕ) → (a < n → b < n → ⊥) → (k : ℕ) → k < port_count ps → has_pair ps firsts seconds a b k ≡ false
-    past a b out k h = go (is_signal ps k) (ends k h)
-      where
-        go : (s : Bool) → (s ≡ true → (get_or firsts k 0 < n) × (get_or seconds k 0 < n)) → (s && (eqb (get_or firsts k 0) a && eqb (get_or seconds k 0) b)) ≡ false
-        go false e = refl
-        go true e =
-            let below = e refl in
-            ⊎_elim
-            (λ (p : get_or firsts k 0 ≡ a). rw (eq-eqb _ a p) (ne_eqb (get_or seconds k 0) b (λ q. out (omega (arith, below.0)) (omega (arith, below.1)))))
-            (λ d. rw (ne_eqb _ a d))
-            (same? (get_or firsts k 0) a)
-
-    pub edges_are : (a b : ℕ) → edges n keys a b ≡ some (has_pair ps firsts seconds a b) (port_count ps)
-    unfolding edges
-    edges_are a b =
-        let none : (a < n → b < n → ⊥) → false ≡ some (has_pair ps firsts seconds a b) (port_count ps) =
-        λ out. sym (ap is_found (first_nothing (has_pair ps firsts seconds a b) 0 (port_count ps) (λ k p q. past a b out k (omega arith)))) in
-        ⊎_elim
-        (λ (l : n ≤ a). rw (le-ltb a n l) (none (λ p q. omega arith)))
-        (λ (l : a < n). ⊎_elim
-        (λ (m : n ≤ b). rw (lt-ltb a n l, le-ltb b n m) (none (λ p q. omega arith)))
-        (λ (m : b < n). rw (lt-ltb a n l, lt-ltb b n m) (pairs_member (λ k h s. omega (arith, (ends k h s).1)) a b (omega arith) (omega arith)))
-        (order? n b))
-        (order? n a)
-
 -- ---- settled members
 
 module _ {cs ps : List ℤ} {f : ℕ} {members : List ℕ} (few : component_count cs ≤ component_limit) (s : Settled cs ps f members) where
@@ -126,41 +94,7 @@ module _ {cs ps : List ℤ} {sources sinks : List ℕ} (few : component_count cs
   pub sink_at : (k : ℕ) → k < port_count ps → get_or sinks k 0 ≡ sink_member cs ps k
   sink_at k h = t.at k h
 
-  module _ (ends : EndsWithin cs ps) where
-    pub edges_signals : {keys : List ℕ} → KeysOf ps sources sinks component_limit keys → edges (component_count cs) keys ≡ signals cs ps
-    unfolding signals
-    edges_signals {keys} table = λ i a b. same a b i
-      where
-        same : (a b : ℕ) → edges (component_count cs) keys a b ≡ signals cs ps a b
-        same a b =
-            edges_are table (component_count cs) few (omega arith)
-            (λ k h signal. let e = ends k h signal in (rw (source_at k h) e.0, rw (sink_at k h) e.1)) a b
-            ∙ ap is_found (first_cong _ _ 0 (port_count ps) (λ k p q. rw (source_at k (omega arith), sink_at k (omega arith))))
-
-    pub edges_back : {keys : List ℕ} → KeysOf ps sinks sources component_limit keys → (a b : ℕ) → edges (component_count cs) keys a b ≡ signals cs ps b a
-    unfolding signals
-    edges_back table a b =
-        edges_are table (component_count cs) few (omega arith)
-        (λ k h signal. let e = ends k h signal in (rw (sink_at k h) e.1, rw (source_at k h) e.0)) a b
-        ∙ ap is_found (first_cong _ _ 0 (port_count ps) (λ k p q.
-        rw (source_at k (omega arith), sink_at k (omega arith)) (and_turn (is_signal ps k) (eqb (sink_member cs ps k) a) (eqb (source_member cs ps k) b))))
-
-    pub edges_turned : {forward backward : List ℕ} → KeysOf ps sources sinks component_limit forward → KeysOf ps sinks sources component_limit backward
-        → Reversed (component_count cs) forward backward
-    edges_turned f b = record { turned = λ x y. edges_back b x y ∙ sym (ap (λ (g : ℕ → ℕ → Bool). g y x) (edges_signals f)) }
-
 -- ---- sorted as pairs
-
-module _ {cs ps : List ℤ} {sources sinks : List ℕ} {f g : ℕ} (few : component_count cs ≤ component_limit)
-    (s : Settled cs ps f sources) (t : Settled cs ps g sinks) (sources_long : port_count ps ≤ length sources) (sinks_long : port_count ps ≤ length sinks) where
-  pub sortable_members : Sortable (port_count ps) sources sinks component_limit
-  sortable_members = record {
-    firsts_long = sources_long;
-    seconds_long = sinks_long;
-    first = λ k h. omega (arith, settled_small few s k h);
-    second = λ k h. omega (arith, settled_small few t k h);
-    nowhere_small = omega arith;
-  }
 
 -- connection k feeds a port of member m from member a
 abbrev pub feeds : List ℤ → List ℤ → ℕ → ℕ → ℕ → ℕ → Bool

@@ -1,18 +1,15 @@
 -- Laws of the definitions, for the proofs of this crate and of those above it.
---     Tabulated, Ends, Graph            the tables of keys are the graph of `signals`
---     Turned                            the pairs of a table turned round are the table backward
+--     Tabulated, Ends, Graph            the ends of connections, and the table of fed ports
 --     Marks, Stores, Lent               flags and numbers, stored place by place
 --     Neighbours                        the neighbours seen
 --     Staged                            the stages give `labels` and `is_cyclic`
 --     Within                            the signals of a scene stay within its members
---     Tested                            tests of the edges of a table
+--     Tested                            truth values that imply each other
 --     Rowed                             the rows of a graph with labels
 --     Edged                             flags of the regions that edges lead into
---     Crossed                           the pairs of regions that signals lead from and to
 pub mod Tabulated
 pub mod Ends
 pub mod Graph
-pub mod Turned
 pub mod Marks
 pub mod Neighbours
 pub mod Stores
@@ -22,4 +19,3 @@ pub mod Within
 pub mod Tested
 pub mod Rowed
 pub mod Edged
-pub mod Crossed

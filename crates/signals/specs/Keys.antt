@@ -1,6 +1,6 @@
--- The tables of keys by which the program walks the signal edges: what each holds, and that it is the graph of `signals`.
+-- The table of keys of the signal edges by the port that they feed.
 -- Assumes nothing: these are definitions.
-use Rattle.std.specs.Prelude.{ℕ, ◌+◌, ◌*◌, ◌/◌, ◌%◌, ◌^◌, ◌≤◌, ◌<◌, ◌≡◌, Bool, cond, List, length, get_or, ℤ}
+use Rattle.std.specs.Prelude.{ℕ, ◌+◌, ◌*◌, ◌^◌, ◌≤◌, ◌<◌, ◌≡◌, Bool, cond, List, length, get_or, ℤ}
 use Rattle.tables.specs.Order.{Sorted}
 use Rattle.tables.specs.Pairs.{pair, span}
 use Rattle.lists.specs.Limits.{component_limit}
@@ -22,10 +22,6 @@ pub record Slots (ps : List ℤ) (sinks slots : List ℕ) : Type 0 where
 -- the pair of two numbers, or one that no node has
 abbrev pub signal_key : Bool → ℕ → ℕ → ℕ → ℕ
 signal_key signal first second nowhere = cond signal (pair first second) (pair nowhere component_limit)
-
--- a pair turned round
-abbrev pub turned : ℕ → ℕ
-turned key = pair (key % span) (key / span)
 
 -- each first number has 32 bits, and each second is below the span
 pub record Sortable (m : ℕ) (firsts seconds : List ℕ) (nowhere : ℕ) : Type 0 where

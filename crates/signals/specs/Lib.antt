@@ -7,4 +7,3 @@ pub mod Keys
 pub mod Flags
 pub mod Seen
 pub mod Stages
-pub mod Crossings

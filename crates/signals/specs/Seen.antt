@@ -1,9 +1,7 @@
 -- What the search for inferred inputs keeps: the neighbours seen so far; and flags of the regions that edges lead into.
 -- Assumes nothing: these are definitions.
-use Rattle.std.specs.Prelude.{ℕ, ◌/◌, ◌%◌, ◌≤◌, ◌<◌, ◌≡◌, Bool, true, false, ◌&&◌, ◌||◌, List, ◌↔◌, eqb, ltb, leb, length, get_or, ℤ}
+use Rattle.std.specs.Prelude.{ℕ, ◌≤◌, ◌<◌, ◌≡◌, Bool, true, false, ◌&&◌, ◌||◌, List, ◌↔◌, eqb, leb, length, get_or, ℤ}
 use Rattle.sets.specs.Members.{count_below}
-use Rattle.tables.specs.Order.{Ascending}
-use Rattle.tables.specs.Pairs.{span}
 use Rattle.lists.specs.Records.{port_count}
 use Rattle.lists.specs.First.{some}
 use Rattle.regions.specs.Graph.{Edges, marked}
@@ -16,24 +14,6 @@ abbrev pub SeenOf : ℕ → (ℕ → Bool) → Seen → Type 0
 SeenOf n test None = (j : ℕ) → j < n → test j ≡ false
 SeenOf n test (One i) = (i < n) × ((test i ≡ true) × ((j : ℕ) → j < n → test j ≡ true → j ≡ i))
 SeenOf n test Many = (i : ℕ) × ((j : ℕ) × ((i < j) × ((j < n) × ((test i ≡ true) × (test j ≡ true)))))
-
--- a rising table of keys whose pairs of a node below n lead to a node below n
-pub record Rows (n : ℕ) (keys : List ℕ) : Type 0 where
-  pub nodes : n ≤ span
-  pub rising : Ascending keys
-  pub within : (i : ℕ) → i < length keys → get_or keys i 0 / span < n → get_or keys i 0 % span < n
-
--- the keys at the front of a table are the edges from nodes below n, and lead to such nodes
-pub record EdgeKeys (n : ℕ) (keys front : List ℕ) : Type 0 where
-  pub few : length front ≤ length keys
-  pub same : (i : ℕ) → i < length front → get_or front i 0 ≡ get_or keys i 0
-  pub first : (i : ℕ) → i < length front → get_or front i 0 / span < n
-  pub second : (i : ℕ) → i < length front → get_or front i 0 % span < n
-  pub past : (i : ℕ) → length front ≤ i → i < length keys → n ≤ get_or keys i 0 / span
-
--- a key is an edge from a node below n, and its two nodes pass the test
-abbrev pub of_edge : ℕ → (ℕ → ℕ → Bool) → ℕ → Bool
-of_edge n test key = ltb (key / span) n && test (key / span) (key % span)
 
 -- two nodes have the same label, and an edge leads from the one to the other, either way
 abbrev pub near : Edges → List ℕ → ℕ → ℕ → Bool

@@ -5,18 +5,10 @@ use Rattle.sets.specs.Members.{count_below}
 use Rattle.lists.specs.Limits.{component_limit}
 use Rattle.lists.specs.Records.{component}
 use Rattle.lists.specs.First.{some}
-use Rattle.lists.specs.Ends.{Settled}
 use Rattle.regions.specs.Graph.{Edges, marked}
 use Rattle.signals.specs.Regions.{wire}
 use Rattle.signals.specs.Keys.{Slots, KeysOf, ports}
 use Rattle.signals.specs.Seen.{few_near}
-
--- the members at the ends of each port connection, and the sorted tables of the signal edges, forward and backward
-pub record Tables (cs ps : List ℤ) (sources sinks forward backward : List ℕ) : Type 0 where
-  pub source_members : Settled cs ps 0 sources
-  pub sink_members : Settled cs ps 2 sinks
-  pub forward_keys : KeysOf ps sources sinks component_limit forward
-  pub backward_keys : KeysOf ps sinks sources component_limit backward
 
 -- the sorted table of the signal edges by the port that they feed
 pub record FedTable (ps : List ℤ) (sources sinks fed : List ℕ) : Type 0 where

@@ -1,13 +1,11 @@
-// The signal edges of a scene as sorted tables of keys: forward, backward, and by the port that they feed.
-ghost use Rattle.std.specs.Prelude.{◌≡◌, Bool, List, map, cond, ℕ, ◌+◌, ◌*◌, ◌/◌, ◌^◌, ◌≤◌, ◌<◌, length, get_or, take};
-ghost use Rattle.tables.specs.Pairs.{pair, span, KeysBelow};
-ghost use Rattle.tables.specs.Order.{Ascending, Sorted};
+// The signal edges of a scene as a sorted table of keys: by the port that they feed.
+ghost use Rattle.std.specs.Prelude.{◌≡◌, ℕ, ◌+◌, ◌*◌, ◌^◌, ◌≤◌, ◌<◌, length, get_or};
+ghost use Rattle.tables.specs.Pairs.{span};
 ghost use Rattle.lists.specs.Records.{port_connection, port_count};
 ghost use Rattle.lists.specs.Limits.{component_limit};
 ghost use Rattle.lists.specs.Ends.{sources_of, sinks_of};
 ghost use Rattle.signals.specs.Signals.{is_signal};
-ghost use Rattle.signals.specs.Keys.{Slots, slot, signal_key, signal_keys, turned, KeysOf, Sortable};
-ghost use Rattle.signals.specs.Seen.{Rows, EdgeKeys};
+ghost use Rattle.signals.specs.Keys.{Slots, slot, signal_key, signal_keys, KeysOf, Sortable};
 
 use lists::COMPONENTS;
 use lists::ends::Ends;
@@ -42,8 +40,8 @@ pub(crate) fn settle_slots(ports: PortList, ends: &[Ends], fed: &mut [Ends])
     }
 }
 
-// The key of port connection k: the pair of two numbers, or of `nowhere` and COMPONENTS where it is a support. Where `nowhere` is
-// COMPONENTS too, the key of a support turned round is itself. A number and no Option: the key is sorted with the others, behind them.
+// The key of port connection k: the pair of two numbers, or of `nowhere` and COMPONENTS where it is a support. A number and no Option:
+// the key is sorted with the others, behind them.
 fn signal_key(ports: PortList, k: usize, first: usize, second: usize, nowhere: usize) -> u64
     requires k_bound { k < port_count ports.numbers.now }
     requires first_bound { (first < 2 ^ 32) × ((second < span) × (nowhere < 2 ^ 32)) }
@@ -80,34 +78,4 @@ pub fn signal_keys(
 {
     list_keys(ports, ends, nowhere, keys);
     tables::sort(keys, spare);
-}
-
-// Writes each pair turned round.
-fn turn(keys: &[u64], out: &mut [u64])
-    requires { length out.old ≡ length keys.now }
-    ensures { out.new ≡ map turned keys.now }
-{
-    for (i, key) in keys.iter().enumerate() {
-        out[i] = key % SPAN * SPAN + key / SPAN;
-    }
-}
-
-// The pairs of a sorted table turned round, sorted by one pass: their second numbers rise. The spare is for them before it. Leaves in the
-// counts, of which there is one for each number of a pair, where the keys of each first number end.
-pub fn turned_keys(keys: &[u64], out: &mut [u64], spare: &mut [u64], counts: &mut [usize])
-    requires out_len { (length out.old ≡ length keys.now) × (length keys.now ≤ length spare.old) }
-    requires ascending { Ascending keys.now × ((length counts.old ≤ span) × KeysBelow (length counts.old) keys.now) }
-    ensures { Sorted (map turned keys.now) out.new }
-{
-    let turned = &mut spare[..keys.len()];
-    turn(keys, turned);
-    tables::lay_by_first(turned, out, counts);
-}
-
-// The keys of a sorted table that are edges of the nodes below n. They come first: the keys of supports are past them.
-pub fn edges_of(keys: &[u64], n: usize) -> &[u64]
-    requires { Rows n keys.now }
-    ensures { EdgeKeys n keys.now result.now }
-{
-    &keys[..tables::lower_bound(keys, n as u64 * SPAN)]
 }

@@ -1,5 +1,5 @@
 // Arrays of flags and counts.
-ghost use Rattle.std.specs.Prelude.{◌≡◌, Bool, ◌&&◌, ◌||◌, ℕ, ◌≤◌, ◌<◌, length, get_or};
+ghost use Rattle.std.specs.Prelude.{◌≡◌, Bool, ℕ, ◌≤◌, ◌<◌, length, get_or};
 ghost use Rattle.regions.specs.Graph.{marked};
 ghost use Rattle.signals.specs.Flags.{Flags, Gathered, Counted, Indices};
 

@@ -13,5 +13,6 @@ pub struct Network<'a> {
     pub backward: Graph<'a>,
     pub labels: &'a [u16],
     pub ghost nodes: { length forward.ends.now ≡ length labels.now } by { Prim.hlevel props },
-    pub ghost turned: { Rows (length labels.now) (flip (edges_of forward.ends.now forward.next.now)) backward.ends.now backward.next.now } by { Prim.hlevel props },
+    pub ghost turned: { let edge = edges_of forward.ends.now forward.next.now in
+        Rows (length labels.now) (flip edge) backward.ends.now backward.next.now } by { Prim.hlevel props },
 }

@@ -1,47 +1,23 @@
-// The stages of the analysis over local arrays: tables of edges, members, cyclic regions.
+// The stages of the analysis over local arrays: edges by the port that they feed, members, cyclic regions.
 ghost use Rattle.std.specs.Prelude.{None};
 ghost use Rattle.std.specs.Prelude.{◌≡◌, ◌||◌, List, ◌*◌, ◌≤◌, leb, length, get_or, ℤ};
+ghost use Rattle.tables.specs.Order.{member};
 ghost use Rattle.lists.specs.Limits.{component_limit};
 ghost use Rattle.lists.specs.Records.{component_count, port_count};
 ghost use Rattle.lists.specs.Ids.{IdTable, IsIdTable, member_of, first_repeated};
-ghost use Rattle.lists.specs.Ends.{Settled, SettledEnds, sources_of, sinks_of};
-ghost use Rattle.lists.specs.First.{some};
-ghost use Rattle.tables.specs.Order.{member};
+ghost use Rattle.lists.specs.Ends.{Settled, sources_of, sinks_of};
 ghost use Rattle.regions.specs.Graph.{at, marked};
 ghost use Rattle.graph.specs.Rows.{edges_of};
 ghost use Rattle.signals.specs.Flags.{Flags, Numbers, GatheredBy, Indices};
-ghost use Rattle.signals.specs.Stages.{Tables, FedTable, cyclic_at};
+ghost use Rattle.signals.specs.Stages.{FedTable, cyclic_at};
 
-use super::edges::{PORTS, list_keys, settle_slots, signal_keys, turned_keys};
+use super::edges::{PORTS, settle_slots, signal_keys};
 use super::flags::count_into;
 use graph::Graph;
 use lists::ends::Ends;
 use lists::ids::place_at;
 use lists::views::PortList;
 use lists::{COMPONENTS, CONNECTIONS};
-use regions::HINTED;
-
-// Sorts the signal edges into a table, forward, given their settled ends; backward are the same edges turned round. Leaves hints of where
-// the rows of each end.
-pub fn build_tables(
-    ports: PortList,
-    ends: &[Ends],
-    forward: &mut [u64],
-    backward: &mut [u64],
-    forward_ends: &mut [usize; HINTED],
-    backward_ends: &mut [usize; HINTED],
-)
-    requires settled { (cs : List ℤ) × ((component_count cs ≤ component_limit)
-        × SettledEnds cs ports.numbers.now (sources_of ends.now) (sinks_of ends.now)) }
-    requires forward_len { (length forward.old ≡ port_count ports.numbers.now) × (length backward.old ≡ port_count ports.numbers.now) }
-    ensures { (cs : List ℤ) → SettledEnds cs ports.entry.numbers.now (sources_of ends.now) (sinks_of ends.now) →
-        Tables cs ports.entry.numbers.now (sources_of ends.now) (sinks_of ends.now) forward.new backward.new }
-{
-    let mut spare = [0u64; CONNECTIONS];
-    list_keys(ports, ends, COMPONENTS, forward);
-    tables::sort_edges(forward, &mut spare, forward_ends);
-    turned_keys(forward, backward, &mut spare, backward_ends);
-}
 
 // Sorts the signal edges by the port that they feed, given their settled ends.
 pub fn build_fed(ports: PortList, ends: &[Ends], fed: &mut [u64])

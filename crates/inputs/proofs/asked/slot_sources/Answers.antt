@@ -19,7 +19,7 @@ loop-key-preserved c =
     let a = c.args in
     sought_more a.fed.now c.slot_keys-key-items.result.now a.slot a.labels.now a.upstream.now l.invariant
     (slot_held c.slot_keys-key-items.ensures l.key-index c.loop-key-test.true)
-    (node (goal.at.loop-key-preserved c).In-loop-key) _ c.insert-immediate.ensures c.union-inferred.ensures
+    (node (goal.at.loop-key-preserved c).In-loop-key) _ c.insert-immediate.ensures (rw c.from.ensures at c.union-inferred.ensures)
 
 pub returns : goal.returns
 returns c =

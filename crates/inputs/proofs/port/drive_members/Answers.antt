@@ -18,7 +18,7 @@ numbers c = let a = c.args.plot.now.accepted in c.place_members.ensures c.args.p
 pub place_members-requires : goal.place_members-requires
 place_members-requires c =
     let a = c.args.plot.now.accepted in
-    ((c.args.plot.now.components.now, a.table), nodes_few a)
+    ((c.args.plot.now.components.now, a.table), nodes_few a, nodes_few a)
 
 pub gather-requires-clause-indices : goal.gather-requires-clause-indices
 gather-requires-clause-indices c =

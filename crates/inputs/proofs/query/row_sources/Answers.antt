@@ -21,7 +21,7 @@ nodes s = length s.args.inferred.now
 
 -- the scene and its port
 abbrev walk : (s : Start)
-    → Walkable s.requires.by_index.0 s.requires.by_index.1 s.requires.by_index.2 s.requires.by_index.3 s.args.fed.now s.args.backward.now s.args.inferred.now
+    → Walkable s.requires.by_index.0 s.requires.by_index.1 s.requires.by_index.2 s.requires.by_index.3 s.args.fed.now s.args.backward.ends.now s.args.backward.next.now s.args.inferred.now
 walk s = s.requires.by_index.6.0
 
 abbrev asked : (s : Start)
@@ -63,8 +63,8 @@ pub upstream_inputs-requires : goal.upstream_inputs-requires
 upstream_inputs-requires c =
     let s = (goal.at.upstream_inputs-requires c).Start in
     record {
-      keys_rise = (walk s).rising;
       few = small s;
+      nodes_are = (walk s).turned.rows.nodes ∙ sym (walk_nodes (walk s));
       immediate_room = front_length s c.immediate_flags.new.flags c.immediate_flags.auto.flags;
       stack_room = c.requires.inferred_in_bounds.0;
       stack_zeros = c.requires.inferred_in_bounds.1;

@@ -1,11 +1,7 @@
--- `lighting::pass::hand_on` meets its contract. The loop's invariant: to carry the keys that are left gives what all keys give from the
--- start.
+-- `lighting::pass::hand_on` meets its contract. The loop's invariant: the mark is handed on to the regions of the nodes before the place.
 -- Assumes nothing.
-use mathlib.Core.Path.{◌≡◌}
-use lib.ListN.{drop}
-use Rattle.regions.specs.Graph.{marked}
-use Rattle.regions.specs.Carry as Carry
+use Rattle.graph.specs.inner.Marks.{Handed}
 use Rattle.lighting.proofs.pass.hand_on.Given as goal
 
-abbrev pub invariant-loop-i : goal.invariant-loop-i
-invariant-loop-i l = Carry.carry (drop l.i l.keys) (marked l.marks) ≡ Carry.carry l.keys (marked l.initial.marks)
+abbrev pub invariant-loop-node : goal.invariant-loop-node
+invariant-loop-node l = Handed l.nodes l.labels l.node-index l.r l.initial.marks l.marks

@@ -3,7 +3,4 @@
 use Rattle.lighting.proofs.pass.light.Goals as goal
 
 pub returns : goal.returns
-returns c =
-    let p = c.args.plot.now in
-    let marked = (rw c.component_list.ensures at c.flag_drive.ensures) p.plot.ports.now p.prepared.regions_are in
-    c.light_from.ensures p.plot.frontiers.now marked.region_flags
+returns c = c.light_from.ensures c.args.plot.now.plot.frontiers.now c.flag_drive.ensures.region_flags

@@ -1,10 +1,10 @@
--- `rings::plot::flag_plot` meets its contract: the tables and labels of a prepared plot are those of its signals.
+-- `rings::plot::flag_plot` meets its contract: the rows and labels of a prepared plot are those of its signals.
 -- Assumes nothing.
 use mathlib.Core.Path.{sym}
 use native.Mathlib.Omega.{arith}
 use Rattle.signals.proofs.Lent.{indices_same}
 use Rattle.signals.proofs.Within.{scene_regions}
-use Rattle.liveness.proofs.Inferring.{labels_long, forward_rows, backward_rows}
+use Rattle.liveness.proofs.Inferring.{labels_long, ends_long, turned}
 use Rattle.rings.proofs.Prepared.{labels_low, prepared_rings}
 use Rattle.rings.proofs.plot.flag_plot.Goals as goal
 
@@ -12,8 +12,8 @@ pub invariant_of-network : goal.invariant_of-network
 invariant_of-network c =
     let p = c.args.plot.now in
     record {
-      forward_rows = forward_rows p.plot.accepted.scene p.prepared;
-      backward_rows = backward_rows p.plot.accepted.scene p.prepared;
+      nodes = ends_long p.plot.accepted.scene p.prepared;
+      turned = turned p.plot.accepted.scene p.prepared;
     }
 
 pub flag_rings-requires : goal.flag_rings-requires

@@ -4,7 +4,7 @@ use mathlib.Core.Path.{◌≡◌, refl, sym, ap, ◌∙◌}
 use mathlib.Core.List.{List}
 use Prim.Native.Nat.{ℕ, ◌≤◌}
 use native.Mathlib.Omega.{arith}
-use lib.ListN.{length, take}
+use lib.ListN.{length}
 use lib.Seq.{length-take-le}
 use Rattle.lists.specs.Limits.{component_limit}
 use Rattle.lists.specs.Records.{component_count}
@@ -28,9 +28,6 @@ few s =
     let scene = p.plot.accepted.scene in
     omega (arith, p.counted, (scene_regions p.plot.components.now p.plot.ports.now scene.ends).few, scene.components.few)
 
-regions_lent : (s : Start) → length (take (length s.args.plot.now.labels.now) s.args.plot.now.region_at.now) ≡ length s.args.plot.now.labels.now
-regions_lent s = length-take-le _ _ (omega (arith, all s, s.args.plot.now.prepared.regions_are.long))
-
 -- ---- the calls
 
 pub slice_bounds-flag_at-end : goal.slice_bounds-flag_at-end
@@ -42,21 +39,15 @@ slice_bounds-flags-end c = sym (length-take-le _ _ (few (goal.at.slice_bounds-fl
 pub flag_plot-requires : goal.flag_plot-requires
 flag_plot-requires c = length-take-le _ _ (few (goal.at.flag_plot-requires c).Start) ∙ c.args.plot.now.counted
 
-pub slice_bounds-put_regions-end : goal.slice_bounds-put_regions-end
-slice_bounds-put_regions-end c = sym (regions_lent (goal.at.slice_bounds-put_regions-end c).Start)
-
 pub put_regions-requires : goal.put_regions-requires
 put_regions-requires c =
-    let s = (goal.at.put_regions-requires c).Start in
-    omega (arith, regions_lent s, all s, c.requires)
+    omega (arith, c.args.plot.now.prepared.regions_long, c.requires)
 
 -- ---- the answer
 
 pub returns-clause-written : goal.returns-clause-written
 returns-clause-written c =
-    let s = (goal.at.returns-clause-written c).Start in
-    c.put_regions.ensures
-    ∙ ap (λ (l : List ℕ). laid l c.args.regions.now) (regions_written _ _ c.args.plot.now.prepared.regions_are (all s))
+    c.put_regions.ensures ∙ ap (λ (l : List ℕ). laid l c.args.regions.now) (regions_written c.args.plot.now.prepared)
 
 pub returns-clause-answer : goal.returns-clause-answer
 returns-clause-answer c =
