@@ -8,30 +8,24 @@
 use mathlib.Core.Path.{◌≡◌, refl, sym, ap, ◌∙◌}
 use mathlib.Core.Bool.{Bool, true, false, not, ◌&&◌}
 use mathlib.Core.List.{List}
-use Prim.Native.Nat.{ℕ, ◌/◌, ◌%◌, ◌≤◌, ◌<◌}
+use Prim.Native.Nat.{ℕ, ◌≤◌, ◌<◌}
 use native.Mathlib.Omega.{arith}
 use lib.Dec.{eqb, leb}
-use lib.ListN.{length, get_or}
+use lib.ListN.{length}
 use lib.IntN.{ℤ}
-use Rattle.tables.specs.Pairs.{span}
-use Rattle.tables.specs.Laws.{member_rearranged, at_member, member_at}
 use Rattle.lists.specs.Limits.{component_limit}
-use Rattle.lists.specs.Records.{component, component_count, port_count}
-use Rattle.lists.specs.First.{tabulate}
+use Rattle.lists.specs.Records.{component, component_count}
 use Rattle.lists.specs.Ids.{member_of}
 use Rattle.lists.proofs.Members.{member_below}
 use Rattle.regions.specs.Graph.{Edges, flip}
 use Rattle.graph.specs.Rows.{edges_of}
 use Rattle.graph.specs.Rows as Graph
 use Rattle.graph.proofs.Rows.{edges_are}
-use Rattle.signals.specs.Signals.{is_signal, signals}
+use Rattle.signals.specs.Signals.{signals}
 use Rattle.signals.specs.Regions.{region_of_place, wire, is_cyclic, holds_drive, fed_from_outside, neighbours, is_inferred}
-use Rattle.signals.specs.Keys.{KeysOf, signal_key}
 use Rattle.signals.specs.Flags.{Flags, Indices}
-use Rattle.signals.specs.Seen.{Rows}
 use Rattle.liveness.specs.Scene.{Scene, Prepared}
 use Rattle.signals.specs.Stages.{inferred_by, cyclic_at}
-use Rattle.signals.proofs.Tabulated.{tab_length, tab_at}
 use Rattle.signals.proofs.Staged.{members_below, cyclic_is}
 use Rattle.signals.proofs.Within.{labels_count, label_under, labels_under, places_under}
 
