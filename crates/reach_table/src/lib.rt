@@ -11,11 +11,10 @@ ghost use Rattle.lists.specs.Rules.{rules_of};
 ghost use Rattle.checks.specs.Refusals.{room_for};
 ghost use Rattle.reach_table.specs.Entry.{Tabled};
 
-use checks::refusals::{liveness_lists, room_for};
-use lists::ends::Ends;
+use checks::refusals::room_for;
 use lists::rules::rules_of;
-use lists::{COMPONENT, COMPONENTS, CONNECTIONS, Refusal};
-use liveness::plot::Plot;
+use lists::{COMPONENT, Refusal};
+use liveness::accept::Tables;
 use plot::table_plot;
 
 // Whether a slice of so many numbers has a place for each pair. By rows, since a count of pairs could overflow.
@@ -40,22 +39,11 @@ pub fn slow_regions(
         square.old square.new regions.old regions.new stack.old stack.new result }
 {
     let rules = rules_of(rules);
-    let mut keys = [0u64; COMPONENTS];
-    let mut ends = [Ends { source: 0, sink: 0 }; CONNECTIONS];
     let count = components.len() / COMPONENT;
     let enough = room_for_square(count, square.len())
         & (room_for(count, 1, regions.len()) & room_for(count, 2, stack.len()));
-    liveness_lists(
-        rules, components, ports, frontiers, enough, &mut keys, &mut ends,
-    )?;
-    let plot = Plot {
-        keys: &keys[..count],
-        components,
-        ports,
-        frontiers,
-        rules,
-        ends: &ends,
-    };
+    let mut tables = Tables::new();
+    let plot = tables.plot(rules, components, ports, frontiers, enough)?;
     Ok(table_plot(
         &plot,
         &mut square[..count * count],

@@ -1,8 +1,8 @@
--- `reach_table::slow_regions` meets its contract: the checks first, and where they accept the reach table, by the table of ids that they
--- left. Assumes nothing.
+-- `reach_table::slow_regions` meets its contract: the checks first, and where they accept the reach table of the plot that they left.
+-- Assumes nothing.
 use Rattle.std.specs.Prelude.{Ok}
 use mathlib.Core.Path.{◌≡◌, sym, ap, ◌∙◌}
-use mathlib.Core.Bool.{◌&&◌}
+use mathlib.Core.Bool.{true, ◌&&◌}
 use Prim.Native.Nat.{◌*◌, ◌/◌, ◌≤◌}
 use native.Mathlib.Omega.{arith}
 use lib.ListN.{length}
@@ -13,28 +13,21 @@ use Rattle.lists.specs.Records.{component_count}
 use Rattle.lists.specs.Rules.{rules_of}
 use Rattle.lists.proofs.Search.{both}
 use Rattle.checks.specs.Refusals.{room_for}
-use Rattle.checks.proofs.Accepted.{LivenessScene, liveness_accept, room_places}
+use Rattle.checks.proofs.Accepted.{liveness_accept, room_places}
 use Rattle.liveness.proofs.Answers.{scene_of_lem}
 use Rattle.reach_table.specs.Entry.{table_room, table_refusal}
 use Rattle.reach_table.proofs.Entries.{tabled_accepted}
 use Rattle.reach_table.proofs.slow_regions.Goals as goal
-use Rattle.reach_table.proofs.slow_regions.Goals.{After-liveness_lists}
+use Rattle.reach_table.proofs.slow_regions.Goals.{In_ok-plot}
 
--- the answer of the checks, by the definition
-says : (c : After-liveness_lists) → c.liveness_lists.result
-    ≡ table_refusal c.rules_of-rules.result c.args.components.now c.args.ports.now c.args.frontiers.now (length c.args.square.now) (length c.args.regions.now) (length c.args.stack.now)
-says c =
-    rw (c.room_for_square.ensures, c.room_for.ensures, c.room_for-2.ensures) at c.liveness_lists.ensures.lists.answer
-
--- ---- where they accept
-module _ (c : After-liveness_lists) (was : c.liveness_lists.result ≡ Ok tt) where
+-- ---- where the checks accept
+module _ (c : In_ok-plot) where
   accepted : table_refusal c.rules_of-rules.result c.args.components.now c.args.ports.now c.args.frontiers.now (length c.args.square.now) (length c.args.regions.now)
       (length c.args.stack.now) ≡ Ok tt
-  accepted = sym (says c) ∙ was
+  accepted = sym (rw (c.room_for_square.ensures, c.room_for.ensures, c.room_for-2.ensures) at c.in_ok-plot.ensures.answer)
 
-  live : LivenessScene c.rules_of-rules.result c.args.components.now c.args.ports.now c.args.frontiers.now
-      (table_room c.args.components.now (length c.args.square.now) (length c.args.regions.now) (length c.args.stack.now))
-  live = liveness_accept _ _ _ _ _ accepted
+  enough : table_room c.args.components.now (length c.args.square.now) (length c.args.regions.now) (length c.args.stack.now) ≡ true
+  enough = rw (c.room_for_square.ensures, c.room_for.ensures, c.room_for-2.ensures) at c.in_ok-plot.ensures.given.room
 
   -- room in the slices that are lent
   rooms : (component_count c.args.components.now * component_count c.args.components.now ≤ length c.args.square.now)
@@ -43,50 +36,29 @@ module _ (c : After-liveness_lists) (was : c.liveness_lists.result ≡ Ok tt) wh
       let n = component_count c.args.components.now in
       let regions = room_for n 1 (length c.args.regions.now) in
       let stack = room_for n 2 (length c.args.stack.now) in
-      let one = both (room_for (n * n) 1 (length c.args.square.now)) (regions && stack) live.scene.lengths.room in
+      let one = both (room_for (n * n) 1 (length c.args.square.now)) (regions && stack) enough in
       let two = both regions stack one.1 in (
         room_places (n * n) (length c.args.square.now) one.0,
         room_places n (length c.args.regions.now) two.0,
         omega (arith, leb-true n (length c.args.stack.now / 2) two.1),
       )
 
-  -- the table of ids at the front of the keys
-  long : component_count c.args.components.now ≤ length c.liveness_lists.new.keys
-  long = omega (arith, live.components.few, c.liveness_lists.auto.keys)
-
-pub slice_bounds-keys-end : goal.slice_bounds-keys-end
-slice_bounds-keys-end c = long (goal.at.slice_bounds-keys-end c).After-liveness_lists c.in_ok-liveness_lists.was
-
-pub slice_bounds-plot-end : goal.slice_bounds-plot-end
-slice_bounds-plot-end c =
-    sym (length-take-le _ c.liveness_lists.new.keys
-    (long (goal.at.slice_bounds-plot-end c).After-liveness_lists c.in_ok-liveness_lists.was))
-
-pub invariant_of-plot : goal.invariant_of-plot
-invariant_of-plot c =
-    let left = c.liveness_lists.ensures in
-    let was = c.in_ok-liveness_lists.was in
-    let scene = scene_of_lem (live (goal.at.invariant_of-plot c).After-liveness_lists was) in
-    record { accepted = record { scene = scene; table = left.lists.table was; ends = left.ends was } }
-
 pub slice_bounds-table_plot-end : goal.slice_bounds-table_plot-end
-slice_bounds-table_plot-end c = (rooms (goal.at.slice_bounds-table_plot-end c).After-liveness_lists c.in_ok-liveness_lists.was).0
+slice_bounds-table_plot-end c = (rooms (goal.at.slice_bounds-table_plot-end c).In_ok-plot).0
 
 pub slice_bounds-table_plot-end-2 : goal.slice_bounds-table_plot-end-2
-slice_bounds-table_plot-end-2 c =
-    sym (length-take-le _ c.args.square.now (rooms (goal.at.slice_bounds-table_plot-end-2 c).After-liveness_lists c.in_ok-liveness_lists.was).0)
+slice_bounds-table_plot-end-2 c = sym (length-take-le _ c.args.square.now (rooms (goal.at.slice_bounds-table_plot-end-2 c).In_ok-plot).0)
 
 pub slice_bounds-table_plot-end-3 : goal.slice_bounds-table_plot-end-3
-slice_bounds-table_plot-end-3 c = (rooms (goal.at.slice_bounds-table_plot-end-3 c).After-liveness_lists c.in_ok-liveness_lists.was).1
+slice_bounds-table_plot-end-3 c = (rooms (goal.at.slice_bounds-table_plot-end-3 c).In_ok-plot).1
 
 pub slice_bounds-table_plot-end-4 : goal.slice_bounds-table_plot-end-4
-slice_bounds-table_plot-end-4 c =
-    sym (length-take-le _ c.args.regions.now (rooms (goal.at.slice_bounds-table_plot-end-4 c).After-liveness_lists c.in_ok-liveness_lists.was).1)
+slice_bounds-table_plot-end-4 c = sym (length-take-le _ c.args.regions.now (rooms (goal.at.slice_bounds-table_plot-end-4 c).In_ok-plot).1)
 
 pub table_plot-requires : goal.table_plot-requires
 table_plot-requires c =
-    let r = rooms (goal.at.table_plot-requires c).After-liveness_lists c.in_ok-liveness_lists.was in
-    record {
+    let r = rooms (goal.at.table_plot-requires c).In_ok-plot in
+    rw c.in_ok-plot.ensures.given.components_are record {
       square_room = length-take-le _ c.args.square.now r.0;
       regions_room = length-take-le _ c.args.regions.now r.1;
       stack_room = r.2;
@@ -94,9 +66,10 @@ table_plot-requires c =
 
 pub returns : goal.returns
 returns c =
-    let was = c.in_ok-liveness_lists.was in
-    let s = (goal.at.returns c).After-liveness_lists in
+    let now = (goal.at.returns c).In_ok-plot in
+    let given = c.in_ok-plot.ensures.given in
     let known = c.rules_of-rules.ensures ∙ ap rules_of (to_z-of_z c.ranges.rules) in
-    let left = tabled_accepted c.args.square.now c.args.regions.now c.args.stack.now (accepted s was) (scene_of_lem (live s was)) c.table_plot.auto.stack
-    c.table_plot.ensures in
+    let scene = scene_of_lem (liveness_accept _ _ _ _ _ (accepted now)) in
+    let tables = rw (given.components_are, given.ports_are) at c.table_plot.ensures in
+    let left = tabled_accepted c.args.square.now c.args.regions.now c.args.stack.now (accepted now) scene c.table_plot.auto.stack tables in
     rw known at left
