@@ -1,0 +1,13 @@
+-- `held::inspect::all_differ` meets its contract: what is left decides.
+-- Assumes nothing.
+use Rattle.std.specs.Prelude.{◌≡◌, drop}
+use Rattle.lists.specs.Limits.{port_width}
+use Rattle.lists.specs.First.{tabulate}
+use Rattle.held.specs.Tests.{distinct, same_numbers}
+use Rattle.held.specs.Lent.{record_at}
+use Rattle.held.proofs.inspect.all_differ.Given as goal
+
+abbrev pub invariant-loop-k : goal.invariant-loop-k
+invariant-loop-k l =
+    let held = tabulate (record_at port_width l.list) l.n in
+    distinct same_numbers (drop l.k held) ≡ distinct same_numbers held
