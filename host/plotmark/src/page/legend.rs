@@ -75,6 +75,11 @@ fn others(html: &mut Html) {
         shapes::head(html, "faces", (11, 11), (1, 0));
         shapes::head(html, "faces taken", (24, 11), (1, 0));
     });
+    let said = "a device of which nobody saw how it faces";
+    sign(html, said, "block not unread", |html| {
+        shapes::outline(html, (2, 2), (26, 18));
+        shapes::label(html, "faces", (8, 11), "?");
+    });
 }
 
 fn arrows(html: &mut Html) {

@@ -69,16 +69,27 @@ fn side(plot: &Plot, it: &LeftOut, is_source: bool) -> Option<String> {
     Some(format!("{what}{}", there(plot, block, face)))
 }
 
-/// What is on that side instead.
+/// What is on that side instead, or why nothing is.
 fn there(plot: &Plot, block: &Component, face: Facing) -> String {
     let ports = plot.ports(block).unwrap_or_default();
     let there = ports.iter().filter(|it| it.face == face);
-    let told = there.filter(|it| it.role != Role::Support);
-    let told: Vec<&str> = told.map(|it| terms::role(it.role)).collect();
+    let there = there.filter(|it| it.role != Role::Support);
+    let mut told: Vec<String> = there
+        .map(|it| format!("that is {}", terms::role(it.role)))
+        .collect();
+    if terms::turns(block.kind) && block.facing.is_none() {
+        let is_unread = plot.sheet.rules.leaves_unread(block);
+        let taken = if is_unread {
+            "is not known"
+        } else {
+            "was taken as North"
+        };
+        told.push(format!("its facing {taken}"));
+    }
     if told.is_empty() {
         String::new()
     } else {
-        format!(" (that is {})", told.join(" and "))
+        format!(" ({})", told.join("; "))
     }
 }
 

@@ -30,12 +30,10 @@ const FEW: usize = 4;
 /// All that is told of a plot.
 #[must_use]
 pub fn told(name: &str, marked: &Marked, driven: Driven) -> Told {
-    let mut sections = vec![
-        inputs_section(marked, driven),
-        regions::section(marked),
-        connections::section(&marked.plot),
-    ];
+    let mut sections = vec![inputs_section(marked, driven)];
     sections.extend(unread_section(&marked.plot));
+    sections.push(regions::section(marked));
+    sections.push(connections::section(&marked.plot));
     Told {
         head: head(name, marked),
         sections,
@@ -115,7 +113,7 @@ fn inputs_section(marked: &Marked, driven: Driven) -> Section {
         lines.push(inputs::counted(good.len(), bad.is_empty()));
     }
     let title = match marked.inputs.len() {
-        0 => "Inputs: none, nothing here must be driven".to_string(),
+        0 => "Inputs: none".to_string(),
         _ => verdicts(Line::plain("Inputs"), marked, ": ").text(),
     };
     Section { title, lines }
