@@ -46,8 +46,6 @@ fn driven_port(plot: &Plot, id: u64, port: u64, stack: &mut [usize]) -> DrivenIn
         AskedBy (Ok tt) l.components.now l.ports.now l.frontiers.now (Some p) port stack.old stack.new (Ok result) }
 {
     let n = plot.keys.len();
-    let mut forward_ends = [0u16; COMPONENTS];
-    let mut forward = [0u16; CONNECTIONS];
     let mut row_ends = [0u16; COMPONENTS];
     let mut next = [0u16; CONNECTIONS];
     let mut feeds = [false; COMPONENTS];
@@ -55,7 +53,7 @@ fn driven_port(plot: &Plot, id: u64, port: u64, stack: &mut [usize]) -> DrivenIn
     let ends = &mut row_ends[..n];
     let starts = &mut feeds[..n];
     let goals = &mut drives[..n];
-    plot.rows(&mut forward_ends[..n], &mut forward, ends, &mut next);
+    plot.back_rows(ends, &mut next);
     flag_immediate(plot, id, port, starts);
     drive_members(plot, goals);
     stack.fill(0);

@@ -8,6 +8,7 @@
 --     Built     lay, build_rows
 --     Carrying  hand_on, carry_marks, by_region
 --     Edges     the graph of the connections' ends is that of tested connections
+--     Turned    connections with their ends exchanged
 pub mod Rows
 pub mod Frames
 pub mod Stack
@@ -17,3 +18,4 @@ pub mod Counting
 pub mod Built
 pub mod Carrying
 pub mod Edges
+pub mod Turned

@@ -9,7 +9,7 @@ ghost use Rattle.graph.specs.Rows.{Rows};
 ghost use Rattle.liveness.specs.Scene.{NarrowEnds};
 
 use super::plot::Plot;
-use graph::build::build_rows;
+use graph::build::{build_one_way, build_rows};
 use lists::ends::Ends;
 use lists::ids::SUPPORT;
 use lists::views::PortList;
@@ -62,5 +62,21 @@ impl Plot<'_> {
         let sinks = &mut to[..m];
         narrow_ends(self.port_list(), self.ends, sources, sinks);
         build_rows(sources, sinks, ends, next, back_ends, back);
+    }
+
+    // Builds the rows of the signal edges turned around alone.
+    pub fn back_rows(&self, ends: &mut [u16], next: &mut [u16])
+        requires nodes { length ends.old ≡ component_count self.now.components.now }
+        requires places { port_count self.now.ports.now ≤ length next.old }
+        ensures { let p = self.now in
+            Rows (component_count p.components.now) (flip (signals p.components.now p.ports.now)) ends.new next.new }
+    {
+        let m = self.port_list().count();
+        let mut from = [0u16; CONNECTIONS];
+        let mut to = [0u16; CONNECTIONS];
+        let sources = &mut from[..m];
+        let sinks = &mut to[..m];
+        narrow_ends(self.port_list(), self.ends, sources, sinks);
+        build_one_way(sinks, sources, ends, next);
     }
 }

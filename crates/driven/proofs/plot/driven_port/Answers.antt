@@ -24,20 +24,14 @@ slice_bounds-drives-end c = nodes_few c.args.plot.now.accepted
 pub slice_bounds-goals-end : goal.slice_bounds-goals-end
 slice_bounds-goals-end c = sym (flags_lent c.args.plot.now.accepted)
 
-pub slice_bounds-forward_ends-end : goal.slice_bounds-forward_ends-end
-slice_bounds-forward_ends-end c = nodes_few c.args.plot.now.accepted
-
-pub slice_bounds-rows-end : goal.slice_bounds-rows-end
-slice_bounds-rows-end c = sym (nodes_lent c.args.plot.now.accepted)
-
-pub rows-requires-clause-nodes : goal.rows-requires-clause-nodes
-rows-requires-clause-nodes c = let a = c.args.plot.now.accepted in (nodes_lent a ∙ nodes_are a, nodes_lent a ∙ nodes_are a)
+pub back_rows-requires-clause-nodes : goal.back_rows-requires-clause-nodes
+back_rows-requires-clause-nodes c = let a = c.args.plot.now.accepted in nodes_lent a ∙ nodes_are a
 
 pub invariant_of-graph : goal.invariant_of-graph
-invariant_of-graph c = record { rows = own_rows c.rows.ensures.backward }
+invariant_of-graph c = record { rows = own_rows c.back_rows.ensures }
 
 pub returns : goal.returns
 returns c p is =
     let l = c.args.plot.now in
-    asked_searched l.components.now l.ports.now l.frontiers.now c.rows.ensures.backward p c.args.port c.drive_members.ensures (c.flag_immediate.ensures p is)
+    asked_searched l.components.now l.ports.now l.frontiers.now c.back_rows.ensures p c.args.port c.drive_members.ensures (c.flag_immediate.ensures p is)
     (c.search_upstream.auto.stack ∙ c.fill.auto.self) c.search_upstream.ensures
