@@ -9,7 +9,7 @@ use Rattle.std.specs.Prelude.{None}
 use mathlib.Core.Path.{◌≡◌, refl, sym, ap, ◌∙◌, subst}
 use mathlib.Core.Bool.{Bool, true, false, not}
 use mathlib.Core.List.{List, [], ◌∷◌}
-use Prim.Native.Nat.{ℕ, zero, suc, ◌+◌, ◌*◌, ◌≤◌, ◌<◌}
+use Prim.Native.Nat.{◌%◌, ℕ, zero, suc, ◌+◌, ◌*◌, ◌≤◌, ◌<◌, ◌/◌}
 use native.Mathlib.Omega.{arith}
 use lib.Dec.{T, eqb}
 use lib.ListN.{length, get_or}
@@ -30,7 +30,7 @@ use Rattle.lists.proofs.Some.{and_true, some_found}
 use Rattle.held.specs.Tests.{any, distinct, same_numbers}
 use Rattle.held.specs.Plot.{Record}
 use Rattle.held.specs.Lent.{record_at}
-use Rattle.held.specs.Inspected.{both_ends, key_of, connection_key, KeysBelow, Differ}
+use Rattle.held.specs.Inspected.{both_ends, way_of, key_of, connection_key, KeysBelow, Differ}
 use Rattle.held.proofs.Lists.{or_neither, true_not_false}
 use Rattle.held.proofs.Sound.{from_all}
 use Rattle.held.proofs.Sorting.{same_is, same_self}
@@ -89,13 +89,24 @@ present_same cs once a b p q e =
 
 -- ---- keys
 
-key_parts : (s t p q x s' t' p' q' x' : ℕ) → t < 1024 → t' < 1024 → p < 256 → p' < 256 → q < 256 → q' < 256 → x < 8 → x' < 8 → key_of s t p q x ≡ key_of s' t' p' q' x'
+way_parts : (p q x p' q' x' : ℕ) → p < 256 → p' < 256 → q < 256 → q' < 256 → x < 8 → x' < 8 → way_of p q x ≡ way_of p' q' x' → (p ≡ p') × (q ≡ q') × (x ≡ x')
+way_parts p q x p' q' x' b b' c c' d d' e =
+    let low : (p % 8 * 8 + q % 8) * 8 + x ≡ (p' % 8 * 8 + q' % 8) * 8 + x' = omega arith in
+    let high : p / 8 * 32 + q / 8 ≡ p' / 8 * 32 + q' / 8 = omega arith in
+    let one : p % 8 * 8 + q % 8 ≡ p' % 8 * 8 + q' % 8 = omega arith in
+    let a : p % 8 ≡ p' % 8 = omega arith in
+    let b : p / 8 ≡ p' / 8 = omega arith in
+    (omega arith, omega arith, omega arith)
+
+key_parts : (s t p q x s' t' p' q' x' : ℕ) → s < 1024 → s' < 1024 → t < 1024 → t' < 1024 → p < 256 → p' < 256 → q < 256 → q' < 256 → x < 8 → x' < 8 → key_of s t p q x ≡ key_of s' t' p' q' x'
     → (s ≡ s') × (t ≡ t') × (p ≡ p') × (q ≡ q') × (x ≡ x')
-key_parts s t p q x s' t' p' q' x' a a' b b' c c' d d' e =
-    let four : ((s * 1024 + t) * 256 + p) * 256 + q ≡ ((s' * 1024 + t') * 256 + p') * 256 + q' = omega arith in
-    let three : (s * 1024 + t) * 256 + p ≡ (s' * 1024 + t') * 256 + p' = omega arith in
-    let two : s * 1024 + t ≡ s' * 1024 + t' = omega arith in
-    (omega arith, omega arith, omega arith, omega arith, omega arith)
+key_parts s t p q x s' t' p' q' x' i i' a a' b b' c c' d d' e = parted (way_of p q x) (way_of p' q' x') e (way_parts p q x p' q' x' b b' c c' d d')
+  where
+    parted : (v w : ℕ) → (v * 1024 + s) * 1024 + t ≡ (w * 1024 + s') * 1024 + t' → (v ≡ w → (p ≡ p') × (q ≡ q') × (x ≡ x')) → (s ≡ s') × (t ≡ t') × (p ≡ p') × (q ≡ q') × (x ≡ x')
+    parted v w e rest =
+        let two : v * 1024 + s ≡ w * 1024 + s' = omega arith in
+        let r = rest (omega arith) in
+        (omega arith, omega arith, r.0, r.1, r.2)
 
 natural_same : (a b : ℤ) → T (non_neg a) → T (non_neg b) → nat_abs a ≡ nat_abs b → a ≡ b
 natural_same a b p q e = eq_z_same a b (sym (same_natural a b p q) ∙ eq-eqb (nat_abs a) (nat_abs b) e)
@@ -114,7 +125,8 @@ module _ (cs ps : List ℤ) (w : PortConnections ps) (j k : ℕ) (h : j < port_c
       let a = both (has_component cs (port_connection ps j).source) (has_component cs (port_connection ps j).sink) there in
       let b = both (has_component cs (port_connection ps k).source) (has_component cs (port_connection ps k).sink) here in
       let parts =
-      key_parts _ _ _ _ _ _ _ _ _ _ (omega (arith, present_below cs (port_connection ps j).sink a.1)) (omega (arith, present_below cs (port_connection ps k).sink b.1))
+      key_parts _ _ _ _ _ _ _ _ _ _ (omega (arith, present_below cs (port_connection ps j).source a.0)) (omega (arith, present_below cs (port_connection ps k).source b.0))
+      (omega (arith, present_below cs (port_connection ps j).sink a.1)) (omega (arith, present_below cs (port_connection ps k).sink b.1))
       (omega (arith, field_most w j 1 h (omega arith) 255 refl refl)) (omega (arith, field_most w k 1 l (omega arith) 255 refl refl))
       (omega (arith, field_most w j 3 h (omega arith) 255 refl refl)) (omega (arith, field_most w k 3 l (omega arith) 255 refl refl))
       (omega (arith, field_most w j 4 h (omega arith) 6 refl refl)) (omega (arith, field_most w k 4 l (omega arith) 6 refl refl)) e in

@@ -1,6 +1,6 @@
 -- What the functions that look for number 18 hand to each other.
 -- Assumes nothing: these are definitions.
-use Rattle.std.specs.Prelude.{Option, Some, None, ℕ, ◌+◌, ◌*◌, ◌≤◌, ◌<◌, ◌≡◌, Bool, true, false, not, cond, ◌&&◌, List, length, get_or, take, drop, eqb, ltb, ℤ}
+use Rattle.std.specs.Prelude.{◌/◌, ◌%◌, Option, Some, None, ℕ, ◌+◌, ◌*◌, ◌≤◌, ◌<◌, ◌≡◌, Bool, true, false, not, cond, ◌&&◌, List, length, get_or, take, drop, eqb, ltb, ℤ}
 use Rattle.std.proofs.Math.Seq.{paste}
 use Rattle.tables.specs.Order.{member}
 use Rattle.lists.specs.Limits.{component_limit, connection_limit, frontier_limit, component_width, port_width, frontier_width}
@@ -71,10 +71,15 @@ both_ends cs ps k = has_component cs (port_connection ps k).source && has_compon
 abbrev pub member_if : List ℤ → ℕ → Option ℕ
 member_if cs id = cond (has_component cs id) (Some (smaller_ids cs id)) None
 
--- members, ports and transfer as one number
+-- ports and transfer as one number, below 512 where both ports are below 8
+abbrev pub way_of : ℕ → ℕ → ℕ → ℕ
+way_of source_port sink_port transfer =
+    (source_port / 8 * 32 + sink_port / 8) * 512 + ((source_port % 8 * 8 + sink_port % 8) * 8 + transfer)
+
+-- and members
 abbrev pub key_of : ℕ → ℕ → ℕ → ℕ → ℕ → ℕ
 key_of source sink source_port sink_port transfer =
-    (((source * component_limit + sink) * 256 + source_port) * 256 + sink_port) * 8 + transfer
+    (way_of source_port sink_port transfer * component_limit + source) * component_limit + sink
 
 abbrev pub connection_key : List ℤ → List ℤ → ℕ → ℕ
 connection_key cs ps k =

@@ -1,9 +1,9 @@
 // Whether the connections that are held are such that clicks can leave them: in range, between components, and none twice.
-ghost use Rattle.std.specs.Prelude.{◌≡◌, true, false, None, IfSome, cond, List, ℤ, ◌≤◌, ◌<◌, length};
+ghost use Rattle.std.specs.Prelude.{◌≡◌, true, false, None, IfSome, cond, List, ℤ, ◌^◌, ◌≤◌, ◌<◌, length};
 ghost use Rattle.lists.specs.Limits.{component_limit, connection_limit, id_limit};
 ghost use Rattle.lists.specs.Records.{port_count};
 ghost use Rattle.lists.specs.Ids.{has_component, first_repeated, smaller_ids, IdTable};
-ghost use Rattle.held.specs.Inspected.{member_if, key_if, KeysFor, NeighboursDiffer, Differ, connections_pass};
+ghost use Rattle.held.specs.Inspected.{member_if, way_of, key_if, KeysFor, NeighboursDiffer, Differ, connections_pass};
 
 use checks::ranges::PORT_RANGES;
 use lists::hints::{Hints, SLOTS, hint_ids, member_near};
@@ -12,10 +12,22 @@ use lists::views::PortList;
 use lists::{COMPONENTS, CONNECTIONS, PORT};
 use tables::SPAN;
 
-// How many numbers a port and a transfer have room for in a key.
-const PORTS: u64 = 256;
+// A port is parted in a key, and so is below 8 one digit: keys of such ports are short, and sorted in two rounds.
+const DIGIT: u64 = 8;
 
-const TRANSFERS: u64 = 8;
+// The higher digits of a port are below this.
+const HIGH: u64 = 256 / DIGIT;
+
+// Ports and transfer as one number.
+fn way_of(source_port: u64, sink_port: u64, transfer: u64) -> u64
+    requires { (source_port < 256) × ((sink_port < 256) × (transfer < 8)) }
+    ensures value { result ≡ way_of source_port sink_port transfer }
+    ensures below { result < 2 ^ 19 }
+{
+    let high = source_port / DIGIT * HIGH + sink_port / DIGIT;
+    let low = source_port % DIGIT * DIGIT + sink_port % DIGIT;
+    high * (DIGIT * DIGIT * DIGIT) + (low * DIGIT + transfer)
+}
 
 // Whether a component has the id, given the member that would stand for it.
 #[tactic(auto, using(lists::proofs::EndLaws::member_stands, lists::proofs::EndLaws::member_past))]
@@ -47,10 +59,10 @@ fn key_if(table: &[u64], hints: &Hints, ports: PortList, k: usize) -> Option<u64
 {
     let source = member_if(table, hints, ports.source(k))?;
     let sink = member_if(table, hints, ports.sink(k))?;
-    let ends = source * COMPONENTS as u64 + sink;
     let source_port = natural_at(ports.numbers, k * PORT + 1);
-    let at_ports = (ends * PORTS + source_port) * PORTS + ports.sink_port(k);
-    Some(at_ports * TRANSFERS + ports.transfer(k))
+    let way = way_of(source_port, ports.sink_port(k), ports.transfer(k));
+    let members = COMPONENTS as u64;
+    Some((way * members + source) * members + sink)
 }
 
 // Fills in the key of each connection, as far as both ends are components. Answers whether they all are.

@@ -1,9 +1,10 @@
 -- Answers for the goals that the search leaves.
+use Prim.Native.Nat.{◌*◌, ◌+◌}
 use borrow.Author.Rules.{rules}
 use mathlib.Core.Path.{◌≡◌, sym, ap, ◌∙◌}
 use Rattle.std.specs.Prelude.{Some, None}
 use Rattle.lists.specs.Ids.{has_component, smaller_ids}
-use Rattle.held.specs.Inspected.{key_of}
+use Rattle.held.specs.Inspected.{way_of}
 use Rattle.held.proofs.Loops.{some_key, no_key}
 use Rattle.held.proofs.connections.key_if.Goals as goal
 
@@ -31,4 +32,5 @@ returns c cs t =
     let sink = ap (has_component cs) (sym c.sink.ensures.0) ∙ two.0 in
     let a = one.1 ∙ ap (smaller_ids cs) c.source.ensures.0 in
     let b = two.1 ∙ ap (smaller_ids cs) c.sink.ensures.0 in
-    rw (source, sink) (λ i. Some (key_of (a i) (b i) (c.natural_at-source_port.ensures i) (c.sink_port.ensures.0 i) (c.transfer.ensures i)))
+    let way = c.way_of-way.ensures.value ∙ (λ i. way_of (c.natural_at-source_port.ensures i) (c.sink_port.ensures.0 i) (c.transfer.ensures i)) in
+    rw (source, sink) (λ i. Some ((way i * 1024 + a i) * 1024 + b i))
