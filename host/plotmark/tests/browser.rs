@@ -4,9 +4,11 @@
 mod common;
 
 use std::error::Error;
-use std::fs;
+use std::fs::{self, File};
 use std::path::{Path, PathBuf};
-use std::process::Command;
+use std::process::{Command, Stdio};
+use std::thread;
+use std::time::{Duration, Instant};
 
 use common::{Report, examples, name, own};
 use plotmark::page::page;
@@ -30,24 +32,53 @@ fn browser() -> Option<PathBuf> {
     each.into_iter().find(|it| it.is_file())
 }
 
-/// What the probe said of a page.
-fn opened(browser: &Path, page: &str, name: &str) -> Result<Vec<String>, Box<dyn Error>> {
+/// Longer than any page takes.
+const PATIENCE: Duration = Duration::from_secs(120);
+
+/// What a page has become in a browser; nothing where the browser does not do it.
+fn dom(browser: &Path, page: &str, name: &str) -> Result<Option<String>, Box<dyn Error>> {
     let folder = Path::new(env!("CARGO_TARGET_TMPDIR")).join(name);
     fs::create_dir_all(&folder)?;
-    let file = folder.join("plot.html");
-    let probe = format!("<script>{PROBE}</script></body>");
-    fs::write(&file, page.replace("</body>", &probe))?;
-    let profile = format!("--user-data-dir={}", folder.join("profile").display());
-    let quiet = [
-        "--headless",
-        "--no-sandbox",
-        "--disable-gpu",
-        "--window-size=1200,900",
-    ];
+    let (file, out) = (folder.join("plot.html"), folder.join("dom.html"));
+    fs::write(&file, page)?;
     let mut command = Command::new(browser);
-    command.args(quiet).arg(profile).arg("--dump-dom");
-    let output = command.arg(format!("file://{}", file.display())).output()?;
-    let dom = String::from_utf8(output.stdout)?;
+    command.args(["--headless", "--no-sandbox", "--disable-gpu"]);
+    command.args(["--disable-dev-shm-usage", "--window-size=1200,900"]);
+    command.arg(format!(
+        "--user-data-dir={}",
+        folder.join("profile").display()
+    ));
+    command
+        .arg("--dump-dom")
+        .arg(format!("file://{}", file.display()));
+    let mut child = command
+        .stdout(File::create(&out)?)
+        .stderr(Stdio::null())
+        .spawn()?;
+    let start = Instant::now();
+    while child.try_wait()?.is_none() {
+        if start.elapsed() > PATIENCE {
+            child.kill()?;
+            child.wait()?;
+            return Ok(None);
+        }
+        thread::sleep(Duration::from_millis(20));
+    }
+    Ok(Some(fs::read_to_string(&out)?))
+}
+
+/// Whether an installed browser does anything here.
+fn starts(browser: &Path) -> Result<bool, Box<dyn Error>> {
+    let page = "<!DOCTYPE html><html><body><p>it starts</p></body></html>";
+    let dom = dom(browser, page, "first")?;
+    Ok(dom.is_some_and(|it| it.contains("<p>it starts</p>")))
+}
+
+/// What the probe said of a page.
+fn opened(browser: &Path, page: &str, name: &str) -> Result<Vec<String>, Box<dyn Error>> {
+    let probe = format!("<script>{PROBE}</script></body>");
+    let dom = dom(browser, &page.replace("</body>", &probe), name)?;
+    let dom = dom.ok_or(format!("{name}: not opened in time"))?;
     let (_, said) = dom
         .split_once("<pre id=\"said\">")
         .ok_or(format!("{name}: not opened"))?;
@@ -107,6 +138,10 @@ fn pages_light_in_order_and_nothing_overlaps() -> Done {
         println!("no browser is installed: pages are not opened");
         return Ok(());
     };
+    if !starts(&browser)? {
+        println!("{} does not start: pages are not opened", browser.display());
+        return Ok(());
+    }
     for name in [
         "lever-and-repeater",
         "staircase",
