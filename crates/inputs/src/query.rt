@@ -117,8 +117,8 @@ pub(crate) fn inferred_members(plot: &PreparedPlot, inferred: &mut [bool])
     gather(plot.members, &inferred_at, inferred);
 }
 
-// Fills what one port of a plot is asked by: its edges by the port that they feed, and the inferred inputs by member; answers its edges turned
-// round. Leaves the stack zero.
+// Fills what one port of a plot is asked by: its edges by the port that they feed, and the inferred inputs by member; answers its edges
+// turned round. Leaves the stack zero.
 fn walk_tables<'a>(
     plot: Plot<'a>,
     room: &'a mut Room,
