@@ -13,11 +13,10 @@ ghost use Rattle.std.specs.Prelude.{List, ℕ, ℤ, None};
 ghost use Rattle.lists.specs.Rules.{rules_of};
 ghost use Rattle.inputs.specs.Query.{Answered, PortSets};
 
-use checks::refusals::{liveness_lists, room_for};
-use lists::ends::Ends;
+use checks::refusals::room_for;
 use lists::rules::rules_of;
-use lists::{COMPONENT, COMPONENTS, CONNECTIONS, Refusal};
-use liveness::plot::Plot;
+use lists::{COMPONENT, Refusal};
+use liveness::accept::Tables;
 use query::query_plot;
 use sets::ComponentSet;
 
@@ -55,20 +54,9 @@ pub fn required_input(
     ensures { Answered (rules_of rules) components.now ports.now frontiers.now id port stack.old stack.new result }
 {
     let rules = rules_of(rules);
-    let mut keys = [0u64; COMPONENTS];
-    let mut ends = [Ends { source: 0, sink: 0 }; CONNECTIONS];
     let count = components.len() / COMPONENT;
     let enough = room_for(count, 2, stack.len());
-    liveness_lists(
-        rules, components, ports, frontiers, enough, &mut keys, &mut ends,
-    )?;
-    let plot = Plot {
-        keys: &keys[..count],
-        components,
-        ports,
-        frontiers,
-        rules,
-        ends: &ends,
-    };
+    let mut tables = Tables::new();
+    let plot = tables.plot(rules, components, ports, frontiers, enough)?;
     query_plot(&plot, id, port, stack)
 }

@@ -7,11 +7,10 @@ mod plot;
 ghost use Rattle.lists.specs.Rules.{rules_of};
 ghost use Rattle.lighting.specs.Entry.{Lighted};
 
-use checks::refusals::{liveness_lists, room_for};
-use lists::ends::Ends;
+use checks::refusals::room_for;
 use lists::rules::rules_of;
-use lists::{COMPONENT, COMPONENTS, CONNECTIONS, Refusal};
-use liveness::plot::Plot;
+use lists::{COMPONENT, Refusal};
+use liveness::accept::Tables;
 use plot::light_plot;
 use sets::ComponentSet;
 
@@ -36,20 +35,9 @@ pub fn light_regions(
     ensures { Lighted (rules_of rules) components.now ports.now frontiers.now regions.old regions.new stack.old stack.new result }
 {
     let rules = rules_of(rules);
-    let mut keys = [0u64; COMPONENTS];
-    let mut ends = [Ends { source: 0, sink: 0 }; CONNECTIONS];
     let count = components.len() / COMPONENT;
     let enough = room_for(count, 1, regions.len()) & room_for(count, 2, stack.len());
-    liveness_lists(
-        rules, components, ports, frontiers, enough, &mut keys, &mut ends,
-    )?;
-    let plot = Plot {
-        keys: &keys[..count],
-        components,
-        ports,
-        frontiers,
-        rules,
-        ends: &ends,
-    };
+    let mut tables = Tables::new();
+    let plot = tables.plot(rules, components, ports, frontiers, enough)?;
     Ok(light_plot(&plot, regions, stack))
 }

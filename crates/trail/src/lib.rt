@@ -10,11 +10,10 @@ ghost use Rattle.lists.specs.Rules.{rules_of};
 ghost use Rattle.trail.specs.Entries.{Finding, Checking};
 
 use check::check_plot;
-use checks::refusals::{liveness_lists, room_for};
-use lists::ends::Ends;
+use checks::refusals::room_for;
 use lists::rules::rules_of;
-use lists::{COMPONENT, COMPONENTS, CONNECTIONS, Refusal};
-use liveness::plot::Plot;
+use lists::{COMPONENT, Refusal};
+use liveness::accept::Tables;
 use plot::trail_plot;
 
 // Writes the ids from a drive source to an immediate source of a port whose verdict row has status 0, as few as possible, to the front of
@@ -31,21 +30,10 @@ pub fn find_trail(
     ensures { Finding (rules_of rules) components.now ports.now frontiers.now id port trail.old trail.new result }
 {
     let rules = rules_of(rules);
-    let mut keys = [0u64; COMPONENTS];
-    let mut ends = [Ends { source: 0, sink: 0 }; CONNECTIONS];
     let count = components.len() / COMPONENT;
     let enough = room_for(count, 1, trail.len());
-    liveness_lists(
-        rules, components, ports, frontiers, enough, &mut keys, &mut ends,
-    )?;
-    let plot = Plot {
-        keys: &keys[..count],
-        components,
-        ports,
-        frontiers,
-        rules,
-        ends: &ends,
-    };
+    let mut tables = Tables::new();
+    let plot = tables.plot(rules, components, ports, frontiers, enough)?;
     trail_plot(&plot, id, port, trail)
 }
 
@@ -63,19 +51,7 @@ pub fn check_trail(
     ensures { Checking (rules_of rules) components.now ports.now frontiers.now id port trail.now result }
 {
     let rules = rules_of(rules);
-    let mut keys = [0u64; COMPONENTS];
-    let mut ends = [Ends { source: 0, sink: 0 }; CONNECTIONS];
-    let count = components.len() / COMPONENT;
-    liveness_lists(
-        rules, components, ports, frontiers, true, &mut keys, &mut ends,
-    )?;
-    let plot = Plot {
-        keys: &keys[..count],
-        components,
-        ports,
-        frontiers,
-        rules,
-        ends: &ends,
-    };
+    let mut tables = Tables::new();
+    let plot = tables.plot(rules, components, ports, frontiers, true)?;
     check_plot(&plot, id, port, trail)
 }
