@@ -127,7 +127,6 @@ fn hold(text: &[u8], case: &str) -> Result<Mark, Refusal> {
     );
     let parted = mark.ports.kept.len() + mark.ports.left_out.len();
     assert_eq!(parted, sheet.connections.len(), "{case}");
-    assert_eq!(Scene::from(sheet).mark().as_ref(), Ok(&mark), "{case}");
     Ok(mark)
 }
 
@@ -138,6 +137,10 @@ fn it_is_the_report_of_drawn_sheets() -> Result<(), Refusal> {
     for seed in 0..20_000 {
         let sheet = drawn::sheet(300_000 + seed);
         let mark = hold(&sheet.text, &format!("sheet seed {}", 300_000 + seed))?;
+        if seed % 16 == 0 {
+            let scene = Scene::from(read_sheet(&sheet.text)?);
+            assert_eq!(scene.mark().as_ref(), Ok(&mark), "{scene:?}");
+        }
         let each = mark.inputs.iter();
         each.for_each(|it| statuses[it.status as usize] += 1);
         left_out += mark.ports.left_out.len();
