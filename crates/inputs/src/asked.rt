@@ -4,9 +4,8 @@ ghost use Rattle.std.proofs.Props.{props};
 ghost use Rattle.std.specs.Prelude.{◌≡◌, List, ℕ, ◌*◌, ◌^◌, ◌≤◌, ◌<◌, length, ℤ};
 ghost use Rattle.tables.specs.Order.{Ascending};
 ghost use Rattle.lists.specs.Limits.{component_limit};
-ghost use Rattle.lists.specs.Records.{component_count, port_count};
+ghost use Rattle.lists.specs.Records.{port_count};
 ghost use Rattle.lists.specs.Ids.{IdTable};
-ghost use Rattle.regions.specs.Search.{Zeros};
 ghost use Rattle.signals.specs.Flags.{Indices};
 ghost use Rattle.assessment.specs.Rows.{SlotWithin};
 ghost use Rattle.assessment.specs.Upstream.{RowsEmpty};
@@ -21,7 +20,7 @@ use assessment::upstream::upstream_rows;
 use lists::COMPONENTS;
 use lists::ids::member_of;
 use lists::views::ComponentList;
-use liveness::plot::{Plot, Room};
+use liveness::plot::PreparedPlot;
 use sets::ComponentSet;
 use signals::edges::PORTS;
 use signals::stages::build_fed;
@@ -41,32 +40,22 @@ pub struct Asked<'a> {
     pub ghost ready: { ∥ ((ps fs : List ℤ) × Ready rules components.now ps fs fed.now labels.now upstream.now) ∥₁ },
 }
 
-// Fills what the ports of a plot are asked by: its edges by the port that they feed, the regions of its members, and the rows of the
-// inferred inputs upstream of each region, which are empty before. Leaves the stack zero.
+// Fills what the ports of a prepared plot are asked by besides the regions of its members: its edges by the port that they feed, and the
+// rows of the inferred inputs upstream of each region, which are empty before.
 // Not a part of its caller's frame: its rows are needed here alone.
 #[inline(never)]
-pub fn make_ready(
-    plot: &Plot,
-    fed: &mut [u64],
-    labels: &mut [u16],
-    upstream: &mut [ComponentSet; COMPONENTS],
-    stack: &mut [usize],
-)
-    requires fed_len { length fed.old ≡ port_count plot.now.ports.now }
-    requires labels_len { let n = component_count plot.now.components.now in (length labels.old ≡ n) × (2 * n ≤ length stack.old) }
+pub fn make_ready(plot: &PreparedPlot, fed: &mut [u64], upstream: &mut [ComponentSet; COMPONENTS])
+    requires fed_len { length fed.old ≡ port_count plot.now.plot.ports.now }
     requires upstream { RowsEmpty upstream.old }
-    ensures { let p = plot.now in
-        Ready p.rules p.components.now p.ports.now p.frontiers.now fed.new labels.new upstream.new × Zeros stack.new }
+    ensures { let p = plot.now.plot in
+        Ready p.rules p.components.now p.ports.now p.frontiers.now fed.new plot.now.labels.now upstream.new }
 {
-    let n = plot.keys.len();
+    let lists = plot.plot;
     let mut flags = [false; COMPONENTS];
-    let inferred = &mut flags[..n];
-    let mut room = Room::new();
-    build_fed(plot.port_list(), plot.ends, fed);
-    let prepared = plot.prepare(&mut room, stack);
-    inferred_members(&prepared, inferred);
-    upstream_rows(prepared.forward, prepared.labels, inferred, upstream);
-    labels.copy_from_slice(prepared.labels);
+    let inferred = &mut flags[..lists.keys.len()];
+    build_fed(lists.port_list(), lists.ends, fed);
+    inferred_members(plot, inferred);
+    upstream_rows(plot.forward, plot.labels, inferred, upstream);
 }
 
 // The nodes that feed a slot, and all members of the rows of their regions.

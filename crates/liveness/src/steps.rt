@@ -128,7 +128,7 @@ fn answer(
 }
 
 // Marks a prepared plot, writes its rows and answers. The stack is zero already, as it is to be left.
-fn report(
+pub fn analyze_prepared(
     plot: &PreparedPlot,
     regions: &mut [u64],
     sources: &mut [u64],
@@ -189,5 +189,5 @@ pub fn analyze(
 {
     let mut room = Room::new();
     let prepared = plot.prepare(&mut room, stack);
-    report(&prepared, regions, sources, inputs, stack)
+    analyze_prepared(&prepared, regions, sources, inputs, stack)
 }

@@ -2,24 +2,24 @@
 ghost use Rattle.std.specs.Prelude.{◌≡◌, List, map, ℕ, ◌+◌, ◌*◌, ◌≤◌, length, take, pos};
 ghost use Rattle.lists.specs.Limits.{port_width, kept_width};
 ghost use Rattle.lists.specs.Records.{component_count};
-ghost use Rattle.lists.specs.Ids.{IdTable};
+ghost use Rattle.lists.specs.Ids.{member_of};
 ghost use Rattle.lists.specs.Slices.{laid};
+ghost use Rattle.signals.specs.Flags.{Numbers};
 ghost use Rattle.assessment.specs.Rows.{Put};
 ghost use Rattle.report.specs.Report.{all_rows};
 ghost use Rattle.report.specs.Printing.{component_row_by, region_row_by, SlopedFront, Cut};
 
 use assessment::verdicts::put_row;
-use lists::ids::member_of;
 use lists::numbers::natural_at;
 use lists::views::ComponentList;
 use lists::{KEPT, PORT};
 use sets::ComponentSet;
 
-// Fills the rows of the components, in list order, given the table of ids, the numbers of their groups and
-// regions, and two sets of members.
+// Fills the rows of the components, in list order, given each one's member, the numbers of their groups and regions, and two sets of
+// members.
 pub fn fill_components(
     components: ComponentList,
-    keys: &[u64],
+    members: &[u16],
     nets: &[u64],
     fragments: &[u64],
     regions: &[u64],
@@ -27,7 +27,7 @@ pub fn fill_components(
     potential: ComponentSet,
     rows: &mut [u64],
 )
-    requires table { IdTable components.numbers.now keys.now }
+    requires members { let cs = components.numbers.now in Numbers (component_count cs) (member_of cs) members.now }
     requires components_in_bounds { let n = component_count components.numbers.now in
         (n ≤ length nets.now) × ((n ≤ length fragments.now) × (n ≤ length regions.now)) }
     requires components_in_bounds_2 { 6 * component_count components.numbers.now ≤ length rows.old }
@@ -38,7 +38,7 @@ pub fn fill_components(
     let mut at = 0;
     for p in 0..components.count() {
         let id = components.id(p);
-        let m = member_of(keys, id);
+        let m = usize::from(members[p]);
         let driven = u64::from(drive.contains(m));
         let potent = u64::from(potential.contains(m));
         at = put_row(

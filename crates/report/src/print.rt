@@ -2,6 +2,8 @@
 // first byte is written. Each stage has its arrays only while it runs.
 ghost use Rattle.std.specs.Prelude.{◌≡◌, List, ◌*◌, ◌≤◌, length, ℤ};
 ghost use Rattle.lists.specs.Records.{component_count};
+ghost use Rattle.lists.specs.Ids.{member_of};
+ghost use Rattle.signals.specs.Flags.{Numbers};
 ghost use Rattle.blocks.specs.Printed.{Printed};
 ghost use Rattle.report.specs.Report.{report_of};
 ghost use Rattle.sheet.specs.Written.{fits, PrintedBy};
@@ -19,8 +21,8 @@ use inputs::asked::{Asked, make_ready};
 use lists::ends::{Ends, settle_ends};
 use lists::views::{ComponentList, ConnectionList, PortList};
 use lists::{COMPONENT, COMPONENTS, CONNECTIONS, Fault, KEPT, PORT, Refusal};
-use liveness::plot::Plot;
-use liveness::steps::analyze;
+use liveness::plot::{Plot, PreparedPlot, Room};
+use liveness::steps::analyze_prepared;
 use liveness::{Analysis, Rows};
 use scene::connections::keep_all;
 use sets::ComponentSet;
@@ -106,11 +108,13 @@ fn print_rows(asked: &Asked, rows: &TextRows, out: &mut [u8]) -> Result<usize, R
 fn print_analysis(
     asked: &Asked,
     ports: &[i64],
+    members: &[u16],
     groups: &Groups,
     rows: &Rows,
     found: Analysis,
     out: &mut [u8],
 ) -> Result<usize, Refusal>
+    requires members { let cs = asked.now.components.now in Numbers (component_count cs) (member_of cs) members.now }
     requires gathered { let a = asked.now in let g = groups.now in
         (ps : List ℤ) × Gathered a.rules a.components.now ps ports.now g.nets.now g.fragments.now g.slopes.now }
     requires analyzed { let a = asked.now in let r = rows.now in
@@ -132,7 +136,7 @@ fn print_analysis(
     let listed = asked.component_list();
     fill_components(
         listed,
-        asked.keys,
+        members,
         groups.nets,
         groups.fragments,
         rows.regions,
@@ -154,44 +158,42 @@ fn print_analysis(
     print_rows(asked, &text, out)
 }
 
-// Makes the scene of the kept connections ready to be asked, and prints what their analysis gave. The rows of the report are filled only
-// after that, so that the two have no arrays at the same time.
+// Makes the prepared scene of the kept connections ready to be asked, and prints what their analysis gave. The rows of the report are
+// filled only after that, so that the two have no arrays at the same time.
 fn print_ready(
-    plot: &Plot,
+    plot: &PreparedPlot,
     groups: &Groups,
     rows: &Rows,
     found: Analysis,
-    stack: &mut [usize],
     out: &mut [u8],
 ) -> Result<usize, Refusal>
-    requires gathered { let p = plot.now in let g = groups.now in
+    requires gathered { let p = plot.now.plot in let g = groups.now in
         (ps : List ℤ) × Gathered p.rules p.components.now ps p.ports.now g.nets.now g.fragments.now g.slopes.now }
-    requires analyzed { let p = plot.now in let r = rows.now in
+    requires analyzed { let p = plot.now.plot in let r = rows.now in
         Analyzed p.rules p.components.now p.ports.now p.frontiers.now r.regions.now r.sources.now r.inputs.now found }
-    requires stack_room { 2 * component_count plot.now.components.now ≤ length stack.old }
-    ensures { let p = plot.now in let g = groups.now in
+    ensures { let p = plot.now.plot in let g = groups.now in
         (ps : List ℤ) → Gathered p.rules p.components.now ps p.ports.now g.nets.now g.fragments.now g.slopes.now →
         let text = report_of p.rules p.components.now ps p.frontiers.now in
         PrintedBy (fits text (length out.old)) text out.old out.new result }
 {
-    let n = plot.keys.len();
-    let m = plot.port_list().count();
+    let lists = plot.plot;
+    let m = lists.port_list().count();
     let mut fed = [0u64; CONNECTIONS];
-    let mut labels = [0u16; COMPONENTS];
     let mut upstream = [ComponentSet::empty(); COMPONENTS];
-    make_ready(plot, &mut fed[..m], &mut labels[..n], &mut upstream, stack);
+    make_ready(plot, &mut fed[..m], &mut upstream);
     let asked = Asked {
-        keys: plot.keys,
-        components: plot.components,
-        rules: plot.rules,
+        keys: lists.keys,
+        components: lists.components,
+        rules: lists.rules,
         fed: &fed[..m],
-        labels: &labels[..n],
+        labels: plot.labels,
         upstream: &upstream,
     };
-    print_analysis(&asked, plot.ports, groups, rows, found, out)
+    print_analysis(&asked, lists.ports, plot.members, groups, rows, found, out)
 }
 
-// Analyzes the kept connections of a scene and prints its report, given its groups.
+// Prepares the scene of the kept connections once for its analysis and for what its ports are asked by, and prints its report, given its
+// groups.
 fn print_kept(
     rules: u64,
     keys: &[u64],
@@ -225,13 +227,21 @@ fn print_kept(
         rules,
         ends: &ends,
     };
-    let found = analyze(&plot, &mut regions, &mut sources, &mut inputs, &mut stack);
+    let mut room = Room::new();
+    let prepared = plot.prepare(&mut room, &mut stack);
+    let found = analyze_prepared(
+        &prepared,
+        &mut regions,
+        &mut sources,
+        &mut inputs,
+        &mut stack,
+    );
     let rows = Rows {
         regions: &regions,
         sources: &sources[..found.sources * 2],
         inputs: &inputs[..found.inputs * 3],
     };
-    print_ready(&plot, groups, &rows, found, &mut stack, out)
+    print_ready(&prepared, groups, &rows, found, out)
 }
 
 // Prints the report of an accepted scene, given its table of ids.

@@ -36,6 +36,9 @@ regions_inside : {rules : ℕ} {cs kept fs : List ℤ} {regions sources inputs :
     → Analyzed rules cs kept fs regions sources inputs r → Scene cs kept → length rows ≡ 2 * component_limit → 2 * r.regions ≤ length rows
 regions_inside rows a scene long = omega (arith, regions_fit a scene, long)
 
+pub fill_components-requires-clause-members : goal.fill_components-requires-clause-members
+fill_components-requires-clause-members c = rw c.component_list-listed.ensures c.requires.members
+
 pub fill_components-requires-clause-components_in_bounds : goal.fill_components-requires-clause-components_in_bounds
 fill_components-requires-clause-components_in_bounds c =
     let g = c.requires.gathered.1 in rw c.component_list-listed.ensures (nets_long g, (fragments_long g, regions_long c.requires.analyzed.1.1))

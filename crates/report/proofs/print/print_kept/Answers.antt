@@ -50,31 +50,45 @@ module _ {rules : ℕ} {cs ps fs : List ℤ} {regions regions' sources sources' 
   inputs_inside = omega (arith, a.analysis.input_count, front_long (input_rows rules cs ps fs) inputs a.inputs_left)
 
 pub overflow_mul-sources : goal.overflow_mul-sources
-overflow_mul-sources c = omega (arith, sources_inside c.analyze-found.ensures, c.analyze-found.auto.sources)
+overflow_mul-sources c = omega (arith, sources_inside c.analyze_prepared-found.ensures, c.analyze_prepared-found.auto.sources)
 
 pub slice_bounds-sources-end : goal.slice_bounds-sources-end
-slice_bounds-sources-end c = sources_inside c.analyze-found.ensures
+slice_bounds-sources-end c = sources_inside c.analyze_prepared-found.ensures
 
 pub slice_bounds-rows-end-2 : goal.slice_bounds-rows-end-2
-slice_bounds-rows-end-2 c = sym (length-take-le _ c.analyze-found.new.sources (sources_inside c.analyze-found.ensures))
+slice_bounds-rows-end-2 c = sym (length-take-le _ c.analyze_prepared-found.new.sources (sources_inside c.analyze_prepared-found.ensures))
 
 pub overflow_mul-inputs : goal.overflow_mul-inputs
-overflow_mul-inputs c = omega (arith, inputs_inside c.analyze-found.ensures, c.analyze-found.auto.inputs)
+overflow_mul-inputs c = omega (arith, inputs_inside c.analyze_prepared-found.ensures, c.analyze_prepared-found.auto.inputs)
 
 pub slice_bounds-inputs-end : goal.slice_bounds-inputs-end
-slice_bounds-inputs-end c = inputs_inside c.analyze-found.ensures
+slice_bounds-inputs-end c = inputs_inside c.analyze_prepared-found.ensures
 
 pub slice_bounds-rows-end-3 : goal.slice_bounds-rows-end-3
-slice_bounds-rows-end-3 c = sym (length-take-le _ c.analyze-found.new.inputs (inputs_inside c.analyze-found.ensures))
+slice_bounds-rows-end-3 c = sym (length-take-le _ c.analyze_prepared-found.new.inputs (inputs_inside c.analyze_prepared-found.ensures))
 
-pub print_ready-requires : goal.print_ready-requires
-print_ready-requires c =
+pub prepare-prepared-requires : goal.prepare-prepared-requires
+prepare-prepared-requires c =
+    let few = (scene_of c.requires.1.0 c.requires.1.1).components.few in omega (arith, few)
+
+pub analyze_prepared-found-requires : goal.analyze_prepared-found-requires
+analyze_prepared-found-requires c =
     let few = (scene_of c.requires.1.0 c.requires.1.1).components.few in
     record {
-      gathered = (c.requires.0, c.requires.1.1);
-      analyzed = analyzed c.analyze-found.ensures;
-      stack_room = omega (arith, few, c.analyze-found.auto.stack);
+      rows_room = rw c.prepare-prepared.ensures.plot (record {
+        regions_room = omega (arith, few);
+        sources_room = omega (arith, few);
+        inputs_room = omega (arith, few);
+        stack_room = omega (arith, few, c.prepare-prepared.auto.stack);
+      });
+      stack_zeros = c.prepare-prepared.ensures.stack;
     }
 
+pub print_ready-requires : goal.print_ready-requires
+print_ready-requires c = rw c.prepare-prepared.ensures.plot (record {
+  gathered = (c.requires.0, c.requires.1.1);
+  analyzed = analyzed (rw c.prepare-prepared.ensures.plot at c.analyze_prepared-found.ensures);
+})
+
 pub returns : goal.returns
-returns c ps accepts gathered = c.print_ready.ensures ps gathered
+returns c ps accepts gathered = (rw c.prepare-prepared.ensures.plot at c.print_ready.ensures) ps gathered

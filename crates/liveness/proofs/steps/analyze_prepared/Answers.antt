@@ -1,4 +1,4 @@
--- `liveness::steps::report` meets its contract: marks, then rows, then sets, each by its law.
+-- `liveness::steps::analyze_prepared` meets its contract: marks, then rows, then sets, each by its law.
 -- Assumes nothing.
 use Rattle.std.specs.Prelude.{Ok}
 use mathlib.Core.Path.{◌≡◌, refl, sym, ap, ◌∙◌}
@@ -26,8 +26,8 @@ use Rattle.liveness.specs.Scene.{Scene}
 use Rattle.liveness.proofs.Inferring.{labels_long}
 use Rattle.liveness.specs.Entry.{AnalysisOf}
 use Rattle.liveness.proofs.Answers.{set_all, set_where, set_same, tabulated_same, numbers_are}
-use Rattle.liveness.proofs.steps.report.Goals as goal
-use Rattle.liveness.proofs.steps.report.Goals.{Start}
+use Rattle.liveness.proofs.steps.analyze_prepared.Goals as goal
+use Rattle.liveness.proofs.steps.analyze_prepared.Goals.{Start}
 
 -- ---- the prepared scene
 abbrev rules : Start → ℕ
