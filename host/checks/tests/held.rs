@@ -13,31 +13,74 @@ const LENGTHS: [usize; 4] = [5 + COMPONENTS, 256 * 3, COMPONENTS * 8, CONNECTION
 mod raw {
     unsafe extern "C" {
         pub fn dustroute_open(
-            rules: i64, given: *const i64, given_len: usize,
-            state: *mut i64, state_len: usize, frontiers: *mut i64, frontiers_len: usize,
-            places: *mut i64, places_len: usize, connections: *mut i64, connections_len: usize,
+            rules: i64,
+            given: *const i64,
+            given_len: usize,
+            state: *mut i64,
+            state_len: usize,
+            frontiers: *mut i64,
+            frontiers_len: usize,
+            places: *mut i64,
+            places_len: usize,
+            connections: *mut i64,
+            connections_len: usize,
         ) -> u64;
         pub fn dustroute_place(
-            state: *mut i64, state_len: usize, frontiers: *const i64, frontiers_len: usize,
-            places: *mut i64, places_len: usize, connections: *const i64, connections_len: usize,
-            block: *const i64, block_len: usize,
+            state: *mut i64,
+            state_len: usize,
+            frontiers: *const i64,
+            frontiers_len: usize,
+            places: *mut i64,
+            places_len: usize,
+            connections: *const i64,
+            connections_len: usize,
+            block: *const i64,
+            block_len: usize,
         ) -> u64;
         pub fn dustroute_break(
-            state: *mut i64, state_len: usize, frontiers: *const i64, frontiers_len: usize,
-            places: *mut i64, places_len: usize, connections: *mut i64, connections_len: usize,
+            state: *mut i64,
+            state_len: usize,
+            frontiers: *const i64,
+            frontiers_len: usize,
+            places: *mut i64,
+            places_len: usize,
+            connections: *mut i64,
+            connections_len: usize,
             id: u64,
         ) -> u64;
         pub fn dustroute_connect(
-            state: *mut i64, state_len: usize, frontiers: *const i64, frontiers_len: usize,
-            places: *const i64, places_len: usize, connections: *mut i64, connections_len: usize,
-            connection: *const i64, connection_len: usize,
+            state: *mut i64,
+            state_len: usize,
+            frontiers: *const i64,
+            frontiers_len: usize,
+            places: *const i64,
+            places_len: usize,
+            connections: *mut i64,
+            connections_len: usize,
+            connection: *const i64,
+            connection_len: usize,
         ) -> u64;
         pub fn dustroute_held_liveness(
-            state: *const i64, state_len: usize, frontiers: *const i64, frontiers_len: usize,
-            places: *const i64, places_len: usize, connections: *const i64, connections_len: usize,
-            components: *mut i64, components_len: usize, regions: *mut u64, regions_len: usize,
-            sources: *mut u64, sources_len: usize, inputs: *mut u64, inputs_len: usize,
-            sets: *mut u64, sets_len: usize, stack: *mut usize, stack_len: usize,
+            state: *const i64,
+            state_len: usize,
+            frontiers: *const i64,
+            frontiers_len: usize,
+            places: *const i64,
+            places_len: usize,
+            connections: *const i64,
+            connections_len: usize,
+            components: *mut i64,
+            components_len: usize,
+            regions: *mut u64,
+            regions_len: usize,
+            sources: *mut u64,
+            sources_len: usize,
+            inputs: *mut u64,
+            inputs_len: usize,
+            sets: *mut u64,
+            sets_len: usize,
+            stack: *mut usize,
+            stack_len: usize,
         ) -> u64;
     }
 }
@@ -56,8 +99,17 @@ impl Slices {
         // SAFETY: whole slices, of which none overlaps another; so in all calls here.
         unsafe {
             raw::dustroute_open(
-                rules, given.as_ptr(), given.len(), s.as_mut_ptr(), s.len(), f.as_mut_ptr(), f.len(),
-                p.as_mut_ptr(), p.len(), c.as_mut_ptr(), c.len(),
+                rules,
+                given.as_ptr(),
+                given.len(),
+                s.as_mut_ptr(),
+                s.len(),
+                f.as_mut_ptr(),
+                f.len(),
+                p.as_mut_ptr(),
+                p.len(),
+                c.as_mut_ptr(),
+                c.len(),
             )
         }
     }
@@ -66,8 +118,16 @@ impl Slices {
         let [s, f, p, c] = &mut self.0;
         unsafe {
             raw::dustroute_place(
-                s.as_mut_ptr(), s.len(), f.as_ptr(), f.len(), p.as_mut_ptr(), p.len(), c.as_ptr(), c.len(),
-                block.as_ptr(), block.len(),
+                s.as_mut_ptr(),
+                s.len(),
+                f.as_ptr(),
+                f.len(),
+                p.as_mut_ptr(),
+                p.len(),
+                c.as_ptr(),
+                c.len(),
+                block.as_ptr(),
+                block.len(),
             )
         }
     }
@@ -76,7 +136,15 @@ impl Slices {
         let [s, f, p, c] = &mut self.0;
         unsafe {
             raw::dustroute_break(
-                s.as_mut_ptr(), s.len(), f.as_ptr(), f.len(), p.as_mut_ptr(), p.len(), c.as_mut_ptr(), c.len(), id,
+                s.as_mut_ptr(),
+                s.len(),
+                f.as_ptr(),
+                f.len(),
+                p.as_mut_ptr(),
+                p.len(),
+                c.as_mut_ptr(),
+                c.len(),
+                id,
             )
         }
     }
@@ -85,21 +153,49 @@ impl Slices {
         let [s, f, p, c] = &mut self.0;
         unsafe {
             raw::dustroute_connect(
-                s.as_mut_ptr(), s.len(), f.as_ptr(), f.len(), p.as_ptr(), p.len(), c.as_mut_ptr(), c.len(),
-                numbers.as_ptr(), numbers.len(),
+                s.as_mut_ptr(),
+                s.len(),
+                f.as_ptr(),
+                f.len(),
+                p.as_ptr(),
+                p.len(),
+                c.as_mut_ptr(),
+                c.len(),
+                numbers.as_ptr(),
+                numbers.len(),
             )
         }
     }
 
     fn report(&self, report: &mut Report) -> u64 {
         let [s, f, p, c] = &self.0;
-        let Report { components, numbers: [regions, sources, inputs, sets], stack } = report;
+        let Report {
+            components,
+            numbers: [regions, sources, inputs, sets],
+            stack,
+        } = report;
         unsafe {
             raw::dustroute_held_liveness(
-                s.as_ptr(), s.len(), f.as_ptr(), f.len(), p.as_ptr(), p.len(), c.as_ptr(), c.len(),
-                components.as_mut_ptr(), components.len(), regions.as_mut_ptr(), regions.len(),
-                sources.as_mut_ptr(), sources.len(), inputs.as_mut_ptr(), inputs.len(),
-                sets.as_mut_ptr(), sets.len(), stack.as_mut_ptr(), stack.len(),
+                s.as_ptr(),
+                s.len(),
+                f.as_ptr(),
+                f.len(),
+                p.as_ptr(),
+                p.len(),
+                c.as_ptr(),
+                c.len(),
+                components.as_mut_ptr(),
+                components.len(),
+                regions.as_mut_ptr(),
+                regions.len(),
+                sources.as_mut_ptr(),
+                sources.len(),
+                inputs.as_mut_ptr(),
+                inputs.len(),
+                sets.as_mut_ptr(),
+                sets.len(),
+                stack.as_mut_ptr(),
+                stack.len(),
             )
         }
     }
@@ -130,7 +226,14 @@ impl Report {
     }
 
     fn rooms(present: usize) -> [usize; 6] {
-        [8 * present, present, 4 * present, 12 * present, 64, 2 * present]
+        [
+            8 * present,
+            present,
+            4 * present,
+            12 * present,
+            64,
+            2 * present,
+        ]
     }
 }
 
@@ -148,8 +251,16 @@ struct Model {
 const STRANGE: [i64; 3] = [18, 3, 0];
 const FAR: i64 = 30_000_000;
 const ID: i64 = 4_294_967_295;
-const BLOCK: [(i64, i64); 8] =
-    [(0, ID), (-FAR, FAR), (-FAR, FAR), (-FAR, FAR), (0, 12), (0, 6), (0, 6), (0, 1)];
+const BLOCK: [(i64, i64); 8] = [
+    (0, ID),
+    (-FAR, FAR),
+    (-FAR, FAR),
+    (-FAR, FAR),
+    (0, 12),
+    (0, 6),
+    (0, 6),
+    (0, 1),
+];
 const WIRE: [(i64, i64); 5] = [(0, ID), (0, 255), (0, ID), (0, 255), (0, 6)];
 
 fn packed([number, list, item]: [i64; 3]) -> u64 {
@@ -158,7 +269,10 @@ fn packed([number, list, item]: [i64; 3]) -> u64 {
 
 fn fits(numbers: &[i64], ranges: &[(i64, i64)]) -> bool {
     numbers.len() == ranges.len()
-        && numbers.iter().zip(ranges).all(|(it, (low, high))| low <= it && it <= high)
+        && numbers
+            .iter()
+            .zip(ranges)
+            .all(|(it, (low, high))| low <= it && it <= high)
 }
 
 impl Model {
@@ -200,7 +314,10 @@ impl Model {
         if !fits(numbers, &WIRE) {
             return packed([3, 1, 0]);
         }
-        if ![numbers[0], numbers[2]].iter().all(|id| self.ids.contains_key(id)) {
+        if ![numbers[0], numbers[2]]
+            .iter()
+            .all(|id| self.ids.contains_key(id))
+        {
             return packed([17, 3, 0]);
         }
         let numbers: [i64; 5] = numbers.try_into().unwrap();
@@ -215,11 +332,25 @@ impl Model {
 
     /// The four slices, of these lengths.
     fn slices(&self, lengths: [usize; 4]) -> Slices {
-        let counts = [self.places.len(), self.freed.len(), self.connections.len(), self.frontiers.len() / 3];
+        let counts = [
+            self.places.len(),
+            self.freed.len(),
+            self.connections.len(),
+            self.frontiers.len() / 3,
+        ];
         let mut state = vec![self.rules];
         state.extend(counts.iter().chain(&self.freed).map(|it| *it as i64));
-        let places = self.places.iter().flat_map(|it| it.unwrap_or_default()).collect();
-        let lists = [state, self.frontiers.clone(), places, self.connections.concat()];
+        let places = self
+            .places
+            .iter()
+            .flat_map(|it| it.unwrap_or_default())
+            .collect();
+        let lists = [
+            state,
+            self.frontiers.clone(),
+            places,
+            self.connections.concat(),
+        ];
         let mut slices = Slices(lists);
         for (list, len) in slices.0.iter_mut().zip(lengths) {
             list.resize(len, 0);
@@ -267,7 +398,11 @@ fn click(random: &mut Random, spread: u64, model: &mut Model, slices: &mut Slice
             [model.place(&block), slices.place(&block)]
         }
         9..13 if spread < 4_000 || random.below(4) == 0 => {
-            let id = if random.below(100) == 0 { u64::MAX } else { id(random) as u64 };
+            let id = if random.below(100) == 0 {
+                u64::MAX
+            } else {
+                id(random) as u64
+            };
             [model.break_block(id), slices.break_block(id)]
         }
         _ => {
@@ -289,7 +424,11 @@ fn number(answer: u64) -> usize {
 fn build(seed: u64, clicks: usize, spread: u64, lengths: [usize; 4]) -> Tally {
     let mut random = Random(seed * 2 + 1);
     let given: Vec<i64> = (0..3 * random.below(5)).map(|it| it as i64 - 4).collect();
-    let mut model = Model { rules: 1 + random.below(3) as i64, frontiers: given.clone(), ..Model::default() };
+    let mut model = Model {
+        rules: 1 + random.below(3) as i64,
+        frontiers: given.clone(),
+        ..Model::default()
+    };
     let mut slices = Slices::new(lengths, -7);
     assert_eq!(slices.open(model.rules, &given), 0);
     let mut tally = [0; 19];
@@ -334,7 +473,10 @@ fn clicks_are_those_of_the_model() {
 
 /// A plot of so many blocks, and connections from the first to each up to a count.
 fn full(blocks: usize, wires: usize) -> (Model, Slices) {
-    let mut model = Model { rules: 2, ..Model::default() };
+    let mut model = Model {
+        rules: 2,
+        ..Model::default()
+    };
     let mut slices = Slices::new(LENGTHS, 1);
     slices.open(2, &[]);
     for k in 0..blocks as i64 {
@@ -353,11 +495,20 @@ fn full(blocks: usize, wires: usize) -> (Model, Slices) {
 #[test]
 fn a_full_plot_says_so_last() {
     let (mut model, mut slices) = full(COMPONENTS, CONNECTIONS);
-    for (block, number) in [([4, 0, 0, 0, 0, 0, 0, 0], 16), ([5_000, 0, 0, 0, 13, 0, 0, 0], 3), ([5_000, 0, 0, 0, 0, 0, 0, 0], 15)] {
+    for (block, number) in [
+        ([4, 0, 0, 0, 0, 0, 0, 0], 16),
+        ([5_000, 0, 0, 0, 13, 0, 0, 0], 3),
+        ([5_000, 0, 0, 0, 0, 0, 0, 0], 15),
+    ] {
         let found = slices.place(&block);
         assert_eq!((found & 0xff, found), (number, model.place(&block)));
     }
-    for (wire, number) in [([0, 0, 3, 0, 0], 0), ([0, 0, 3, 0, 1], 1), ([0, 0, 5_000, 0, 1], 17), ([0, 0, 5_000, 256, 1], 3)] {
+    for (wire, number) in [
+        ([0, 0, 3, 0, 0], 0),
+        ([0, 0, 3, 0, 1], 1),
+        ([0, 0, 5_000, 0, 1], 17),
+        ([0, 0, 5_000, 256, 1], 3),
+    ] {
         let found = slices.connect(&wire);
         assert_eq!((found & 0xff, found), (number, model.connect(&wire)));
     }
@@ -374,24 +525,36 @@ fn a_full_plot_says_so_last() {
 fn can_be_left(slices: &Slices) -> bool {
     let [state, frontiers, places, connections] = &slices.0;
     let count = |k: usize, most: usize| usize::try_from(state[k]).ok().filter(|it| *it <= most);
-    let (Some(used), Some(freed), Some(held), Some(given)) =
-        (count(1, COMPONENTS), count(2, COMPONENTS), count(3, CONNECTIONS), count(4, 256))
-    else {
+    let (Some(used), Some(freed), Some(held), Some(given)) = (
+        count(1, COMPONENTS),
+        count(2, COMPONENTS),
+        count(3, CONNECTIONS),
+        count(4, 256),
+    ) else {
         return false;
     };
     let freed: Vec<i64> = state[5..5 + freed].to_vec();
-    let blocks: Vec<&[i64]> = (0..used).filter(|k| !freed.contains(&(*k as i64))).map(|k| &places[8 * k..8 * k + 8]).collect();
+    let blocks: Vec<&[i64]> = (0..used)
+        .filter(|k| !freed.contains(&(*k as i64)))
+        .map(|k| &places[8 * k..8 * k + 8])
+        .collect();
     let wires: Vec<&[i64]> = connections[..5 * held].chunks(5).collect();
     let distinct = |list: &[i64]| (1..list.len()).all(|k| !list[..k].contains(&list[k]));
     let ids: Vec<i64> = blocks.iter().map(|it| it[0]).collect();
     let zero = |list: &[i64]| list.iter().all(|it| *it == 0);
     (1..=3).contains(&state[0])
-        && frontiers[..3 * given].iter().all(|it| (-FAR..=FAR).contains(it))
+        && frontiers[..3 * given]
+            .iter()
+            .all(|it| (-FAR..=FAR).contains(it))
         && distinct(&freed)
-        && freed.iter().all(|k| (0..used as i64).contains(k) && zero(&places[8 * *k as usize..8 * *k as usize + 8]))
+        && freed.iter().all(|k| {
+            (0..used as i64).contains(k) && zero(&places[8 * *k as usize..8 * *k as usize + 8])
+        })
         && blocks.iter().all(|it| fits(it, &BLOCK))
         && distinct(&ids)
-        && wires.iter().all(|it| fits(it, &WIRE) && ids.contains(&it[0]) && ids.contains(&it[2]))
+        && wires
+            .iter()
+            .all(|it| fits(it, &WIRE) && ids.contains(&it[0]) && ids.contains(&it[2]))
         && (1..wires.len()).all(|k| !wires[..k].contains(&wires[k]))
         && zero(&state[5 + freed.len()..])
         && zero(&frontiers[3 * given..])
@@ -416,7 +579,34 @@ fn damaged_plots_are_told() {
         let ends = [12, 9, 40, 18][list];
         let last = LENGTHS[list] - 1;
         for place in (0..ends).chain([last - 1, last]) {
-            for value in [-1, 0, 1, 2, 3, 4, 5, 6, 7, 9, 12, 13, 255, 256, 257, 1_024, 1_025, 4_096, 4_097, FAR, FAR + 1, -FAR - 1, ID, ID + 1, i64::MAX, i64::MIN] {
+            for value in [
+                -1,
+                0,
+                1,
+                2,
+                3,
+                4,
+                5,
+                6,
+                7,
+                9,
+                12,
+                13,
+                255,
+                256,
+                257,
+                1_024,
+                1_025,
+                4_096,
+                4_097,
+                FAR,
+                FAR + 1,
+                -FAR - 1,
+                ID,
+                ID + 1,
+                i64::MAX,
+                i64::MIN,
+            ] {
                 let mut damaged = slices.clone();
                 damaged.0[list][place] = value;
                 let strange = damaged.is_strange();
@@ -449,7 +639,10 @@ fn a_number_short_or_over() {
         assert_eq!(slices.open(2, &[1]), packed([1, 2, 0]));
         assert_eq!(slices.open(2, &[FAR + 1, 0, 0]), packed([2, 3, 0]));
         assert_eq!(slices, before);
-        let model = Model { rules: 2, ..Model::default() };
+        let model = Model {
+            rules: 2,
+            ..Model::default()
+        };
         let mut slices = model.slices(lengths);
         assert_eq!(slices.place(&[0; 8]), packed(STRANGE));
         assert!(slices.is_strange());
