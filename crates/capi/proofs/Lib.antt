@@ -12,4 +12,6 @@ mod InputSetLaws
 mod BlockLaws
 mod TextLaws
 mod JoinLaws
+mod HeldLaws
+mod HeldReport
 pub mod Laws

@@ -13,3 +13,5 @@ pub mod BlockPorts
 pub mod InputSets
 pub mod Texts
 pub mod Join
+pub mod Held
+pub mod HeldParts

@@ -5,6 +5,7 @@
 mod alive;
 mod block;
 mod clear;
+mod held_plot;
 mod input;
 mod joined;
 mod kept;

@@ -25,6 +25,8 @@
 //! - [`read_sheet`] reads the lists of a sheet, [`report`] marks one as the program
 //!   `plotreport` does, [`convert`] writes it in its other form, and [`join()`] makes
 //!   one sheet of two.
+//! - [`HeldPlot`] is a plot held open while pupils build: blocks are placed and broken,
+//!   connections added, and it is marked at any time without a new list.
 //! - [`self_test`] marks the paper's worked plots by the library that is linked, for
 //!   the start of a server.
 //!
@@ -85,6 +87,7 @@ mod codes;
 mod driven;
 mod explain;
 mod groups;
+mod held;
 mod input;
 mod interface;
 mod join;
@@ -114,6 +117,7 @@ pub use codes::{BlockKind, ConnectionKind, Facing, Slope, TransferKind};
 pub use driven::{DrivenInput, driven};
 pub use explain::Given;
 pub use groups::{ComponentGroups, Groups, groups};
+pub use held::HeldPlot;
 pub use input::{InputSources, input};
 pub use interface::{INTERFACE, interface};
 pub use join::{Clash, JoinRefusal, Unequal, WhichSheet, join};

@@ -127,13 +127,13 @@ impl Set {
 }
 
 /// What the library wrote.
-struct Answer {
-    regions: Vec<Bytes>,
-    sources: Vec<[Bytes; 2]>,
-    inputs: Vec<[Bytes; 3]>,
-    sets: [[Bytes; WORDS]; SETS],
+pub struct Answer {
+    pub regions: Vec<Bytes>,
+    pub sources: Vec<[Bytes; 2]>,
+    pub inputs: Vec<[Bytes; 3]>,
+    pub sets: [[Bytes; WORDS]; SETS],
     /// The counts of regions, source rows and verdict rows.
-    counts: [usize; 3],
+    pub counts: [usize; 3],
 }
 
 /// Finds regions, sources, what they drive, and a verdict for each required
@@ -190,7 +190,14 @@ pub fn liveness(
     connections: &[PortConnection],
     frontiers: &[Position],
 ) -> Result<Liveness, Refusal> {
-    let answer = analyzed(rules, components, connections, frontiers)?;
+    found(
+        components,
+        analyzed(rules, components, connections, frontiers)?,
+    )
+}
+
+/// What the library wrote of these components, in their types.
+pub fn found(components: &[Component], answer: Answer) -> Result<Liveness, Refusal> {
     let [region_count, source_count, input_count] = answer.counts;
     let sources = rows(&answer.sources, source_count)?.iter();
     let inputs = rows(&answer.inputs, input_count)?.iter();

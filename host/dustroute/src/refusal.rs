@@ -106,6 +106,18 @@ pub enum Reason {
     /// 14: two sheets have a component of one id, with unequal fields; the place is
     /// that of the second sheet's component. Only of [`join`](crate::join()).
     UnequalFields,
+    /// 15: no place is free: as many blocks are present as a plot may hold. Only of
+    /// [`HeldPlot::place`](crate::HeldPlot::place), as the next.
+    FullPlot,
+    /// 16: the id of the block to be placed is present already.
+    PresentId,
+    /// 17: no block with the id is present. Only of
+    /// [`HeldPlot::break_block`](crate::HeldPlot::break_block) and
+    /// [`HeldPlot::connect`](crate::HeldPlot::connect).
+    AbsentId,
+    /// 18: no opening and clicks can leave a plot with these numbers. Only of
+    /// [`HeldPlot::load`](crate::HeldPlot::load): what was saved is damaged.
+    StrangePlot,
     /// No refusal: the answer is none that the library's contract allows, so
     /// the archive that was linked is not the one of this crate's version.
     Unreadable,
@@ -113,7 +125,7 @@ pub enum Reason {
 
 impl Reason {
     /// The reasons that an entry gives, by rising number.
-    const ALL: [Self; 14] = [
+    const ALL: [Self; 18] = [
         Self::Length,
         Self::ShortSlice,
         Self::OutOfRange,
@@ -128,6 +140,10 @@ impl Reason {
         Self::UnknownForm,
         Self::OtherRules,
         Self::UnequalFields,
+        Self::FullPlot,
+        Self::PresentId,
+        Self::AbsentId,
+        Self::StrangePlot,
     ];
 
     /// Whether it is of a line wherever it is given.
@@ -154,6 +170,10 @@ impl Reason {
             Self::UnknownForm => 12,
             Self::OtherRules => 13,
             Self::UnequalFields => 14,
+            Self::FullPlot => 15,
+            Self::PresentId => 16,
+            Self::AbsentId => 17,
+            Self::StrangePlot => 18,
         }
     }
 }
@@ -180,6 +200,10 @@ impl fmt::Display for Reason {
             Self::UnknownForm => "a form of a sheet that is not known",
             Self::OtherRules => "the two sheets are marked by different rules",
             Self::UnequalFields => "a component that both sheets have, with unequal fields",
+            Self::FullPlot => "no place is free in the plot",
+            Self::PresentId => "a block with this id is present already",
+            Self::AbsentId => "no block with this id is present",
+            Self::StrangePlot => "a plot that no opening and clicks can leave: it is damaged",
             Self::Unreadable => "the answer of an archive of another version",
         })
     }
@@ -278,7 +302,7 @@ mod tests {
 
     #[test]
     fn every_number_is_read() {
-        for (number, reason) in (1..=14).zip(Reason::ALL) {
+        for (number, reason) in (1..=18).zip(Reason::ALL) {
             assert_eq!(reason.number(), number);
             let refusal = Refusal::of(u64::from(number) + 256 * 3);
             let line = Place {
@@ -343,7 +367,7 @@ mod tests {
             9,
             12,
             9 + 256,
-            15 + 256 * 3,
+            19 + 256 * 3,
             255,
             256,
             1 + 256 * 4,

@@ -208,12 +208,13 @@ fn id(number: i64) -> Option<ComponentId> {
     u32::try_from(number).ok().map(ComponentId)
 }
 
-fn position(&[x, y, z]: &[i64; 3]) -> Option<Position> {
+pub fn position(&[x, y, z]: &[i64; 3]) -> Option<Position> {
     let [x, y, z] = [x, y, z].map(i32::try_from);
     Some(Position::new(x.ok()?, y.ok()?, z.ok()?))
 }
 
-fn component(record: &[i64; 8]) -> Option<Component> {
+/// None where a number is none that the types can hold.
+pub fn component(record: &[i64; 8]) -> Option<Component> {
     let &[number, x, y, z, kind, facing, support, conducts] = record;
     Some(Component {
         id: id(number)?,
