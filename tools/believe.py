@@ -35,6 +35,7 @@ ENTRIES = {
     "convert/lib": ["convert_sheet"],
     "join/lib": ["join_sheets"],
     "held/clicks": ["open_plot", "place_block", "break_block", "connect_ports"],
+    "held_liveness/lib": ["held_liveness"],
     "report/lib": ["report"],
     "plotreport/program": ["answer"],
     "capi/lib": ["dustroute_groups", "dustroute_liveness"],
@@ -50,6 +51,7 @@ ENTRIES = {
     "capi/input": ["dustroute_input"],
     "capi/texts": ["dustroute_sheet", "dustroute_report", "dustroute_convert"],
     "capi/joined": ["dustroute_join"],
+    "capi/held_plot": ["dustroute_open", "dustroute_place", "dustroute_break", "dustroute_connect", "dustroute_held_liveness"],
 }
 STATEMENTS = [
     ("lists", "Places", "PlacesLaws"),
@@ -90,6 +92,7 @@ STATEMENTS = [
     ("held", "Lent", "LentReaches"),
     ("held", "Scene", "SceneAccepted"),
     ("held", "Scene", "Fresh"),
+    ("held_liveness", "Entry", "HeldIsFresh"),
     ("plotreport", "Fits", "ShortFits"),
     ("assessment", "RulesLaws", "RulesAgree"),
     ("assessment", "RulesLaws", "SameButInferred"),
