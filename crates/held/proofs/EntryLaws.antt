@@ -69,7 +69,7 @@ one_record numbers e = rw e (go (record_in_range component_low component_high nu
 -- ---- ids that are present, in the slices
 
 -- numbers that are not negative are the same if the natural numbers are
-same_natural : (a b : ℤ) → T (non_neg a) → T (non_neg b) → eqb (nat_abs a) (nat_abs b) ≡ eq_z a b
+pub same_natural : (a b : ℤ) → T (non_neg a) → T (non_neg b) → eqb (nat_abs a) (nat_abs b) ≡ eq_z a b
 same_natural (pos a) (pos b) s t = refl
 same_natural (pos a) (negsuc b) s t = absurd t
 same_natural (negsuc a) b s t = absurd s

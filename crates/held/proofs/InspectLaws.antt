@@ -4,12 +4,12 @@
 --     blocks-snoc                            one place more
 -- Assumes nothing.
 use mathlib.Core.Path.{◌≡◌, refl, sym, ap, ◌∙◌, subst}
-use mathlib.Core.Bool.{Bool, true, false, not, ◌&&◌, ◌||◌}
+use mathlib.Core.Bool.{Bool, true, false, ◌&&◌, ◌||◌}
 use mathlib.Core.List.{List, [], ◌∷◌, ◌++◌, reverse, reverse-append}
 use Prim.Native.Nat.{ℕ, suc, ◌+◌, ◌-◌, ◌≤◌, ◌<◌}
 use native.Mathlib.Omega.{arith}
 use native.Mathlib.Numerals.{add-one}
-use lib.ListN.{length, get_or, take, drop, length-append, length-drop, take-append-drop, drop_of_length-le}
+use lib.ListN.{length, get_or, take, drop, length-drop, take-append-drop, drop_of_length-le}
 use lib.Seq.{drop-cons, take-suc, get_or-take, get_or-drop, length-take-le, take_all, take-length}
 use lib.Dec.{eqb, ltb}
 use lib.IntN.{ℤ, pos}
@@ -165,20 +165,6 @@ any_turn test l j d h = rw (add-one, drop-cons l j d h)
 pub any_done : {A : Type 0} (test : A → Bool) (l : List A) (j : ℕ) → length l ≤ j → any test (drop j l) ≡ false
 unfolding any
 any_done test l j h = rw (drop_of_length-le l h)
-
-pub distinct_turn : {A : Type 0} (same : A → A → Bool) (l : List A) (k : ℕ) (d : A) → k < length l
-    → distinct same (drop k l) ≡ (not (any (λ later. same later (get_or l k d)) (drop (k + 1) l)) && distinct same (drop (k + 1) l))
-unfolding distinct
-distinct_turn same l k d h = rw (add-one, drop-cons l k d h)
-
-pub distinct_done : {A : Type 0} (same : A → A → Bool) (l : List A) (k : ℕ) → length l ≤ k → distinct same (drop k l) ≡ true
-unfolding distinct
-distinct_done same l k h = rw (drop_of_length-le l h)
-
--- ---- the front of an array
-
-pub front_long : (xs ys : List ℕ) (n : ℕ) → length xs ≡ n → n ≤ length (xs ++ ys)
-front_long xs ys n e = omega (arith, length-append xs ys)
 
 pub five_only : (l : List ℤ) → length l ≡ 5 → l ≡ at l 0 ∷ at l 1 ∷ at l 2 ∷ at l 3 ∷ at l 4 ∷ []
 five_only l e = sym (subst (λ (n : ℕ). take n l ≡ l) e (take-length l)) ∙ five_numbers l 0 (omega arith)

@@ -38,6 +38,8 @@ pub mod WriteLaws
 pub mod InspectLaws
 pub mod ValidLaws
 pub mod PartLaws
+pub mod Twice
+pub mod KeyLaws
 pub mod EntryLaws
 pub mod DropLaws
 pub mod BreakLaws

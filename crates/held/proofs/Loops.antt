@@ -3,13 +3,14 @@
 --     SeenMarks, marks_start, marks_more, marks_all        the same with their marks
 --     gathered_start, gathered_more                        blocks gathered
 --     blank_more                                           blank places
---     among_turn, among_done, differ_turn, differ_done     connections, from one on
+--     among_here, among_later, among_done                  connections, from one on
+--     keys_start, keys_more, neighbours_more               keys of connections
 -- Assumes nothing.
 use mathlib.Core.Path.{◌≡◌, refl, sym, ap, ◌∙◌, subst}
-use mathlib.Core.Bool.{Bool, true, false, not, cond, ◌&&◌}
+use mathlib.Core.Bool.{Bool, true, false, cond}
 use mathlib.Core.List.{List, [], ◌∷◌, ◌++◌}
 use mathlib.Core.Logic.{⊎_elim}
-use Prim.Native.Nat.{ℕ, ◌+◌, ◌*◌, ◌≤◌, ◌<◌}
+use Prim.Native.Nat.{◌-◌, ℕ, ◌+◌, ◌*◌, ◌≤◌, ◌<◌}
 use native.Mathlib.Omega.{arith}
 use native.Mathlib.Numerals.{add-one}
 use lib.ListN.{length, get_or, take, drop, set, length-append, length-drop, length-set}
@@ -26,13 +27,14 @@ use Rattle.lists.proofs.Some.{and_true}
 use Rattle.held.specs.Tests.{any, every, distinct, same_numbers}
 use Rattle.held.specs.Plot.{Record, Place, free, taken, blocks}
 use Rattle.held.specs.Lent.{flat, record_at, counts_width, freed_count_in, freed_places_in, is_blank}
-use Rattle.held.specs.Inspected.{FreedMarked, marked_place, GatheredOne, Gathered}
+use Rattle.std.specs.Prelude.{Option, Some, None}
+use Rattle.held.specs.Inspected.{both_ends, connection_key, key_if, KeysBelow, FreedMarked, marked_place, GatheredOne, Gathered}
 use Rattle.held.proofs.Lists.{member_head, member_other, distinct_cons}
 use Rattle.held.proofs.Places.{same_or_not}
 use Rattle.held.proofs.Flat.{flat_snoc}
 use Rattle.held.proofs.Reached.{length_tabulate, get_or_tabulate}
 use Rattle.held.proofs.Sorting.{same_is, same_self}
-use Rattle.held.proofs.InspectLaws.{seen, seen_more, seen_all, fails_below, fails_twice, blocks_snoc_free, blocks_snoc_taken, any_turn, any_done, distinct_turn, distinct_done}
+use Rattle.held.proofs.InspectLaws.{seen, seen_more, seen_all, fails_below, fails_twice, blocks_snoc_free, blocks_snoc_taken, any_turn, any_done}
 
 -- ---- the freed places
 
@@ -180,14 +182,38 @@ module _ (test : Record → Bool) (list : List ℤ) (n k : ℕ) where
   pub among_done : n ≤ k → any test (drop k (tabulate (record_at port_width list) n)) ≡ false
   among_done h = any_done test (tabulate (record_at port_width list) n) k (omega (arith, length_tabulate (record_at port_width list) n))
 
-module _ (list : List ℤ) (n k : ℕ) where
-  abbrev held : List Record
-  held = tabulate (record_at port_width list) n
+-- ---- keys
 
-  pub differ_turn : k < n → distinct same_numbers (drop k held) ≡ (not (any (λ later. same_numbers later (record_at port_width list k)) (drop (k + 1) held)) && distinct same_numbers (drop (k + 1) held))
-  differ_turn h =
-      distinct_turn same_numbers held k [] (omega (arith, length_tabulate (record_at port_width list) n))
-      ∙ ap (λ (r : Record). not (any (λ later. same_numbers later r) (drop (k + 1) held)) && distinct same_numbers (drop (k + 1) held)) (get_or_tabulate (record_at port_width list) n k [] h)
+pub keys_start : (cs ps : List ℤ) (keys : List ℕ) → KeysBelow cs ps keys 0
+keys_start cs ps keys = record { ends = λ k h. absurd (omega arith); key = λ k h. absurd (omega arith) }
 
-  pub differ_done : n ≤ k → distinct same_numbers (drop k held) ≡ true
-  differ_done h = distinct_done same_numbers held k (omega (arith, length_tabulate (record_at port_width list) n))
+pub some_key : (b : Bool) (x y : ℕ) → ◌≡◌ {A = Option ℕ} (Some y) (cond b (Some x) None) → (b ≡ true) × (y ≡ x)
+some_key true x y e = (refl, cc)
+some_key false x y e = let z : ◌≡◌ {A = ℕ} 0 1 = cc in absurd (omega arith)
+
+pub no_key : (b : Bool) (x : ℕ) → ◌≡◌ {A = Option ℕ} None (cond b (Some x) None) → b ≡ false
+no_key true x e = let z : ◌≡◌ {A = ℕ} 0 1 = cc in absurd (omega arith)
+no_key false x e = refl
+
+pub keys_more : (cs ps : List ℤ) (keys : List ℕ) (k key : ℕ) → k < length keys → Some key ≡ key_if cs ps k → KeysBelow cs ps keys k → KeysBelow cs ps (set keys k key) (k + 1)
+keys_more cs ps keys k key h e b =
+    let here = some_key (both_ends cs ps k) (connection_key cs ps k) key e in
+    record {
+      ends = λ j l. ⊎_elim (λ (same : j ≡ k). subst (λ (i : ℕ). both_ends cs ps i ≡ true) (sym same) here.0) (λ (n : j ≡ k → ⊥). b.ends j (omega arith)) (same_or_not j k);
+      key = λ j l.
+          ⊎_elim
+          (λ (same : j ≡ k). rw same (get_or-set_same keys k key 0 h ∙ here.1))
+          (λ (n : j ≡ k → ⊥). get_or-set_other keys k j key 0 n ∙ b.key j (omega arith))
+          (same_or_not j k);
+    }
+
+-- no number below place k is the same as the next
+abbrev pub DifferBelow : List ℕ → ℕ → Type 0
+DifferBelow keys k = (i : ℕ) → i + 1 < k → get_or keys i 0 ≡ get_or keys (i + 1) 0 → ⊥
+
+pub neighbours_more : (keys : List ℕ) (k : ℕ) → (get_or keys (k - 1) 0 ≡ get_or keys k 0 → ⊥) → DifferBelow keys k → DifferBelow keys (k + 1)
+neighbours_more keys k n d i h e =
+    ⊎_elim
+    (λ (last : i + 1 ≡ k). let j : i ≡ k - 1 = omega arith in n (rw (← j, ← last) e))
+    (λ (other : i + 1 ≡ k → ⊥). d i (omega arith) e)
+    (same_or_not (i + 1) k)

@@ -50,7 +50,7 @@ pub none_of : (f : Option ℕ) → is_found f ≡ false → f ≡ None
 none_of (Some k) e = true_not_false e
 none_of None e = refl
 
-not_found : (f : Option ℕ) → not (is_found f) ≡ true → f ≡ None
+pub not_found : (f : Option ℕ) → not (is_found f) ≡ true → f ≡ None
 not_found (Some k) e = never e
 not_found None e = refl
 

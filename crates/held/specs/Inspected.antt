@@ -1,21 +1,18 @@
 -- What the functions that look for number 18 hand to each other.
 -- Assumes nothing: these are definitions.
-use Rattle.std.specs.Prelude.{Option, Some, ℕ, ◌+◌, ◌*◌, ◌≤◌, ◌<◌, ◌≡◌, Bool, true, false, not, cond, ◌&&◌, List, length, get_or, take, drop, eqb, ltb, ℤ}
+use Rattle.std.specs.Prelude.{◌/◌, ◌%◌, Option, Some, None, ℕ, ◌+◌, ◌*◌, ◌≤◌, ◌<◌, ◌≡◌, Bool, true, false, not, cond, ◌&&◌, List, length, get_or, take, drop, eqb, ltb, ℤ}
 use Rattle.std.proofs.Math.Seq.{paste}
 use Rattle.tables.specs.Order.{member}
 use Rattle.lists.specs.Limits.{component_limit, connection_limit, frontier_limit, component_width, port_width, frontier_width}
 use Rattle.lists.specs.Ranges.{first_out_of_range, component_low, component_high, port_low, port_high, frontier_low, frontier_high}
 use Rattle.lists.specs.Records.{port_connection, port_count}
 use Rattle.lists.specs.Rules.{known_rules}
-use Rattle.lists.specs.Ids.{has_component, first_repeated, IdTable}
+use Rattle.lists.specs.Ids.{smaller_ids, has_component, first_repeated, IdTable}
 use Rattle.lists.specs.First.{tabulate, is_found, all_from}
 use Rattle.held.specs.Tests.{every, distinct, same_numbers}
 use Rattle.held.specs.Plot.{Place, free, taken, blocks, present}
+pub use Rattle.held.specs.Lent.{lent_of}
 use Rattle.held.specs.Lent.{Lent, flat, counts_width, record_at, used_in, freed_count_in, held_in, frontier_count_in, freed_places_in, zeros_from, is_blank, has_room, counts_fit, counter, plot_in, lent_valid}
-
--- the four slices
-abbrev pub lent_of : List ℕ → List ℤ → List ℤ → List ℤ → Lent
-lent_of state frontiers places connections = record { state = state; frontiers = frontiers; places = places; connections = connections }
 
 -- no count is over its limit
 pub record Counts (state : List ℕ) : Type 0 where
@@ -67,6 +64,51 @@ pub record BlocksChecked (cs : List ℤ) (keys : List ℕ) (r : Bool) : Type 0 w
 -- both ends of port connection k are components
 abbrev pub both_ends : List ℤ → List ℤ → ℕ → Bool
 both_ends cs ps k = has_component cs (port_connection ps k).source && has_component cs (port_connection ps k).sink
+
+-- ---- connections by their keys
+
+-- the member that stands for the component with the id, if there is one
+abbrev pub member_if : List ℤ → ℕ → Option ℕ
+member_if cs id = cond (has_component cs id) (Some (smaller_ids cs id)) None
+
+-- ports and transfer as one number, below 512 where both ports are below 8
+abbrev pub way_of : ℕ → ℕ → ℕ → ℕ
+way_of source_port sink_port transfer =
+    (source_port / 8 * 32 + sink_port / 8) * 512 + ((source_port % 8 * 8 + sink_port % 8) * 8 + transfer)
+
+-- and members
+abbrev pub key_of : ℕ → ℕ → ℕ → ℕ → ℕ → ℕ
+key_of source sink source_port sink_port transfer =
+    (way_of source_port sink_port transfer * component_limit + source) * component_limit + sink
+
+abbrev pub connection_key : List ℤ → List ℤ → ℕ → ℕ
+connection_key cs ps k =
+    let p = port_connection ps k in
+    key_of (smaller_ids cs p.source) (smaller_ids cs p.sink) p.source_port_of p.sink_port_of p.transfer
+
+-- the key of port connection k, if both its ends are components
+abbrev pub key_if : List ℤ → List ℤ → ℕ → Option ℕ
+key_if cs ps k = cond (both_ends cs ps k) (Some (connection_key cs ps k)) None
+
+-- the keys of the connections below n
+pub record KeysBelow (cs ps : List ℤ) (keys : List ℕ) (n : ℕ) : Type 0 where
+  pub ends : (k : ℕ) → k < n → both_ends cs ps k ≡ true
+  pub key : (k : ℕ) → k < n → get_or keys k 0 ≡ connection_key cs ps k
+
+-- both ends of each connection are components, and then these are the keys of all
+pub record KeysFor (cs ps : List ℤ) (keys : List ℕ) (r : Bool) : Type 0 where
+  pub all : r ≡ true → KeysBelow cs ps keys (port_count ps)
+  pub some : r ≡ false → (k : ℕ) × (k < port_count ps) × (both_ends cs ps k ≡ false)
+
+-- no number is the same as the next
+pub record NeighboursDiffer (keys : List ℕ) (r : Bool) : Type 0 where
+  pub all : r ≡ true → (i : ℕ) → i + 1 < length keys → get_or keys i 0 ≡ get_or keys (i + 1) 0 → ⊥
+  pub some : r ≡ false → (i : ℕ) × (i + 1 < length keys) × (get_or keys i 0 ≡ get_or keys (i + 1) 0)
+
+-- no number is the same as another
+pub record Differ (keys : List ℕ) (r : Bool) : Type 0 where
+  pub all : r ≡ true → (i j : ℕ) → i < j → j < length keys → get_or keys i 0 ≡ get_or keys j 0 → ⊥
+  pub some : r ≡ false → (i : ℕ) × (j : ℕ) × (i < j) × (j < length keys) × (get_or keys i 0 ≡ get_or keys j 0)
 
 -- ---- the test of number 18 in the parts in which it is made
 

@@ -1,5 +1,5 @@
 -- A held plot in the slices that a caller lends.
---     Lent                    the four slices
+--     Lent, lent_of           the four slices
 --     layout                  a plot laid out in slices of these lengths, all zero behind what it holds
 --     plot_in                  the plot that slices show
 --     LentLeavable            slices that an opening and clicks can leave; the others are refused with 18
@@ -32,6 +32,9 @@ pub record Lent : Type 0 where
   pub frontiers : List ℤ
   pub places : List ℤ
   pub connections : List ℤ
+
+abbrev pub lent_of : List ℕ → List ℤ → List ℤ → List ℤ → Lent
+lent_of state frontiers places connections = record { state = state; frontiers = frontiers; places = places; connections = connections }
 
 -- ---- laid out
 

@@ -8,9 +8,8 @@ ghost use Rattle.lists.specs.Signed.{at};
 ghost use Rattle.lists.specs.First.{first_from};
 ghost use Rattle.held.specs.Plot.{block_fits, connection_fits, opening};
 ghost use Rattle.held.specs.Left.{place, connect};
-ghost use Rattle.held.specs.Lent.{counts_width, used_in, freed_count_in, freed_places_in, lent_answer};
+ghost use Rattle.held.specs.Lent.{counts_width, used_in, freed_count_in, freed_places_in, lent_of, lent_answer};
 ghost use Rattle.held.specs.Writes.{id_in, IdsNatural};
-ghost use Rattle.held.specs.Inspected.{lent_of};
 ghost use Rattle.held.specs.Entries.{PlacedBy, BrokenBy, ConnectedBy, OpenedBy};
 
 use super::inspect::{has_room, is_held, is_left};

@@ -7,10 +7,11 @@ ghost use Rattle.lists.specs.Ids.{IdTable};
 ghost use Rattle.lists.specs.First.{all_from, tabulate};
 ghost use Rattle.held.specs.Tests.{any, every, distinct, same_numbers};
 ghost use Rattle.held.specs.Lent.{record_at, is_zero, is_blank, freed_count_in, freed_places_in, counts_width};
-ghost use Rattle.held.specs.Lent.{Roomy, has_room, counts_fit, lent_valid};
-ghost use Rattle.held.specs.Inspected.{lent_of, FreedMarked, GatheredOne, Gathered, Counts, zero_behind, opens_with};
+ghost use Rattle.held.specs.Lent.{Roomy, lent_of, has_room, counts_fit, lent_valid};
+ghost use Rattle.held.specs.Inspected.{FreedMarked, GatheredOne, Gathered, Counts, zero_behind, opens_with};
 ghost use Rattle.held.specs.Inspected.{BlocksChecked, both_ends, connections_pass, FrameFits, stand_pass, Standing};
 
+use super::connections::connections_pass;
 use super::writes::{COUNTS, FREED, FRONTIERS_AT, HELD, RULES_AT, USED, put_numbers};
 use checks::ranges::{COMPONENT_RANGES, FRONTIER_RANGES, PORT_RANGES};
 use lists::ids::{first_repeated, has_component, id_table};
@@ -31,12 +32,12 @@ fn zeros(list: &[i64], from: usize, n: usize) -> bool
     requires { from + n ≤ length list.now }
     ensures { result ≡ every is_zero (take n (drop from list.now)) }
 {
+    // No way out at the first: so several numbers are looked at at once.
+    let mut all = true;
     for f in 0..n {
-        if !is_zero(list, from + f) {
-            return false;
-        }
+        all &= is_zero(list, from + f);
     }
-    true
+    all
 }
 
 // Whether the state is zero from `from` on.
@@ -172,27 +173,6 @@ fn blocks_pass(blocks: &[i64], keys: &mut [u64], spare: &mut [u64]) -> bool
     first_repeated(keys, listed).is_none()
 }
 
-// Whether both ends of port connection k are components.
-fn both_ends(keys: &[u64], ports: PortList, k: usize) -> bool
-    requires { k < port_count ports.numbers.now }
-    ensures { (cs : List ℤ) → IdTable cs keys.now → result ≡ both_ends cs ports.entry.numbers.now k }
-{
-    has_component(keys, ports.source(k)) && has_component(keys, ports.sink(k))
-}
-
-// Whether both ends of each connection are components.
-fn ends_pass(keys: &[u64], ports: PortList) -> bool
-    ensures { (cs : List ℤ) → IdTable cs keys.now →
-        result ≡ all_from (both_ends cs ports.entry.numbers.now) 0 (port_count ports.entry.numbers.now) }
-{
-    for k in 0..ports.count() {
-        if !both_ends(keys, ports, k) {
-            return false;
-        }
-    }
-    true
-}
-
 // Whether five numbers are those of connection k.
 fn same_as(numbers: &[i64], list: &[i64], k: usize) -> bool
     requires { (length numbers.now ≡ port_width) × (k * port_width + port_width ≤ length list.now) }
@@ -213,46 +193,6 @@ pub fn is_held(list: &[i64], n: usize, numbers: &[i64]) -> bool
         }
     }
     false
-}
-
-// Whether one of the first n connections after k is the same as connection k.
-fn repeated_later(list: &[i64], k: usize, n: usize) -> bool
-    requires { (k < n) × (n * port_width ≤ length list.now) }
-    ensures { result ≡ any (λ later. same_numbers later (record_at port_width list.now k)) (drop (k + 1) (tabulate (record_at port_width list.now) n)) }
-{
-    for j in k + 1..n {
-        if same_as(&list[j * PORT..j * PORT + PORT], list, k) {
-            return true;
-        }
-    }
-    false
-}
-
-// Whether no two of the first n connections are the same.
-fn all_differ(list: &[i64], n: usize) -> bool
-    requires { n * port_width ≤ length list.now }
-    ensures { result ≡ distinct same_numbers (tabulate (record_at port_width list.now) n) }
-{
-    for k in 0..n {
-        if repeated_later(list, k, n) {
-            return false;
-        }
-    }
-    true
-}
-
-// Whether connections are in range, have components at both ends, and none is there twice.
-fn connections_pass(keys: &[u64], ports: &[i64]) -> bool
-    requires { port_count ports.now ≤ connection_limit }
-    ensures { (cs : List ℤ) → IdTable cs keys.now → result ≡ connections_pass cs ports.now }
-{
-    if PORT_RANGES.first_outside(ports).is_some() {
-        return false;
-    }
-    if !ends_pass(keys, PortList { numbers: ports }) {
-        return false;
-    }
-    all_differ(ports, ports.len() / PORT)
 }
 
 // Whether the slices have room, the counts fit, all behind them is zero, and an opening takes the rules number and the frontiers.

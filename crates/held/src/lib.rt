@@ -3,5 +3,6 @@
 #![tactic(auto)]
 
 pub mod clicks;
+pub mod connections;
 pub mod inspect;
 pub mod writes;

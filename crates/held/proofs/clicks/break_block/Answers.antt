@@ -10,7 +10,7 @@ use Rattle.std.specs.Prelude.{Option, Err}
 use Rattle.held.specs.Plot.{place_of, broken_at}
 use Rattle.held.specs.Left.{break, effect_of}
 use Rattle.held.specs.Lent.{Lent, layout, plot_in, lent_if, lent_valid, used_in}
-use Rattle.held.specs.Inspected.{lent_of}
+use Rattle.held.specs.Lent.{lent_of}
 use Rattle.held.proofs.LentLaws.{passes}
 use Rattle.held.proofs.BreakLaws.{found_is, state_room, places_room, ids_natural, ends_natural, place_used, freed_room, broken_layout, break_18, break_17, break_0}
 use Rattle.held.proofs.clicks.break_block.Goals as goal

@@ -17,7 +17,7 @@ use Rattle.held.specs.Lent.{record_at}
 use Rattle.held.specs.Plot.{is_held}
 use Rattle.held.specs.Left.{connect, effect_of}
 use Rattle.held.specs.Lent.{Lent, layout, plot_in, lent_if, lent_answer, lent_valid, held_in}
-use Rattle.held.specs.Inspected.{lent_of}
+use Rattle.held.specs.Lent.{lent_of}
 use Rattle.held.proofs.Kept.{Connecting, connecting_accepts}
 use Rattle.held.proofs.LentLaws.{passes}
 use Rattle.held.proofs.EntryLaws.{accepted_parts}

@@ -12,7 +12,7 @@ use Rattle.std.specs.Prelude.{Ok, Err}
 use Rattle.lists.specs.Rules.{rules_of}
 use Rattle.held.specs.Plot.{opening, opened}
 use Rattle.held.specs.Lent.{Lent, Roomy, has_room, layout, lent_if, laid_state, laid_frontiers, laid_places, laid_connections, flat}
-use Rattle.held.specs.Inspected.{lent_of}
+use Rattle.held.specs.Lent.{lent_of}
 use Rattle.held.proofs.LentLaws.{room_of}
 use Rattle.held.proofs.OpenLaws.{opening_parts, state_zero, front_zero, nothing_laid}
 use Rattle.held.proofs.clicks.open_plot.Goals as goal

@@ -11,7 +11,7 @@ use Rattle.held.specs.Plot.{seat, placing}
 use Rattle.held.specs.Left.{place, effect_of}
 use Rattle.held.specs.Lent.{Lent, layout, plot_in, lent_if, lent_answer, lent_valid}
 use Rattle.held.specs.Entries.{with_place}
-use Rattle.held.specs.Inspected.{lent_of}
+use Rattle.held.specs.Lent.{lent_of}
 use Rattle.held.proofs.LentLaws.{passes}
 use Rattle.held.proofs.EntryLaws.{accepted_parts, numbers_long, seat_few, seat_now, placed_layout}
 use Rattle.held.proofs.clicks.place_block.Goals as goal

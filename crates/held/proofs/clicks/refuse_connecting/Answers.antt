@@ -6,7 +6,7 @@ use native.Mathlib.Omega.{arith}
 use lib.ListN.{length}
 use Rattle.std.specs.Prelude.{Err}
 use Rattle.held.specs.Lent.{Lent, lent_valid, held_in}
-use Rattle.held.specs.Inspected.{lent_of}
+use Rattle.held.specs.Lent.{lent_of}
 use Rattle.held.proofs.LentLaws.{passes}
 use Rattle.held.proofs.BreakLaws.{port_natural, present_by, state_room, places_room, ids_natural}
 use Rattle.held.proofs.ConnectLaws.{numbers_long, held_is, connect_18, connect_3, connect_source, connect_sink, connect_room, connect_held, connect_1}

@@ -5,7 +5,7 @@ use native.Mathlib.Omega.{arith}
 use Rattle.std.specs.Prelude.{Err}
 use Rattle.lists.specs.Ranges.{component_low, component_high}
 use Rattle.held.specs.Lent.{Lent, lent_valid}
-use Rattle.held.specs.Inspected.{lent_of}
+use Rattle.held.specs.Lent.{lent_of}
 use Rattle.held.proofs.LentLaws.{passes}
 use Rattle.held.proofs.Shown.{fits_long}
 use Rattle.held.proofs.EntryLaws.{answer_18, answer_3, answer_16, answer_15, answer_0, count_is, id_natural}

@@ -5,7 +5,7 @@ use native.Mathlib.Omega.{arith}
 use lib.ListN.{length}
 use lib.Seq.{length-take-le}
 use Rattle.held.specs.Lent.{frontier_count_in}
-use Rattle.held.specs.Inspected.{lent_of}
+use Rattle.held.specs.Lent.{lent_of}
 use Rattle.held.proofs.LentLaws.{room_of}
 use Rattle.held.proofs.ValidLaws.{counts_of}
 use Rattle.held.proofs.inspect.frame_fits.Goals as goal

@@ -12,7 +12,8 @@ use Rattle.lists.proofs.Search.{both}
 use Rattle.held.specs.Tests.{distinct}
 use Rattle.held.specs.Lent.{Lent, Roomy, held_in, freed_places_in}
 use Rattle.held.specs.Lent.{lent_valid}
-use Rattle.held.specs.Inspected.{blocks_in, lent_of, Counts, Frame, held_part, stand_pass}
+use Rattle.held.specs.Lent.{lent_of}
+use Rattle.held.specs.Inspected.{blocks_in, Counts, Frame, held_part, stand_pass}
 use Rattle.held.proofs.Lists.{true_not_false}
 use Rattle.held.proofs.LentLaws.{room_of}
 use Rattle.held.proofs.ValidLaws.{counts_of}
