@@ -5,6 +5,9 @@
 use std::collections::BTreeMap;
 use std::thread;
 
+// The archive is linked with it.
+use dustroute as _;
+
 const COMPONENTS: usize = 1_024;
 const CONNECTIONS: usize = 4_096;
 const LENGTHS: [usize; 4] = [5 + COMPONENTS, 256 * 3, COMPONENTS * 8, CONNECTIONS * 5];
@@ -658,7 +661,12 @@ fn a_number_short_or_over() {
 }
 
 #[test]
-fn a_report_needs_its_room() {
+fn a_report_needs_its_room_and_a_small_stack() {
+    let small = thread::Builder::new().stack_size(1 << 20);
+    small.spawn(report_by_room).unwrap().join().unwrap();
+}
+
+fn report_by_room() {
     let (model, slices) = full(300, 200);
     let exact = Report::rooms(300);
     let mut whole = Report::new(exact, 0xa5);

@@ -120,6 +120,11 @@ fn questions_in_c_under_valgrind() {
 }
 
 #[test]
+fn a_held_plot_in_c_under_valgrind() {
+    hold_host("held.c", "held");
+}
+
+#[test]
 fn the_rules_in_c_under_valgrind() {
     hold_host("rules.c", "rules");
 }

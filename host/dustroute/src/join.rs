@@ -309,7 +309,7 @@ mod tests {
     #[test]
     fn what_no_contract_allows_is_unreadable() {
         let unreadable = Err(Refusal::UNREADABLE.into());
-        for answer in [9, 13 + 256 * 4, 15 + 256 * 3, 2 + 256 * 3 + (3 << SHEET)] {
+        for answer in [9, 13 + 256 * 4, 19 + 256 * 3, 2 + 256 * 3 + (3 << SHEET)] {
             assert_eq!(bytes(answer), unreadable, "{answer}");
         }
     }
