@@ -1,9 +1,13 @@
 // Prints the lists of a sheet: the checks, groups and ports, the analysis, the rows, and last the text, whose length is known before its
 // first byte is written. Each stage has its arrays only while it runs.
-ghost use Rattle.std.specs.Prelude.{◌≡◌, List, ◌*◌, ◌≤◌, length, ℤ};
-ghost use Rattle.lists.specs.Records.{component_count};
+ghost use Rattle.std.specs.Prelude.{Ok};
+ghost use Rattle.std.specs.Prelude.{◌≡◌, ℕ, List, ◌*◌, ◌≤◌, length, ℤ};
+ghost use Rattle.lists.specs.Records.{component_count, port_count};
 ghost use Rattle.lists.specs.Ids.{member_of};
 ghost use Rattle.signals.specs.Flags.{Numbers};
+ghost use Rattle.assessment.specs.Upstream.{RowsEmpty};
+ghost use Rattle.liveness.specs.Entry.{AnalyzedBy};
+ghost use Rattle.inputs.specs.Inputs.{Ready};
 ghost use Rattle.blocks.specs.Printed.{Printed};
 ghost use Rattle.report.specs.Report.{report_of};
 ghost use Rattle.sheet.specs.Written.{fits, PrintedBy};
@@ -21,7 +25,7 @@ use inputs::asked::{Asked, make_ready};
 use lists::ends::{Ends, settle_ends};
 use lists::views::{ComponentList, ConnectionList, PortList};
 use lists::{COMPONENT, COMPONENTS, CONNECTIONS, Fault, KEPT, PORT, Refusal};
-use liveness::plot::{Plot, PreparedPlot, Room};
+use liveness::plot::{Plot, Room};
 use liveness::steps::analyze_prepared;
 use liveness::{Analysis, Rows};
 use scene::connections::keep_all;
@@ -158,42 +162,88 @@ fn print_analysis(
     print_rows(asked, &text, out)
 }
 
-// Makes the prepared scene of the kept connections ready to be asked, and prints what their analysis gave. The rows of the report are
-// filled only after that, so that the two have no arrays at the same time.
-fn print_ready(
-    plot: &PreparedPlot,
-    groups: &Groups,
-    rows: &Rows,
-    found: Analysis,
-    out: &mut [u8],
-) -> Result<usize, Refusal>
-    requires gathered { let p = plot.now.plot in let g = groups.now in
+// Analyzes the kept connections of a scene, fills what its ports are asked by, and leaves each component's member: all of one preparation.
+// Not a part of its caller's frame: the room and the stack are needed here alone.
+#[inline(never)]
+fn analyze_once(
+    plot: &Plot,
+    regions: &mut [u64],
+    sources: &mut [u64],
+    inputs: &mut [u64],
+    fed: &mut [u64],
+    labels: &mut [u16],
+    members: &mut [u16],
+    upstream: &mut [ComponentSet; COMPONENTS],
+) -> Analysis
+    requires rows_room { let n = component_count plot.now.components.now in
+        (n ≤ length regions.old) × ((4 * n ≤ length sources.old) × (12 * n ≤ length inputs.old)) }
+    requires tables_len { let p = plot.now in let n = component_count p.components.now in
+        (length fed.old ≡ port_count p.ports.now) × ((length labels.old ≡ n) × (length members.old ≡ n)) }
+    requires upstream { RowsEmpty upstream.old }
+    ensures analyzed { let p = plot.now in (stack stack' : List ℕ) ×
+        AnalyzedBy (Ok tt) p.rules p.components.now p.ports.now p.frontiers.now
+        regions.old regions.new sources.old sources.new inputs.old inputs.new stack stack' (Ok result) }
+    ensures ready { let p = plot.now in Ready p.rules p.components.now p.ports.now p.frontiers.now fed.new labels.new upstream.new }
+    ensures members { let cs = plot.now.components.now in Numbers (component_count cs) (member_of cs) members.new }
+{
+    let mut room = Room::new();
+    let mut stack = [0usize; STACK];
+    let prepared = plot.prepare(&mut room, &mut stack);
+    make_ready(&prepared, fed, upstream);
+    labels.copy_from_slice(prepared.labels);
+    members.copy_from_slice(prepared.members);
+    analyze_prepared(&prepared, regions, sources, inputs, &mut stack)
+}
+
+// Analyzes the kept connections of a scene and prints its report. The rows of the report are filled only after the analysis, so that the two
+// have no arrays at the same time.
+fn print_plot(plot: &Plot, groups: &Groups, out: &mut [u8]) -> Result<usize, Refusal>
+    requires { let p = plot.now in let g = groups.now in
         (ps : List ℤ) × Gathered p.rules p.components.now ps p.ports.now g.nets.now g.fragments.now g.slopes.now }
-    requires analyzed { let p = plot.now.plot in let r = rows.now in
-        Analyzed p.rules p.components.now p.ports.now p.frontiers.now r.regions.now r.sources.now r.inputs.now found }
-    ensures { let p = plot.now.plot in let g = groups.now in
+    ensures { let p = plot.now in let g = groups.now in
         (ps : List ℤ) → Gathered p.rules p.components.now ps p.ports.now g.nets.now g.fragments.now g.slopes.now →
         let text = report_of p.rules p.components.now ps p.frontiers.now in
         PrintedBy (fits text (length out.old)) text out.old out.new result }
 {
-    let lists = plot.plot;
-    let m = lists.port_list().count();
-    let mut fed = [0u64; CONNECTIONS];
+    let n = plot.keys.len();
+    let m = plot.port_list().count();
+    let mut regions = [0u64; COMPONENTS];
+    let mut sources = [0u64; SOURCE_ROWS];
+    let mut inputs = [0u64; INPUT_ROWS];
+    let mut all_fed = [0u64; CONNECTIONS];
+    let mut all_labels = [0u16; COMPONENTS];
+    let mut all_members = [0u16; COMPONENTS];
     let mut upstream = [ComponentSet::empty(); COMPONENTS];
-    make_ready(plot, &mut fed[..m], &mut upstream);
+    let fed = &mut all_fed[..m];
+    let labels = &mut all_labels[..n];
+    let members = &mut all_members[..n];
+    let found = analyze_once(
+        plot,
+        &mut regions,
+        &mut sources,
+        &mut inputs,
+        fed,
+        labels,
+        members,
+        &mut upstream,
+    );
     let asked = Asked {
-        keys: lists.keys,
-        components: lists.components,
-        rules: lists.rules,
-        fed: &fed[..m],
-        labels: plot.labels,
+        keys: plot.keys,
+        components: plot.components,
+        rules: plot.rules,
+        fed,
+        labels,
         upstream: &upstream,
     };
-    print_analysis(&asked, lists.ports, plot.members, groups, rows, found, out)
+    let rows = Rows {
+        regions: &regions,
+        sources: &sources[..found.sources * 2],
+        inputs: &inputs[..found.inputs * 3],
+    };
+    print_analysis(&asked, plot.ports, members, groups, &rows, found, out)
 }
 
-// Prepares the scene of the kept connections once for its analysis and for what its ports are asked by, and prints its report, given its
-// groups.
+// Prints the report of the kept connections of a scene, given its groups.
 fn print_kept(
     rules: u64,
     keys: &[u64],
@@ -213,10 +263,6 @@ fn print_kept(
         PrintedBy (fits text (length out.old)) text out.old out.new result }
 {
     let mut ends = [Ends { source: 0, sink: 0 }; CONNECTIONS];
-    let mut regions = [0u64; COMPONENTS];
-    let mut sources = [0u64; SOURCE_ROWS];
-    let mut inputs = [0u64; INPUT_ROWS];
-    let mut stack = [0usize; STACK];
     let linked = PortList { numbers: ports };
     settle_ends(keys, linked, &mut ends);
     let plot = Plot {
@@ -227,21 +273,7 @@ fn print_kept(
         rules,
         ends: &ends,
     };
-    let mut room = Room::new();
-    let prepared = plot.prepare(&mut room, &mut stack);
-    let found = analyze_prepared(
-        &prepared,
-        &mut regions,
-        &mut sources,
-        &mut inputs,
-        &mut stack,
-    );
-    let rows = Rows {
-        regions: &regions,
-        sources: &sources[..found.sources * 2],
-        inputs: &inputs[..found.inputs * 3],
-    };
-    print_ready(&prepared, groups, &rows, found, out)
+    print_plot(&plot, groups, out)
 }
 
 // Prints the report of an accepted scene, given its table of ids.
