@@ -61,4 +61,4 @@ module _ {cs ps : List ℤ} {sources sinks froms tos : List ℕ} (few : componen
       subst (λ g. Rows (component_count cs) (flip g) ends back) signals_linked (subst (λ (k : ℕ). Rows k (flip (linked k froms tos)) ends back) nodes r)
 
   pub edges_signals : {n : ℕ} {ends next : List ℕ} → n ≡ component_count cs → Rows n (linked n froms tos) ends next → edges_of ends next ≡ signals cs ps
-  edges_signals nodes r = edges_are (forward_rows nodes r)
+  edges_signals nodes r = let f = forward_rows nodes r in edges_are f.rows
