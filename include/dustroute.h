@@ -100,8 +100,9 @@
  *   outputs need not be.
  * - A slice that is written overlaps no other slice of the call, and nothing
  *   else reads or writes it, or writes a list, until the call returns.
- * - A stack of 1 MiB is enough for any call (docs/ARCHITECTURE.md has the sizes).
- *   Pages are touched in order, so that a guard page stops a stack too small.
+ * - A stack of 1 MiB is enough for any call, whatever the lists
+ *   (docs/ARCHITECTURE.md has the sizes). Pages are touched in order, so that a
+ *   guard page stops a stack too small.
  *
  * Nothing else is owed: any bytes are answered, and every call returns. No
  * memory is allocated and nothing is kept or shared between calls, so any

@@ -29,7 +29,7 @@ use Rattle.regions.proofs.Laws.Walks.{Reach·trans}
 use Rattle.regions.proofs.Theorems.{region_laws}
 use Rattle.graph.specs.Rows.{row_of, Rows}
 use Rattle.graph.specs.inner.Marks.{ByRegion, Handed}
-use Rattle.graph.proofs.Carrying.{Carrying, handed_none, handed_more, handed_all, handed_as, carrying_none, carrying_more, carried}
+use Rattle.graph.proofs.Carrying.{Carrying, handed_none, handed_more, handed_all, handed_as, carrying_none, carrying_more, carry_laws}
 use Rattle.assessment.specs.Upstream.{in_row, RowsEmpty, Seeded, column, RowHanded, RowsCarried, UpstreamRows}
 
 -- ---- no row has a member
@@ -101,7 +101,7 @@ carry_more rows by c lt a b e h = record { of = λ k. carrying_more rows by (c.o
 
 pub carry_all : {n : ℕ} {edge : Edges} {nodes : List ℕ} {old new : List ComponentSet} {i : ℕ} → Within n edge → ByRegion n (region_of n edge) nodes
     → RowsCarrying n edge nodes old new i → n ≤ i → RowsCarried n edge old new
-carry_all within by c le = record { of = λ k. carried within by (c.of k) le }
+carry_all within by c le = record { of = λ k. carry_laws within by (c.of k) le }
 
 -- ---- all of it
 

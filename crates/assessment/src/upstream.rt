@@ -11,7 +11,10 @@ ghost use Rattle.assessment.specs.Upstream.{RowsEmpty, Seeded, RowHanded, RowsCa
 use graph::Graph;
 use graph::marks::by_region;
 use lists::COMPONENTS;
-use sets::ComponentSet;
+use sets::{ComponentSet, WORDS};
+
+// How many words the table has: a set for each region, of which there are no more than components.
+pub const TABLE: usize = COMPONENTS * WORDS;
 
 // Puts each flagged member into the row of its region; the rows are empty before.
 fn seed_rows(labels: &[u16], flags: &[bool], rows: &mut [ComponentSet; COMPONENTS])

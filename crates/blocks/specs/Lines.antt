@@ -5,6 +5,7 @@
 --     block                            a count, and a line for each number of its rows
 --     set_line, input_text               a line of ids; the lines of a verdict row
 --     refusal_lines                     what is printed of a refusal
+--     numbered_lines                    and of one in any numbers
 -- Assumes nothing: these are definitions.
 use Rattle.std.specs.Prelude.{ℕ, suc, ◌/◌, ◌%◌, List, [], ◌∷◌, ◌++◌, map, length, get_or, ℤ, pos}
 use Rattle.lists.specs.declared.Refusal.{Refusal}
@@ -71,3 +72,8 @@ input_text device port status immediate inferred =
 unfoldable pub refusal_lines : Refusal → List ℕ
 refusal_lines r =
     line_of (ascii "answer") (pos (fault_number r.fault)) ++ (line_of (ascii "list") (pos (list_number r.list)) ++ line_of (ascii "item") (pos r.item))
+
+-- in any numbers
+unfoldable pub numbered_lines : ℕ → ℕ → ℕ → List ℕ
+numbered_lines number list item =
+    line_of (ascii "answer") (pos number) ++ (line_of (ascii "list") (pos list) ++ line_of (ascii "item") (pos item))

@@ -2,5 +2,6 @@
 // has one of two widths. So does the room for keys: an array in place of the slice would turn callers away that lend longer ones.
 #![tactic(auto)]
 
+pub mod numbered;
 pub mod ranges;
 pub mod refusals;

@@ -2,16 +2,18 @@
 --     at_place, past_ports    a place with a port, and the first without one
 --     ports_long              there are no more ports than places
 --     ports_back              a list of ports is what its places hold
+--     below_long, port_below  the ports of the rows below a count, and one of them
 -- Assumes nothing.
-use mathlib.Core.Path.{◌≡◌, refl, ap, ap₂}
+use mathlib.Core.Path.{◌≡◌, refl, ap, ap₂, ◌∙◌}
 use mathlib.Core.List.{List, [], ◌∷◌, ◌++◌, map}
-use Prim.Native.Nat.{ℕ, zero, suc, ◌≤◌, ◌<◌, ◌-◌, zero-le}
+use Prim.Native.Nat.{ℕ, zero, suc, min, ◌≤◌, ◌<◌, ◌-◌, zero-le}
 use native.Mathlib.Omega.{arith}
 use native.Mathlib.Nat.{le_of_suc-le-suc, not-suc-le-zero}
-use lib.ListN.{length, get_or, replicate}
+use lib.ListN.{length, get_or, take, replicate, length-take, length-map, get_or-map}
+use lib.Seq.{get_or-take}
 use Rattle.std.specs.Prelude.{Option, Some, None}
 use Rattle.faces.specs.Ports.{Port as Numbers}
-use Rattle.faces.specs.Rows.{port_places, places_of}
+use Rattle.faces.specs.Rows.{port_places, places_of, port_of, ports_below}
 use Rattle.faces.specs.Codes.{port_code, numbers_at, ports_in}
 use Rattle.faces.specs.Select.{port_at}
 use Rattle.faces.specs.declared.ports.Port.{Port}
@@ -50,3 +52,9 @@ back (Some q ∷ places) (p ∷ ports) n e =
 
 pub ports_back : (places : List (Option Port)) (ports : List Numbers) → map numbers_at places ≡ places_of ports → ports_in places ≡ ports
 ports_back places ports e = back places ports (port_places - length ports) e
+
+pub below_long : (rows : List (List ℕ)) (count : ℕ) → length (ports_below rows count) ≡ min count (length rows)
+below_long rows count = length-map (take count rows) port_of ∙ length-take count rows
+
+pub port_below : (rows : List (List ℕ)) (count i : ℕ) → i < count → port_at (ports_below rows count) i ≡ port_of (get_or rows i [])
+port_below rows count i h = get_or-map port_of (take count rows) i [] ∙ ap port_of (get_or-take count rows i [] h)

@@ -2,6 +2,7 @@
 ghost use Rattle.std.specs.Prelude.{◌≡◌};
 ghost use Rattle.lists.specs.Kinds.{connection_number, transfer_number};
 ghost use Rattle.faces.specs.Codes.{port_code, ports_in};
+ghost use Rattle.faces.specs.Rows.{port_of, ports_below};
 ghost use Rattle.faces.specs.Select.{fits, serves, select_port, transfer_of};
 
 use super::ports::{Channel, PORTS, Port, Role};
@@ -51,6 +52,50 @@ pub fn select_port(
             return None;
         };
         if port_serves(port, face, outgoing, kind) {
+            return Some(i);
+        }
+    }
+    None
+}
+
+// As `port_fits`, of a row: its numbers may be no role's and no channel's.
+fn row_fits(row: [u8; 3], outgoing: bool, kind: u64) -> bool
+    ensures { result ≡ fits (port_of row) outgoing kind }
+{
+    let role = row[0];
+    if kind == SUPPORT_KIND {
+        return row[2] == Channel::Structural as u8;
+    }
+    if outgoing {
+        return (role == Role::Output as u8) | (role == Role::Bidirectional as u8);
+    }
+    if kind == CONTROL_KIND {
+        return role == Role::Control as u8;
+    }
+    (role == Role::Input as u8)
+        | ((role == Role::Bidirectional as u8) | (role == Role::Control as u8))
+}
+
+#[tactic(auto, unfolding(crate::specs::Select::serves))]
+fn row_serves(row: [u8; 3], face: u64, outgoing: bool, kind: u64) -> bool
+    ensures { result ≡ serves (port_of row) face outgoing kind }
+{
+    (u64::from(row[1]) == face) & row_fits(row, outgoing, kind)
+}
+
+// The first row below the count that has the face of this number and fits. Any numbers are taken, and any count: no row stands past
+// the last place.
+pub fn select_row(
+    rows: [[u8; 3]; PORTS],
+    count: usize,
+    face: u64,
+    outgoing: bool,
+    kind: u64,
+) -> Option<usize>
+    ensures { result ≡ select_port (ports_below rows count) face outgoing kind }
+{
+    for i in 0..count.min(PORTS) {
+        if row_serves(rows[i], face, outgoing, kind) {
             return Some(i);
         }
     }

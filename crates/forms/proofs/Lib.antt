@@ -22,3 +22,4 @@ pub mod Finding
 pub mod Chain
 pub mod SheetSmall
 mod Examples
+mod OldForm

@@ -189,9 +189,10 @@ module _ {n : ℕ} {edge : Edges} {ends next nodes : List ℕ} {before after aft
             (same? j i);
       }
 
-pub carried : {n : ℕ} {edge : Edges} {nodes : List ℕ} {before after : List Bool} {i : ℕ} → Within n edge → ByRegion n (region_of n edge) nodes
+-- The theorem of carried marks, at the end of the loop of `carry_marks`.
+pub carry_laws : {n : ℕ} {edge : Edges} {nodes : List ℕ} {before after : List Bool} {i : ℕ} → Within n edge → ByRegion n (region_of n edge) nodes
     → Carrying n edge nodes before after i → n ≤ i → Carried n edge before after
-carried {n} {edge} {nodes} {before} {after} {i} within by c le =
+carry_laws {n} {edge} {nodes} {before} {after} {i} within by c le =
     record { exactly = λ b low. (λ m. c.sound (at (region_of n edge) b) m b low refl, λ w. along w.3 (c.stays (at (region_of n edge) w.0) w.2)) }
   where
     across : (a b : ℕ) → edge a b ≡ true → marked after (at (region_of n edge) a) ≡ true → marked after (at (region_of n edge) b) ≡ true

@@ -1,5 +1,6 @@
 -- Marks of regions, carried along the edges between them. No edge leads to a smaller number (crate `regions`, Theorems), so one look at the
 -- row of each node, its region's turn come, carries a mark as far as a walk from the marked regions' nodes would go.
+-- The theorem is `carry_laws` of proofs/Carrying.antt.
 -- Assumes nothing: this is a definition.
 use Rattle.std.specs.Prelude.{◌≡◌, Bool, true, List, ◌↔◌, ℕ, ◌<◌}
 use Rattle.regions.specs.Graph.{Edges, Reach, at, marked}

@@ -25,6 +25,7 @@ use Rattle.signals.specs.Regions.{region_of_place, wire, is_cyclic, holds_drive,
 use Rattle.signals.specs.Flags.{Flags, Indices}
 use Rattle.liveness.specs.Scene.{Scene, Prepared}
 use Rattle.signals.specs.Stages.{inferred_by, cyclic_at}
+use Rattle.signals.proofs.Ends.{ends_within}
 use Rattle.signals.proofs.Staged.{members_below, cyclic_is}
 use Rattle.signals.proofs.Within.{labels_count, label_under, labels_under, places_under}
 
@@ -67,7 +68,7 @@ module _ {cs ps : List ℤ} (scene : Scene cs ps) {ends next back_ends back labe
   }
 
   pub cyclic_by : (r : ℕ) → cyclic_at (edges_of ends next) labelled r ≡ is_cyclic cs ps r
-  cyclic_by r = ap (λ (e : Edges). cyclic_at e labelled r) graph ∙ ap (λ (l : List ℕ). cyclic_at (signals cs ps) l r) p.labels_are ∙ cyclic_is cs ps scene.ends r
+  cyclic_by r = ap (λ (e : Edges). cyclic_at e labelled r) graph ∙ ap (λ (l : List ℕ). cyclic_at (signals cs ps) l r) p.labels_are ∙ cyclic_is cs ps (ends_within cs ps scene.ends) r
 
   module _ (rules : ℕ) (fs : List ℤ) {driven fed : List Bool} (d : Flags component_limit (holds_drive cs ps fs) driven) (f : Flags component_limit (fed_from_outside rules cs ps) fed) where
     pub inferred_is : (q : ℕ) → q < component_count cs → inferred_by cs members region_of driven fed (signals cs ps) labelled q ≡ is_inferred rules cs ps fs q

@@ -1,4 +1,5 @@
--- The rows of the signal edges: the connections by their narrow ends are the graph of `signals`.
+-- The rows of the signal edges: the connections by their narrow ends are the graph of `signals`, and so is the graph that the rows which
+-- `Plot::rows` builds stand for (`edges_signals`).
 -- Assumes nothing.
 use mathlib.Core.Path.{◌≡◌, ap, ◌∙◌, subst}
 use mathlib.Core.Bool.{Bool, true, false, cond, ◌&&◌}
@@ -17,9 +18,10 @@ use Rattle.regions.specs.Graph.{Edges, flip}
 use Rattle.signals.specs.Signals.{is_signal, source_member, sink_member, signals}
 use Rattle.signals.proofs.Ends.{EndsWithin}
 use Rattle.signals.proofs.Graph.{source_at, sink_at}
-use Rattle.graph.specs.Rows.{Rows}
+use Rattle.graph.specs.Rows.{Rows, edges_of}
 use Rattle.graph.specs.Linked.{linked}
 use Rattle.graph.proofs.Edges.{Ended, linked_is}
+use Rattle.graph.proofs.Rows.{edges_are}
 use Rattle.liveness.specs.Scene.{NarrowEnds}
 
 module _ {cs ps : List ℤ} {sources sinks froms tos : List ℕ} (few : component_count cs ≤ component_limit) (s : SettledEnds cs ps sources sinks)
@@ -57,3 +59,6 @@ module _ {cs ps : List ℤ} {sources sinks froms tos : List ℕ} (few : componen
       → Rows (component_count cs) (flip (signals cs ps)) ends back
   backward_rows {ends = ends} {back} nodes r =
       subst (λ g. Rows (component_count cs) (flip g) ends back) signals_linked (subst (λ (k : ℕ). Rows k (flip (linked k froms tos)) ends back) nodes r)
+
+  pub edges_signals : {n : ℕ} {ends next : List ℕ} → n ≡ component_count cs → Rows n (linked n froms tos) ends next → edges_of ends next ≡ signals cs ps
+  edges_signals nodes r = let f = forward_rows nodes r in edges_are f.rows

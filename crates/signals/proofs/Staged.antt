@@ -4,7 +4,6 @@
 --     members_below, labels_placed     members and labels by list place
 --     marks_are                        the gathered marks
 -- Assumes nothing.
-use Rattle.std.specs.Prelude.{None}
 use mathlib.Core.Path.{◌≡◌, refl, sym, ap, ◌∙◌}
 use mathlib.Core.Bool.{Bool, false, ◌&&◌, ◌||◌}
 use mathlib.Core.List.{List}
@@ -19,7 +18,7 @@ use Rattle.sets.specs.Members.{count_below}
 use Rattle.lists.specs.Limits.{component_limit}
 use Rattle.lists.specs.Records.{component_count, port_count}
 use Rattle.lists.specs.First.{is_found, some, tabulate}
-use Rattle.lists.specs.Ids.{member_of, first_end_missing}
+use Rattle.lists.specs.Ids.{member_of}
 use Rattle.lists.specs.Ends.{Settled}
 use Rattle.lists.proofs.Search.{both}
 use Rattle.lists.proofs.Some.{some_at, some_found, and_true}
@@ -35,7 +34,7 @@ use Rattle.signals.proofs.Tabulated.{first_cong, tabulated_length, tabulated_at}
 use Rattle.signals.proofs.Ends.{EndsWithin}
 use Rattle.signals.proofs.Graph.{sink_at}
 use Rattle.signals.proofs.Tested.{same_truth}
-use Rattle.signals.proofs.Within.{edge_tests, signals_within, labels_count}
+use Rattle.signals.proofs.Within.{edge_tests, signals_inside, labels_inside}
 
 -- ---- the sinks of signal connections
 
@@ -46,7 +45,7 @@ module _ {cs ps : List ℤ} {sources sinks : List ℕ} (few : component_count cs
 
 -- ---- cyclic regions
 
-module _ (cs ps : List ℤ) (ends : first_end_missing cs ps ≡ None) where
+module _ (cs ps : List ℤ) (ends : EndsWithin cs ps) where
   -- an edge from a member of region r to itself is a connection from its member to itself
   selves : (r : ℕ) → some (λ a. signals cs ps a a && eqb (at (labels cs ps) a) r) (component_count cs)
       ≡ some (λ k. is_signal ps k && (eqb (source_member cs ps k) (sink_member cs ps k) && eqb (at (labels cs ps) (sink_member cs ps k)) r)) (port_count ps)
@@ -63,7 +62,7 @@ module _ (cs ps : List ℤ) (ends : first_end_missing cs ps ≡ None) where
       (λ e.
       let (a, b, s, t) = (edge_tests cs ps itself).1 e in
       let (same, i) = both (eqb a b) (eqb (at l b) r) t in
-      let w = signals_within cs ps ends a b s in
+      let w = signals_inside cs ps ends a b s in
       some_at edge (component_count cs) b w.1
       (and_true (signals cs ps b b) (eqb (at l b) r) (ap (λ (k : ℕ). signals cs ps k b) (sym (eqb-true a b same)) ∙ s) i))
 
@@ -71,7 +70,7 @@ module _ (cs ps : List ℤ) (ends : first_end_missing cs ps ≡ None) where
   unfolding is_cyclic
   cyclic_is r =
       let l = labels cs ps in
-      ap (λ (n : ℕ). leb 2 (count_below (λ m. eqb (at l m) r) n) || some (λ a. signals cs ps a a && eqb (at l a) r) n) (labels_count cs ps ends)
+      ap (λ (n : ℕ). leb 2 (count_below (λ m. eqb (at l m) r) n) || some (λ a. signals cs ps a a && eqb (at l a) r) n) (labels_inside cs ps ends)
       ∙ ap (λ (b : Bool). leb 2 (count_below (λ m. eqb (at l m) r) (component_count cs)) || b) (selves r)
 
 -- ---- by list place

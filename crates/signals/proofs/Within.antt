@@ -1,6 +1,7 @@
 -- The signals of an accepted scene lead from member to member, so the laws of the regions hold of them.
 --     signal_at, at_signal                an edge is a signal connection
 --     edge_tests                          an edge passes a test where a connection does
+--     signals_inside, labels_inside       of any lists whose signals have members at their ends
 --     signals_within                      the ends of a signal are members
 --     scene_regions                       the laws of its regions
 --     labels_count, label_under           a label for each member, below their number
@@ -29,7 +30,7 @@ use Rattle.regions.proofs.Theorems.{region_laws}
 use Rattle.signals.specs.Signals.{is_signal, source_member, sink_member, signals}
 use Rattle.signals.specs.Regions.{labels, region_of_place}
 use Rattle.signals.specs.Flags.{Numbers, Indices}
-use Rattle.signals.proofs.Ends.{ends_within}
+use Rattle.signals.proofs.Ends.{EndsWithin, ends_within}
 use Rattle.lists.proofs.Some.{some_at, some_found, and_true}
 
 -- ---- an edge is a signal connection
@@ -64,12 +65,19 @@ module _ (cs ps : List ℤ) where
             (source_member cs ps k, sink_member cs ps k, at_signal k h s refl refl, t),
       )
 
+module _ (cs ps : List ℤ) (ends : EndsWithin cs ps) where
+  pub signals_inside : Within (component_count cs) (signals cs ps)
+  signals_inside a b e =
+      let (k, h, signal, p, q) = signal_at cs ps a b e in
+      let w = ends k h signal in
+      (omega (arith, w.0), omega (arith, w.1))
+
+  pub labels_inside : length (labels cs ps) ≡ component_count cs
+  labels_inside = (region_laws (component_count cs) (signals cs ps) signals_inside).long
+
 module _ (cs ps : List ℤ) (ends : first_end_missing cs ps ≡ None) where
   pub signals_within : Within (component_count cs) (signals cs ps)
-  signals_within a b e =
-      let (k, h, signal, p, q) = signal_at cs ps a b e in
-      let w = ends_within cs ps ends k h signal in
-      (omega (arith, w.0), omega (arith, w.1))
+  signals_within = signals_inside cs ps (ends_within cs ps ends)
 
   pub scene_regions : RegionLaws (component_count cs) (signals cs ps)
   scene_regions = region_laws (component_count cs) (signals cs ps) signals_within

@@ -2,7 +2,7 @@
 use Rattle.std.proofs.Common.{arith, ap, ap₂, ◌∙◌, ◌<◌, length}
 use Rattle.regions.specs.Graph.{at}
 use Rattle.graph.specs.Rows.{row_of}
-use Rattle.graph.proofs.Carrying.{carrying_none, carrying_more, carried, handed_as, labels_long, row_labels}
+use Rattle.graph.proofs.Carrying.{carrying_none, carrying_more, carry_laws, handed_as, labels_long, row_labels}
 use Rattle.lighting.proofs.pass.pass.Goals as goal
 
 pub loop-i-init : goal.loop-i-init
@@ -33,4 +33,4 @@ loop-i-preserved c =
     carrying_more c.args.graph.rows by c.loop-i.invariant lt (handed_as row c.requires.labels region c.hand_on.ensures)
 
 pub returns : goal.returns
-returns c = carried c.args.graph.rows.rows.within (rw c.requires.labels at c.requires.nodes) c.loop-i.invariant (omega arith)
+returns c = carry_laws c.args.graph.rows.rows.within (rw c.requires.labels at c.requires.nodes) c.loop-i.invariant (omega arith)
