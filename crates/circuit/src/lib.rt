@@ -82,8 +82,8 @@ pub fn fragment_nets(nets: &[u64], fragments: &[u64], fragment: u64) -> Componen
     ensures { (net : ℕ) → net < component_limit → member_of result.words net ≡ shares_member nets.now fragments.now fragment net }
 {
     let mut found = ComponentSet::empty();
-    for (net, own) in nets.iter().zip(fragments) {
-        found = insert_if(found, *own == fragment, *net);
+    for v in 0..nets.len().min(fragments.len()) {
+        found = insert_if(found, fragments[v] == fragment, nets[v]);
     }
     found
 }

@@ -23,12 +23,22 @@ pub const FRONTIERS_AT: usize = 4;
 
 pub const COUNTS: usize = 5;
 
+// Copies a slice of equal length. A loop: std's own copy has an archive for C need memmove from outside.
+fn copy(from: &[i64], to: &mut [i64])
+    requires { length from.now ≡ length to.old }
+    ensures { to.new ≡ from.now }
+{
+    for (k, slot) in to.iter_mut().enumerate() {
+        *slot = from[k];
+    }
+}
+
 // Writes the numbers of a record into a list, from `at` on.
 pub fn put_numbers(list: &mut [i64], at: usize, numbers: &[i64])
     requires { at + length numbers.now ≤ length list.old }
     ensures { list.new ≡ paste list.old at numbers.now (length numbers.now) }
 {
-    list[at..at + numbers.len()].copy_from_slice(numbers);
+    copy(numbers, &mut list[at..at + numbers.len()]);
 }
 
 // Writes n zeros into a list, from `at` on.

@@ -162,6 +162,16 @@ fn print_analysis(
     print_rows(asked, &text, out)
 }
 
+// Copies a slice of equal length. A loop: std's own copy has an archive for C need memmove from outside.
+fn copy(from: &[u16], to: &mut [u16])
+    requires { length from.now ≡ length to.old }
+    ensures { to.new ≡ from.now }
+{
+    for (k, slot) in to.iter_mut().enumerate() {
+        *slot = from[k];
+    }
+}
+
 // Analyzes the kept connections of a scene, fills what its ports are asked by, and leaves each component's member: all of one preparation.
 // Not a part of its caller's frame: the room and the stack are needed here alone.
 #[inline(never)]
@@ -190,8 +200,8 @@ fn analyze_once(
     let mut stack = [0usize; STACK];
     let prepared = plot.prepare(&mut room, &mut stack);
     make_ready(&prepared, fed, upstream);
-    labels.copy_from_slice(prepared.labels);
-    members.copy_from_slice(prepared.members);
+    copy(prepared.labels, labels);
+    copy(prepared.members, members);
     analyze_prepared(&prepared, regions, sources, inputs, &mut stack)
 }
 

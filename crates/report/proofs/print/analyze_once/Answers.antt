@@ -15,13 +15,13 @@ make_ready-requires c = record {
   upstream = c.requires.upstream;
 }
 
-pub copy_from_slice-requires : goal.copy_from_slice-requires
-copy_from_slice-requires c =
+pub copy-requires : goal.copy-requires
+copy-requires c =
     let p = rw c.prepare-prepared.ensures.plot at c.prepare-prepared.result.prepared in
     omega (arith, labels_long c.args.plot.now.accepted.scene p, c.requires.tables_len.1.0)
 
-pub copy_from_slice-requires-2 : goal.copy_from_slice-requires-2
-copy_from_slice-requires-2 c =
+pub copy-requires-2 : goal.copy-requires-2
+copy-requires-2 c =
     let p = rw c.prepare-prepared.ensures.plot at c.prepare-prepared.result.prepared in
     omega (arith, p.members_long, c.requires.tables_len.1.1)
 
@@ -44,6 +44,6 @@ returns c =
     let p = rw c.prepare-prepared.ensures.plot at c.prepare-prepared.result.prepared in
     record {
       analyzed = (c.prepare-prepared.new.stack, c.analyze_prepared.new.stack, rw c.prepare-prepared.ensures.plot at c.analyze_prepared.ensures);
-      ready = ready_as refl c.copy_from_slice.ensures.after (rw c.prepare-prepared.ensures.plot at c.make_ready.ensures);
-      members = rw c.copy_from_slice-2.ensures.after p.members_are;
+      ready = ready_as refl c.copy.ensures (rw c.prepare-prepared.ensures.plot at c.make_ready.ensures);
+      members = rw c.copy-2.ensures p.members_are;
     }

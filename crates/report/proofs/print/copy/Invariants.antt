@@ -1,0 +1,7 @@
+-- `report::print::copy` meets its contract: the places passed are copied.
+-- Assumes nothing.
+use Rattle.std.proofs.Common.{◌≡◌, ℕ, ◌<◌, get_or}
+use Rattle.report.proofs.print.copy.Given as goal
+
+abbrev pub invariant-loop-k : goal.invariant-loop-k
+invariant-loop-k l = (j : ℕ) → j < l.k → get_or l.to j 0 ≡ get_or l.from j 0
